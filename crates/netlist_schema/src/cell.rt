@@ -1,0 +1,78 @@
+//! Cells: their ports, instances and nets.
+use crate::ids::CellId;
+use crate::property::{Name, Property};
+use crate::row::Row;
+use crate::text::Text;
+use crate::width::Width;
+
+/// Which way a port goes.
+#[derive(Clone, Copy, Debug, PartialEq, Eq)]
+pub enum Direction {
+    Input,
+    Output,
+    Inout,
+}
+
+/// A port of a cell. An array has a width; a scalar has none, and one bit.
+#[derive(Debug, PartialEq, Eq, Drop)]
+pub struct Port {
+    pub name: Name,
+    pub array: Option<Width>,
+    pub direction: Option<Direction>,
+    pub designator: Option<Text>,
+    pub properties: Row<Property>,
+}
+
+/// One bit of a port, by the places of the instance in the contents, of the port in its cell and of the bit in the port,
+/// each from 0. No instance means a port of the cell itself.
+#[derive(Clone, Copy, Debug, PartialEq, Eq)]
+pub struct End {
+    pub inst: Option<u32>,
+    pub port: u32,
+    pub bit: u32,
+}
+
+/// An instance of the cell `of`.
+#[derive(Debug, PartialEq, Eq, Drop)]
+pub struct Inst {
+    pub name: Name,
+    pub of: CellId,
+    pub designator: Option<Text>,
+    pub properties: Row<Property>,
+}
+
+/// A net, with the bits that it joins, in order.
+#[derive(Debug, PartialEq, Eq, Drop)]
+pub struct Net {
+    pub name: Name,
+    pub ends: Row<End>,
+    pub properties: Row<Property>,
+}
+
+/// What is inside a cell.
+#[derive(Debug, PartialEq, Eq, Drop)]
+pub struct Contents {
+    pub insts: Row<Inst>,
+    pub nets: Row<Net>,
+}
+
+/// The kind of a cell.
+#[derive(Clone, Copy, Debug, PartialEq, Eq)]
+pub enum CellKind {
+    Generic,
+    Tie,
+    Ripper,
+}
+
+/// A cell with its one view. A leaf has no contents.
+#[derive(Debug, PartialEq, Eq, Drop)]
+pub struct CellBody {
+    pub name: Name,
+    pub kind: CellKind,
+    pub properties: Row<Property>,
+    pub view: Name,
+    pub view_properties: Row<Property>,
+    pub interface_properties: Row<Property>,
+    pub ports: Row<Port>,
+    pub contents: Option<Contents>,
+}

@@ -1,0 +1,70 @@
+//! `Ident`: an identifier.
+ghost use Rattle.std.specs.Prelude.{◌≡◌, ◌↔◌, IsTrue, IsNone, IfOk, IfSome};
+ghost use Rattle.netlist_schema.specs.Ident.{is_identifier_byte, IsIdentifier, IsSameIgnoringCase};
+
+use crate::memory::NoMemory;
+use std::alloc::Global;
+use std::marker::Model;
+
+/// An identifier: at least one letter, digit or underscore. It may begin with a digit.
+#[derive(Debug, Drop)]
+pub struct Ident {
+    bytes: Vec<u8>,
+}
+
+impl Model for Ident {
+    ghost use Rattle.std.specs.Prelude.{List, ℕ};
+    ghost use Rattle.netlist_schema.specs.Ident.{IsIdentifier};
+
+    ghost Value = { List ℕ };
+
+    ghost view = { λ i. i.bytes.items };
+
+    ghost invariant = { λ i. IsIdentifier i.bytes.items };
+}
+
+fn is_identifier_byte(b: u8) -> bool
+    ensures { result ≡ is_identifier_byte b }
+{
+    b.is_ascii_alphanumeric() || b == b'_'
+}
+
+impl Ident {
+    /// The identifier of these bytes: `None` exactly where there are no bytes, or one of them is no letter, digit or
+    /// underscore.
+    pub fn of(alloc: Global, bytes: &[u8]) -> Result<Option<Ident>, NoMemory>
+        ensures none { IfOk result (λ found. IsNone found → IsIdentifier bytes.now → ⊥) }
+        ensures some { IfOk result (λ found. IfSome found (λ name. (name ≡ bytes.now) × IsIdentifier bytes.now)) }
+    {
+        if bytes.is_empty() || !bytes.iter().all(|b| is_identifier_byte(*b)) {
+            return Ok(None);
+        }
+        let bytes = bytes.to_vec(alloc)?;
+        Ok(Some(Ident { bytes }))
+    }
+
+    /// Lends the bytes. They are never none.
+    pub fn as_slice(&self) -> &[u8]
+        ensures value { result.now ≡ self.now }
+        ensures identifier { IsIdentifier self.now }
+    {
+        self.bytes.as_slice()
+    }
+
+    /// Whether the two are equal when the case of ASCII letters is ignored. Takes no memory.
+    pub fn same(&self, other: &Ident) -> bool
+        ensures { IsTrue result ↔ IsSameIgnoringCase self.now other.now }
+    {
+        self.bytes
+            .as_slice()
+            .eq_ignore_ascii_case(other.bytes.as_slice())
+    }
+
+    /// An equal identifier.
+    pub fn copy(&self, alloc: Global) -> Result<Ident, NoMemory>
+        ensures { IfOk result (λ name. name ≡ self.now) }
+    {
+        let bytes = self.bytes.as_slice().to_vec(alloc)?;
+        Ok(Ident { bytes })
+    }
+}
