@@ -1,0 +1,9 @@
+pub mod Bytes
+pub mod Grammar
+pub mod LexFaults
+pub mod Lexing
+pub mod Names
+pub mod Spelling
+pub mod Strings
+pub mod Tree
+pub mod Words
