@@ -1,0 +1,72 @@
+-- The design with the cells of each library in the order in which they are written, and the ids renumbered to fit.
+use Rattle.std.specs.Prelude.{ℕ, zero, suc, List, [], ◌∷◌, ◌++◌, map, length, filter_map, Bool, not, ◌||◌, ◌&&◌, Option, Some, None, slice_get, option_map, unwrap_or, nat_eq, if◌then◌else◌}
+use Rattle.std.specs.List.{list_all, list_any}
+use Rattle.edif_spec.specs.Canonical.{text}
+use Rattle.edif_spec.specs.Design as design
+
+-- the placed cell is written, or stands in another library
+abbrev pub is_written : ℕ → List ℕ → design.Inst → Bool
+is_written own written i = not (nat_eq i.of.lib.0 own) || list_any (nat_eq i.of.slot) written
+
+-- the cell is not written yet, and its children in its library all are
+abbrev pub is_ready : ℕ → List ℕ → ℕ → design.CellBody → Bool
+is_ready own written slot c = not (list_any (nat_eq slot) written) && list_all (is_written own written) (design.insts_of c)
+
+abbrev pub first_ready : ℕ → List ℕ → ℕ → List design.CellBody → Option ℕ
+first_ready own written slot [] = None
+first_ready own written slot (c ∷ cs) = if is_ready own written slot c then Some slot else first_ready own written (suc slot) cs
+
+-- repeatedly the first cell that is ready, at most n more
+abbrev pub order_from : ℕ → List design.CellBody → ℕ → List ℕ → List ℕ
+order_from own cells zero written = []
+order_from own cells (suc n) written = unwrap_or (option_map (λ slot. slot ∷ order_from own cells n (written ++ slot ∷ [])) (first_ready own written 0 cells)) []
+
+abbrev pub order_of : ℕ → List design.CellBody → List ℕ
+order_of own cells = order_from own cells (length cells) []
+
+abbrev pub orders_from : ℕ → List design.Lib → List (List ℕ)
+orders_from own [] = []
+orders_from own (l ∷ ls) = order_of own l.cells ∷ orders_from (suc own) ls
+
+abbrev pub place_in : ℕ → List ℕ → ℕ
+place_in s [] = 0
+place_in s (k ∷ ks) = if nat_eq s k then 0 else suc (place_in s ks)
+
+abbrev pub new_id : List (List ℕ) → design.CellId → design.CellId
+new_id orders id = record { lib = id.lib; slot = unwrap_or (option_map (place_in id.slot) (slice_get orders id.lib.0)) id.slot }
+
+abbrev pub new_inst : List (List ℕ) → design.Inst → design.Inst
+new_inst orders i = record { name = i.name; of = new_id orders i.of; designator = i.designator; properties = i.properties }
+
+abbrev pub new_contents : List (List ℕ) → design.Contents → design.Contents
+new_contents orders c = record { insts = map (new_inst orders) c.insts; nets = c.nets }
+
+abbrev pub new_cell : List (List ℕ) → design.CellBody → design.CellBody
+new_cell orders c = record {
+  name = c.name;
+  kind = c.kind;
+  properties = c.properties;
+  view = c.view;
+  view_properties = c.view_properties;
+  interface_properties = c.interface_properties;
+  ports = c.ports;
+  contents = option_map (new_contents orders) c.contents;
+}
+
+abbrev pub new_top : List (List ℕ) → design.TopHead → design.TopHead
+new_top orders t = record { name = t.name; cell = new_id orders t.cell; properties = t.properties }
+
+abbrev pub new_cells : List (List ℕ) → List design.CellBody → List ℕ → List design.CellBody
+new_cells orders cells order = filter_map (λ slot. option_map (new_cell orders) (slice_get cells slot)) order
+
+abbrev pub new_libs : List (List ℕ) → ℕ → List design.Lib → List design.Lib
+new_libs orders own [] = []
+new_libs orders own (l ∷ ls) = record { head = l.head; cells = new_cells orders l.cells (order_of own l.cells) } ∷ new_libs orders (suc own) ls
+
+abbrev pub arranged : design.Design → design.Design
+arranged d = let orders = orders_from 0 d.libs in
+    record { title = d.title; libs = new_libs orders 0 d.libs; top = option_map (new_top orders) d.top; notes = d.notes }
+
+-- the canonical text of a design: its cells stand in arranged order
+abbrev pub canonical_text : design.Design → List ℕ
+canonical_text d = text (arranged d)
