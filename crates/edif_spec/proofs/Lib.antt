@@ -1,0 +1,3 @@
+pub mod CellPlaces
+pub mod Order
+pub mod PlainLemmas

@@ -2,5 +2,7 @@
 #![tactic(auto)]
 
 pub mod keyword;
+pub mod text_laws;
 
 pub use keyword::Keyword;
+pub use text_laws::plain_design_is_arranged;
