@@ -1,3 +1,5 @@
 pub mod CellPlaces
 pub mod Order
 pub mod PlainLemmas
+pub mod StringLemmas
+pub mod Layouts

@@ -6,3 +6,4 @@ pub mod Means
 pub mod Plain
 pub mod Rows
 pub mod Defined
+pub mod Writable

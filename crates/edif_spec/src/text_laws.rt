@@ -1,12 +1,21 @@
 //! What the definitions say of the canonical text of a design.
-ghost use Rattle.std.specs.Prelude.{◌≡◌};
+ghost use Rattle.std.specs.Prelude.{◌≡◌, ◌≤◌, [], ◌∷◌, ◌++◌};
 ghost use Rattle.edif_spec.specs.Arranged.{arranged, canonical_text};
-ghost use Rattle.edif_spec.specs.Canonical.{text};
+ghost use Rattle.edif_spec.specs.Canonical.{layout, text};
 ghost use Rattle.edif_spec.specs.Design.{Design};
 ghost use Rattle.edif_spec.specs.Plain.{IsPlainDesign};
+ghost use Rattle.edif_spec.specs.Writable.{IsWritable};
+ghost use Rattle.spelling_spec.specs.Spelling.{IsForm, Spells};
+ghost use Rattle.spelling_spec.specs.Tree.{Bare, depth};
 
 /// A plain design is arranged already, so its canonical text has its cells in the order of the directories.
 pub fn plain_design_is_arranged()
     ensures arranged { (d : Design) → IsPlainDesign d → arranged d ≡ d }
     ensures text { (d : Design) → IsPlainDesign d → canonical_text d ≡ text d }
+{}
+
+/// The layout of a form in lines spells the form, where its words, integers and strings can be written and no form in it
+/// is deeper than level 256.
+pub fn layout_reads_back()
+    ensures { (t : Bare) → IsForm t → depth t ≤ 256 → IsWritable t → Spells (layout 1 t ++ 10 ∷ []) t }
 {}
