@@ -1,6 +1,6 @@
 -- Elements at places of lists, and cells at ids.
 use Rattle.std.proofs.Common.{◌≡◌, ℕ, zero, suc, ◌<◌, List, [], ◌∷◌, ◌++◌, length, refl, ap, subst, Bool, true, false, Option, Some, None, arith, slice_get}
-use Rattle.std.specs.Prelude.{IsSome, ◌||◌}
+use Rattle.std.specs.Prelude.{IsSomeAnd, IsSome, ◌||◌}
 use Rattle.std.specs.Option.{option_map_or}
 use Rattle.std.specs.List.{AllByRecursion, list_any}
 use Rattle.edif_spec.specs.Design as design
@@ -56,3 +56,15 @@ lib_of_cell libs id c e = go (slice_get libs id.lib.0) refl e
     go : (o : Option design.Lib) → slice_get libs id.lib.0 ≡ o → slice_get (option_map_or (λ (l : design.Lib). l.cells) o []) id.slot ≡ Some c → (l : design.Lib) × (slice_get libs id.lib.0 ≡ Some l) × (slice_get l.cells id.slot ≡ Some c)
     go None f h = absurd (cc h)
     go (Some l) f h = (l, f, h)
+
+pub some_and : {A : Type 0} (o : Option A) (P : A → Type 0) → IsSomeAnd o P → (x : A) × (o ≡ Some x) × P x
+some_and None P h = absurd h
+some_and (Some x) P h = (x, refl, h)
+
+pub all_from_places : {A : Type 0} (P : A → Type 0) (xs : List A) → ((i : ℕ) (x : A) → slice_get xs i ≡ Some x → P x) → AllByRecursion P xs
+all_from_places P [] f = tt
+all_from_places P (x ∷ xs) f = (f 0 x refl, all_from_places P xs (λ i. f (suc i)))
+
+pub all_append_parts : {A : Type 0} (P : A → Type 0) (xs ys : List A) → AllByRecursion P (xs ++ ys) → AllByRecursion P xs × AllByRecursion P ys
+all_append_parts P [] ys h = (tt, h)
+all_append_parts P (x ∷ xs) ys h = let t = all_append_parts P xs ys h.1 in ((h.0, t.0), t.1)

@@ -3,3 +3,4 @@ pub mod Order
 pub mod PlainLemmas
 pub mod StringLemmas
 pub mod Layouts
+pub mod Fine

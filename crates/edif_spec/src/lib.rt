@@ -5,4 +5,4 @@ pub mod keyword;
 pub mod text_laws;
 
 pub use keyword::Keyword;
-pub use text_laws::{layout_reads_back, plain_design_is_arranged};
+pub use text_laws::{layout_reads_back, plain_design_is_arranged, plain_text_spells};

@@ -1,10 +1,11 @@
 //! What the definitions say of the canonical text of a design.
 ghost use Rattle.std.specs.Prelude.{◌≡◌, ◌≤◌, [], ◌∷◌, ◌++◌};
 ghost use Rattle.edif_spec.specs.Arranged.{arranged, canonical_text};
-ghost use Rattle.edif_spec.specs.Canonical.{layout, text};
+ghost use Rattle.edif_spec.specs.Canonical.{layout, text, tree_of};
 ghost use Rattle.edif_spec.specs.Design.{Design};
 ghost use Rattle.edif_spec.specs.Plain.{IsPlainDesign};
 ghost use Rattle.edif_spec.specs.Writable.{IsWritable};
+ghost use Rattle.netlist_schema.specs.Valid.{IsValid};
 ghost use Rattle.spelling_spec.specs.Spelling.{IsForm, Spells};
 ghost use Rattle.spelling_spec.specs.Tree.{Bare, depth};
 
@@ -18,4 +19,9 @@ pub fn plain_design_is_arranged()
 /// is deeper than level 256.
 pub fn layout_reads_back()
     ensures { (t : Bare) → IsForm t → depth t ≤ 256 → IsWritable t → Spells (layout 1 t ++ 10 ∷ []) t }
+{}
+
+/// The canonical text of a valid plain design spells the design's tree.
+pub fn plain_text_spells()
+    ensures { (d : Design) → IsPlainDesign d → IsValid d → Spells (canonical_text d) (tree_of d) }
 {}
