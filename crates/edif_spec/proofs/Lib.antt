@@ -4,3 +4,5 @@ pub mod PlainLemmas
 pub mod StringLemmas
 pub mod Layouts
 pub mod Fine
+pub mod Ready
+pub mod WholeOrder

@@ -7,3 +7,4 @@ pub mod Plain
 pub mod Rows
 pub mod Defined
 pub mod Writable
+pub mod InTime

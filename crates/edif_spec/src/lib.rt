@@ -5,4 +5,6 @@ pub mod keyword;
 pub mod text_laws;
 
 pub use keyword::Keyword;
-pub use text_laws::{layout_reads_back, plain_design_is_arranged, plain_text_spells};
+pub use text_laws::{
+    layout_reads_back, order_is_whole, plain_design_is_arranged, plain_text_spells,
+};

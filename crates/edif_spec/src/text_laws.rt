@@ -1,8 +1,12 @@
 //! What the definitions say of the canonical text of a design.
-ghost use Rattle.std.specs.Prelude.{◌≡◌, ◌≤◌, [], ◌∷◌, ◌++◌};
-ghost use Rattle.edif_spec.specs.Arranged.{arranged, canonical_text};
+ghost use Rattle.std.specs.Prelude.{◌≡◌, ◌≤◌, ℕ, List, Some, length, slice_get, [], ◌∷◌, ◌++◌};
+ghost use Rattle.std.specs.List.{range_with_len};
+ghost use Rattle.std.specs.List.Sorted.{IsPermutation};
+ghost use Rattle.edif_spec.specs.Arranged.{arranged, canonical_text, order_of};
 ghost use Rattle.edif_spec.specs.Canonical.{layout, text, tree_of};
-ghost use Rattle.edif_spec.specs.Design.{Design};
+ghost use Rattle.edif_spec.specs.Defined.{AllAfter};
+ghost use Rattle.edif_spec.specs.Design.{CellBody, Design, Lib};
+ghost use Rattle.edif_spec.specs.InTime.{ComesInTime};
 ghost use Rattle.edif_spec.specs.Plain.{IsPlainDesign};
 ghost use Rattle.edif_spec.specs.Writable.{IsWritable};
 ghost use Rattle.netlist_schema.specs.Valid.{IsValid};
@@ -24,4 +28,12 @@ pub fn layout_reads_back()
 /// The canonical text of a valid plain design spells the design's tree.
 pub fn plain_text_spells()
     ensures { (d : Design) → IsPlainDesign d → IsValid d → Spells (canonical_text d) (tree_of d) }
+{}
+
+/// The order of each library of a valid design has each of its cells once. In any library each cell comes when it was not
+/// there yet and the cells that it places in the library were.
+pub fn order_is_whole()
+    ensures whole { (d : Design) (own : ℕ) (lib : Lib) → IsValid d → slice_get d.libs own ≡ Some lib
+        → IsPermutation (range_with_len 0 (length lib.cells)) (order_of own lib.cells) }
+    ensures in_time { (own : ℕ) (cells : List CellBody) → AllAfter (ComesInTime own cells) [] (order_of own cells) }
 {}

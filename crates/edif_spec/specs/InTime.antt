@@ -1,0 +1,12 @@
+-- Cells that come after those that they place.
+use Rattle.std.specs.Prelude.{◌≡◌, ℕ, List, Some, slice_get}
+use Rattle.std.specs.List.{All, Contains}
+use Rattle.edif_spec.specs.Design as design
+
+-- There is a cell at this slot; the slot is not among those before it; and the slots of the cells that it places in its
+-- own library all are.
+pub record ComesInTime (own : ℕ) (cells : List design.CellBody) (before : List ℕ) (slot : ℕ) : Type 0 where
+  pub cell : design.CellBody
+  pub there : slice_get cells slot ≡ Some cell
+  pub new : ¬ Contains before slot
+  pub children : All (λ inst. inst.of.lib.0 ≡ own → Contains before inst.of.slot) (design.insts_of cell)
