@@ -6,3 +6,4 @@ pub mod Layouts
 pub mod Fine
 pub mod Ready
 pub mod WholeOrder
+pub mod Arrange

@@ -106,7 +106,7 @@ pub order_in_time : (own : ℕ) (cells : List design.CellBody) → AllAfter (Com
 order_in_time own cells = after_weaker (StepReady own cells) (ComesInTime own cells) [] (order_of own cells) (step_in_time own cells) (order_ready own cells (length cells) [])
 
 -- no number stands twice
-abbrev IsNew : List ℕ → Type 0
+abbrev pub IsNew : List ℕ → Type 0
 IsNew [] = Unit {0}
 IsNew (x ∷ xs) = (list_any (nat_eq x) xs ≡ false) × IsNew xs
 
@@ -179,7 +179,7 @@ any_end k a =
     let e : nat_eq k k ≡ true = eq-eqb k k refl in
     any_append (nat_eq k) a (k ∷ []) ∙ or_right (list_any (nat_eq k) a) (nat_eq k k || false) (ap (λ b. b || false) e)
 
-step_new : (own : ℕ) (cells : List design.CellBody) (before : List ℕ) (k : ℕ) → StepReady own cells before k → list_any (nat_eq k) before ≡ false
+pub step_new : (own : ℕ) (cells : List design.CellBody) (before : List ℕ) (k : ℕ) → StepReady own cells before k → list_any (nat_eq k) before ≡ false
 step_new own cells before k h = not-true (list_any (nat_eq k) before) (and_parts (not (list_any (nat_eq k) before)) (list_all (is_written own before) (design.insts_of h.0)) h.2).0
 
 other_slot : (s k : ℕ) (before : List ℕ) → list_any (nat_eq s) before ≡ true → list_any (nat_eq k) before ≡ false → nat_eq s k ≡ false
@@ -187,14 +187,14 @@ other_slot s k before h n = false_from_ne_true (nat_eq s k) (λ e.
     let q : s ≡ k = eqb-true s k e in
     let g : true ≡ false = sym h ∙ (ap (λ v. list_any (nat_eq v) before) q ∙ n) in absurd (cc g))
 
-new_after : (own : ℕ) (cells : List design.CellBody) (before o : List ℕ) → AllAfter (StepReady own cells) before o → IsNew o × ((s : ℕ) → list_any (nat_eq s) before ≡ true → list_any (nat_eq s) o ≡ false)
+pub new_after : (own : ℕ) (cells : List design.CellBody) (before o : List ℕ) → AllAfter (StepReady own cells) before o → IsNew o × ((s : ℕ) → list_any (nat_eq s) before ≡ true → list_any (nat_eq s) o ≡ false)
 new_after own cells before [] h = (tt, λ s k. refl)
 new_after own cells before (k ∷ o) h =
     let r = new_after own cells (before ++ k ∷ []) o h.1 in
     let n = step_new own cells before k h.0 in
     ((r.1 k (any_end k before), r.0), λ s t. or_from (nat_eq s k) (list_any (nat_eq s) o) (other_slot s k before t n) (r.1 s (any_in s before (k ∷ []) t)))
 
-below_after : (own : ℕ) (cells : List design.CellBody) (before o : List ℕ) (s : ℕ) → AllAfter (StepReady own cells) before o → list_any (nat_eq s) o ≡ true → s < length cells
+pub below_after : (own : ℕ) (cells : List design.CellBody) (before o : List ℕ) (s : ℕ) → AllAfter (StepReady own cells) before o → list_any (nat_eq s) o ≡ true → s < length cells
 below_after own cells before [] s h k = absurd (cc k)
 below_after own cells before (x ∷ o) s h k = ⊎_elim
     (λ (e : nat_eq s x ≡ true). get_below cells s h.0.0 (ap (slice_get cells) (eqb-true s x e) ∙ h.0.1))

@@ -6,5 +6,6 @@ pub mod text_laws;
 
 pub use keyword::Keyword;
 pub use text_laws::{
-    layout_reads_back, order_is_whole, plain_design_is_arranged, plain_text_spells,
+    arranged_is_valid, canonical_text_spells, layout_reads_back, order_is_whole,
+    plain_design_is_arranged, plain_text_spells,
 };

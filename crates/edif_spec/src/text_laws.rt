@@ -37,3 +37,13 @@ pub fn order_is_whole()
         → IsPermutation (range_with_len 0 (length lib.cells)) (order_of own lib.cells) }
     ensures in_time { (own : ℕ) (cells : List CellBody) → AllAfter (ComesInTime own cells) [] (order_of own cells) }
 {}
+
+/// The arranged design of a valid one is valid.
+pub fn arranged_is_valid()
+    ensures { (d : Design) → IsValid d → IsValid (arranged d) }
+{}
+
+/// The canonical text of a valid design spells the tree of the arranged design.
+pub fn canonical_text_spells()
+    ensures { (d : Design) → IsValid d → Spells (canonical_text d) (tree_of (arranged d)) }
+{}
