@@ -7,3 +7,4 @@ pub mod Fine
 pub mod Ready
 pub mod WholeOrder
 pub mod Arrange
+pub mod ArrangeOrder

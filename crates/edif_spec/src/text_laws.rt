@@ -4,7 +4,7 @@ ghost use Rattle.std.specs.List.{range_with_len};
 ghost use Rattle.std.specs.List.Sorted.{IsPermutation};
 ghost use Rattle.edif_spec.specs.Arranged.{arranged, canonical_text, order_of};
 ghost use Rattle.edif_spec.specs.Canonical.{layout, text, tree_of};
-ghost use Rattle.edif_spec.specs.Defined.{AllAfter};
+ghost use Rattle.edif_spec.specs.Defined.{AllAfter, DefinedBefore};
 ghost use Rattle.edif_spec.specs.Design.{CellBody, Design, Lib};
 ghost use Rattle.edif_spec.specs.InTime.{ComesInTime};
 ghost use Rattle.edif_spec.specs.Plain.{IsPlainDesign};
@@ -46,4 +46,19 @@ pub fn arranged_is_valid()
 /// The canonical text of a valid design spells the tree of the arranged design.
 pub fn canonical_text_spells()
     ensures { (d : Design) → IsValid d → Spells (canonical_text d) (tree_of (arranged d)) }
+{}
+
+/// In the arranged design of a valid one each cell that is placed is defined before the cell that places it.
+pub fn arranged_in_order()
+    ensures { (d : Design) → IsValid d → DefinedBefore (arranged d) }
+{}
+
+/// A valid design in which each cell that is placed is defined before the cell that places it is arranged already.
+pub fn in_order_is_arranged()
+    ensures { (d : Design) → IsValid d → DefinedBefore d → arranged d ≡ d }
+{}
+
+/// The arranged design of a valid one is arranged already.
+pub fn arranged_twice()
+    ensures { (d : Design) → IsValid d → arranged (arranged d) ≡ arranged d }
 {}
