@@ -36,6 +36,7 @@ abbrev pub EndsEscape : List ℕ → Type 0
 EndsEscape [] = Unit {0}
 EndsEscape (b ∷ more) = (b ≡ 37) ⊎ (b ≡ 34)
 
+-- the closing quote comes
 abbrev pub BeginsWithQuote : List ℕ → Type 0
 BeginsWithQuote [] = ⊥
 BeginsWithQuote (b ∷ more) = b ≡ 34

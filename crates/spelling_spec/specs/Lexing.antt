@@ -32,10 +32,12 @@ abbrev pub first_word : List ℕ → Result TokenKind LexKind → First
 first_word run (Ok kind) = Spelling kind (length run)
 first_word run (Err fault) = Bad fault 0
 
+-- a string that has its closing quote: its value, or its first bad escape
 abbrev pub closed_string : List ℕ → Option ℕ → First
 closed_string body None = Spelling (String (value (segments body))) (length body + 2)
 closed_string body (Some at) = Bad BadEscape (at + 1)
 
+-- a string that the text ends: its first bad escape, or its opening quote
 abbrev pub open_string : Option ℕ → First
 open_string None = Bad BadString 0
 open_string (Some at) = Bad BadEscape (at + 1)
@@ -45,6 +47,7 @@ abbrev pub first_string : List ℕ → First
 first_string bytes = let body = before_first is_quote bytes in
     if nat_lt (length body) (length bytes) then closed_string body (escape_fault true 0 (segments body)) else open_string (escape_fault false 0 (segments body))
 
+-- what a byte begins, where these bytes follow it
 unfoldable pub first : ℕ → List ℕ → First
 first b bytes =
     if is_space b then Space
@@ -58,6 +61,7 @@ first b bytes =
 abbrev pub before : List Token → Lexed → Lexed
 before ts rest = record { tokens = ts ++ rest.tokens; fault = rest.fault }
 
+-- what is read at a place where this stands first, and `rest` reads on behind so many more bytes that belong to it
 abbrev pub read_on : First → ℕ → (ℕ → Lexed) → Lexed
 read_on Space place rest = rest 0
 read_on (Spelling kind n) place rest = before (record { kind = kind; place = place } ∷ []) (rest (n - 1))

@@ -3,6 +3,7 @@ use Rattle.std.specs.Prelude.{ℕ, Bool, not, ◌&&◌, ◌==◌, List, length}
 use Rattle.std.specs.List.{list_all}
 use Rattle.netlist_schema.specs.Ident.{is_identifier_byte}
 
+-- no bytes
 abbrev pub is_empty : List ℕ → Bool
 is_empty bytes = length bytes == 0
 

@@ -18,9 +18,11 @@ is_code text = all_ascii_digits text && nat_le (digits_value 10 text) 255
 abbrev pub code_texts : List (List ℕ) → List (List ℕ)
 code_texts parts = filter (λ text. not (is_empty text)) parts
 
+-- each part that is not empty is a code
 unfoldable pub are_codes : List (List ℕ) → Bool
 are_codes parts = list_all is_code (code_texts parts)
 
+-- the values of the parts that are not empty
 unfoldable pub codes_of : List (List ℕ) → List ℕ
 codes_of parts = map (digits_value 10) (code_texts parts)
 
@@ -28,6 +30,7 @@ codes_of parts = map (digits_value 10) (code_texts parts)
 abbrev pub is_escape : List ℕ → Bool
 is_escape escape = are_codes (slice_split is_space escape)
 
+-- what these codes are
 abbrev pub codes : List ℕ → List ℕ
 codes escape = codes_of (slice_split is_space escape)
 

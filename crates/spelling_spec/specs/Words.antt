@@ -14,6 +14,7 @@ abbrev pub identifier : List ℕ → Option (List ℕ)
 identifier [] = None
 identifier (b ∷ bs) = if b == 38 then (if is_name bs then Some bs else None) else (if is_name (b ∷ bs) && not (is_ascii_digit b) then Some (b ∷ bs) else None)
 
+-- within i64, from -2^63 to 2^63 - 1
 abbrev pub fits_i64 : ℤ → Bool
 fits_i64 (pos n) = nat_lt n (2 ^ 63)
 fits_i64 (negsuc n) = nat_lt n (2 ^ 63)
@@ -27,6 +28,7 @@ abbrev pub begins_number : List ℕ → Bool
 begins_number [] = false
 begins_number (b ∷ bs) = is_ascii_digit b || (b == 43 || b == 45)
 
+-- the token, or the fault where there is none
 abbrev pub or_fault : {A : Type 0} → (A → TokenKind) → LexKind → Option A → Result TokenKind LexKind
 or_fault kind fault None = Err fault
 or_fault kind fault (Some x) = Ok (kind x)

@@ -4,17 +4,24 @@ use netlist_schema::{Ident, Text};
 /// What a token is. A word is seen as its name, without a leading `&`, and a string as the bytes that it stands for.
 #[derive(Debug, PartialEq, Eq, Drop)]
 pub enum TokenKind {
+    /// `(`.
     LeftParen,
+    /// `)`.
     RightParen,
+    /// A name: a keyword, or an identifier with or without `&`.
     Word(Ident),
+    /// A number of 64 bits with sign.
     Integer(i64),
+    /// The bytes that a string stands for, its escapes resolved.
     String(Text),
 }
 
 /// A token, and the number of bytes before it.
 #[derive(Debug, PartialEq, Eq, Drop)]
 pub struct Token {
+    /// What it is.
     pub kind: TokenKind,
+    /// How many bytes of the text stand before it.
     pub place: u64,
 }
 
