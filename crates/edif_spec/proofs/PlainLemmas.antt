@@ -1,14 +1,17 @@
 -- A plain design is arranged already.
-use Rattle.std.proofs.Common.{◌≡◌, List, [], ◌∷◌, ◌++◌, ap, sym, subst, Option}
+use Rattle.std.proofs.Common.{◌≡◌, ℕ, List, [], ◌∷◌, ◌++◌, ap, sym, subst, Option}
 use Rattle.std.specs.Prelude.{IsSome, IfSome}
 use Rattle.std.specs.List.{AllByRecursion}
 use Rattle.std.proofs.lemmas.List.Elements.{recursion_from_All}
 use Rattle.netlist_schema.specs.Design.{insts_in}
 use Rattle.edif_spec.specs.Arranged.{arranged, canonical_text}
-use Rattle.edif_spec.specs.Canonical.{text}
+use Rattle.netlist_schema.specs.Valid.{IsValid}
+use Rattle.spelling_spec.specs.Spelling.{Spells}
+use Rattle.edif_spec.specs.Canonical.{text, tree_of}
 use Rattle.edif_spec.specs.Defined.{AllAfter, DefinedBefore}
 use Rattle.edif_spec.specs.Design as design
 use Rattle.edif_spec.specs.Plain.{IsPlainCell, IsPlainLib, IsPlainDesign}
+use Rattle.edif_spec.proofs.Fine.{text_spelled}
 use Rattle.edif_spec.proofs.Order.{ArePlaced, EachPlaced, stays}
 
 -- a plain cell has no instances
@@ -44,3 +47,6 @@ plain_stays d h =
 
 pub plain_text : (d : design.Design) → IsPlainDesign d → canonical_text d ≡ text d
 plain_text d h = ap text (plain_stays d h)
+
+pub plain_spelled : (d : design.Design) → IsPlainDesign d → IsValid d → Spells (canonical_text d) (tree_of d)
+plain_spelled d plain valid = let P : List ℕ → Type 0 = λ bytes. Spells bytes (tree_of d) in subst P (sym (plain_text d plain)) (text_spelled d valid)

@@ -165,3 +165,29 @@ order_ready own cells (suc fuel) written = go (first_ready own written 0 cells) 
         AllAfter (StepReady own cells) written (unwrap_or (option_map (λ slot. slot ∷ order_from own cells fuel (written ++ slot ∷ [])) o) [])
     go None e more = tt
     go (Some k) e more = let f = found_ready own written 0 k cells e in ((f.1.0, (let q : k ≡ f.0 = omega (arith, f.1.1) in ap (slice_get cells) q) ∙ f.1.2, f.1.3), more k)
+
+-- and it is the first
+abbrev pub NoneReady : ℕ → List design.CellBody → List ℕ → ℕ → Type 0
+NoneReady own cells written k = (t : ℕ) (c : design.CellBody) → t < k → slice_get cells t ≡ Some c → is_ready own written t c ≡ false
+
+found_first : (own : ℕ) (written : List ℕ) (j m : ℕ) (cs : List design.CellBody) → first_ready own written j cs ≡ Some m → (t : ℕ) (c : design.CellBody) → j + t < m → slice_get cs t ≡ Some c → is_ready own written (j + t) c ≡ false
+found_first own written j m [] e t c l f = absurd (cc e)
+found_first own written j m (x ∷ cs) e t c l f = go (is_ready own written j x) refl e t f l (found_first own written (suc j) m cs)
+  where
+    go : (b : Bool) → is_ready own written j x ≡ b → cond b (Some j) (first_ready own written (suc j) cs) ≡ Some m → (t : ℕ) → slice_get (x ∷ cs) t ≡ Some c → j + t < m →
+        (first_ready own written (suc j) cs ≡ Some m → (t : ℕ) (c : design.CellBody) → suc j + t < m → slice_get cs t ≡ Some c → is_ready own written (suc j + t) c ≡ false) → is_ready own written (j + t) c ≡ false
+    go true r e t f l more = let w : j ≡ m = cc e in absurd (omega arith)
+    go false r e zero f l more =
+        let w : x ≡ c = cc f in
+        let z : j + 0 ≡ j = omega arith in
+        ap (λ k. is_ready own written k c) z ∙ (ap (is_ready own written j) (sym w) ∙ r)
+    go false r e (suc t) f l more = let z : j + suc t ≡ suc j + t = omega arith in ap (λ k. is_ready own written k c) z ∙ more e t c (omega arith) f
+
+pub order_first : (own : ℕ) (cells : List design.CellBody) (fuel : ℕ) (written : List ℕ) → AllAfter (NoneReady own cells) written (order_from own cells fuel written)
+order_first own cells zero written = tt
+order_first own cells (suc fuel) written = go (first_ready own written 0 cells) refl (λ k. order_first own cells fuel (written ++ k ∷ []))
+  where
+    go : (o : Option ℕ) → first_ready own written 0 cells ≡ o → ((k : ℕ) → AllAfter (NoneReady own cells) (written ++ k ∷ []) (order_from own cells fuel (written ++ k ∷ []))) →
+        AllAfter (NoneReady own cells) written (unwrap_or (option_map (λ slot. slot ∷ order_from own cells fuel (written ++ slot ∷ [])) o) [])
+    go None e more = tt
+    go (Some k) e more = (λ t c l f. let z : 0 + t ≡ t = omega arith in ap (λ v. is_ready own written v c) (sym z) ∙ found_first own written 0 k cells e t c (omega arith) f, more k)

@@ -4,22 +4,22 @@ use Rattle.std.specs.Prelude.{IsSome, ◌||◌, nat_eq}
 use Rattle.std.specs.List.{AllByRecursion, Contains, list_all, list_any, range_with_len}
 use Rattle.std.specs.List.Sorted.{IsPermutation}
 use Rattle.std.specs.Option.{option_map_or}
-use Rattle.std.proofs.lemmas.Bool.{and_parts, or_cases, or_parts, or_from, or_left, or_right, not-true, eqb-true, eq-eqb, cases_eq, false_from_ne_true}
+use Rattle.std.proofs.lemmas.Bool.{and_parts, or_cases, or_parts, or_from, or_left, or_right, not-true, eqb-true, eq-eqb, cases_eq, false_from_ne_true, true_from_ne_false, and_from}
 use Rattle.std.proofs.lemmas.Bool.Decides.{nat_tests}
-use Rattle.std.proofs.lemmas.List.Elements.{All-from_recursion}
+use Rattle.std.proofs.lemmas.List.Elements.{All-from_recursion, recursion_from_All}
 use Rattle.std.proofs.lemmas.List.Sorted.{IsPermutation-refl, IsPermutation-cons, IsPermutation-trans, IsPermutation-sym, IsPermutation-middle}
 use Rattle.std.proofs.lemmas.Option.{get_or_from_slice_get}
 use Rattle.netlist_schema.specs.Hierarchy.{IsCell, HasInst, insts_at}
 use Rattle.netlist_schema.specs.Valid.{IsValid}
 use Rattle.netlist_schema.proofs.Cells.{All-slice_get}
 use Rattle.netlist_schema.proofs.Ranks.{valid_is_ranked}
-use Rattle.edif_spec.specs.Arranged.{is_written, order_of}
+use Rattle.edif_spec.specs.Arranged.{is_written, is_ready, order_of}
 use Rattle.edif_spec.specs.Defined.{AllAfter}
 use Rattle.edif_spec.specs.Design as design
-use Rattle.edif_spec.specs.InTime.{ComesInTime}
+use Rattle.edif_spec.specs.InTime.{ComesInTime, NoneEarlier}
 use Rattle.edif_spec.proofs.CellPlaces.{any_append, get_below, lib_of_cell, some_of}
 use Rattle.edif_spec.proofs.Order.{range}
-use Rattle.edif_spec.proofs.Ready.{IsRank, StepReady, order_covers, order_ready}
+use Rattle.edif_spec.proofs.Ready.{IsRank, StepReady, NoneReady, order_covers, order_ready, order_first}
 
 -- the id of a cell
 abbrev pub id_at : ℕ → ℕ → design.CellId
@@ -104,6 +104,29 @@ after_weaker P Q before (x ∷ xs) f h = (f before x h.0, after_weaker P Q (befo
 
 pub order_in_time : (own : ℕ) (cells : List design.CellBody) → AllAfter (ComesInTime own cells) [] (order_of own cells)
 order_in_time own cells = after_weaker (StepReady own cells) (ComesInTime own cells) [] (order_of own cells) (step_in_time own cells) (order_ready own cells (length cells) [])
+
+-- what could come is ready
+any_from_contains : (s : ℕ) (xs : List ℕ) → Contains xs s → list_any (nat_eq s) xs ≡ true
+any_from_contains s xs h = true_from_ne_false (list_any (nat_eq s) xs) (λ e. none_from_any s xs e h)
+
+written_from_children : (own : ℕ) (before : List ℕ) (is : List design.Inst) → AllByRecursion (λ (i : design.Inst). i.of.lib.0 ≡ own → Contains before i.of.slot) is → list_all (is_written own before) is ≡ true
+written_from_children own before [] h = refl
+written_from_children own before (i ∷ is) h = and_from (is_written own before i) (list_all (is_written own before) is) (go (nat_eq i.of.lib.0 own) refl) (written_from_children own before is h.1)
+  where
+    go : (b : Bool) → nat_eq i.of.lib.0 own ≡ b → (not b || list_any (nat_eq i.of.slot) before) ≡ true
+    go true e = any_from_contains i.of.slot before (h.0 (eqb-true i.of.lib.0 own e))
+    go false e = refl
+
+time_is_ready : (own : ℕ) (cells : List design.CellBody) (before : List ℕ) (k : ℕ) (h : ComesInTime own cells before k) → is_ready own before k h.cell ≡ true
+time_is_ready own cells before k h = and_from (not (list_any (nat_eq k) before)) (list_all (is_written own before) (design.insts_of h.cell))
+    (ap not (false_from_ne_true (list_any (nat_eq k) before) (λ e. h.new (contains_from_any k before e))))
+    (written_from_children own before (design.insts_of h.cell) (recursion_from_All (λ (i : design.Inst). i.of.lib.0 ≡ own → Contains before i.of.slot) (design.insts_of h.cell) h.children))
+
+step_first : (own : ℕ) (cells : List design.CellBody) (before : List ℕ) (k : ℕ) → NoneReady own cells before k → NoneEarlier own cells before k
+step_first own cells before k h t l time = let g : true ≡ false = sym (time_is_ready own cells before t time) ∙ h t time.cell l time.there in absurd (cc g)
+
+pub order_none_earlier : (own : ℕ) (cells : List design.CellBody) → AllAfter (NoneEarlier own cells) [] (order_of own cells)
+order_none_earlier own cells = after_weaker (NoneReady own cells) (NoneEarlier own cells) [] (order_of own cells) (step_first own cells) (order_first own cells (length cells) [])
 
 -- no number stands twice
 abbrev pub IsNew : List ℕ → Type 0

@@ -1,5 +1,5 @@
 -- Cells that come after those that they place.
-use Rattle.std.specs.Prelude.{◌≡◌, ℕ, List, Some, slice_get}
+use Rattle.std.specs.Prelude.{◌≡◌, ◌<◌, ℕ, List, Some, slice_get}
 use Rattle.std.specs.List.{All, Contains}
 use Rattle.edif_spec.specs.Design as design
 
@@ -10,3 +10,7 @@ pub record ComesInTime (own : ℕ) (cells : List design.CellBody) (before : List
   pub there : slice_get cells slot ≡ Some cell
   pub new : ¬ Contains before slot
   pub children : All (λ inst. inst.of.lib.0 ≡ own → Contains before inst.of.slot) (design.insts_of cell)
+
+-- no slot before this one could come in its place
+abbrev pub NoneEarlier : ℕ → List design.CellBody → List ℕ → ℕ → Type 0
+NoneEarlier own cells before slot = (earlier : ℕ) → earlier < slot → ¬ ComesInTime own cells before earlier

@@ -1,9 +1,11 @@
-use Rattle.std.proofs.Common.{List, ℕ, subst, sym}
-use Rattle.spelling_spec.specs.Spelling.{Spells}
+use Rattle.spelling_spec.proofs.SpelledTokens.{same_tree}
+use Rattle.edif_spec.specs.Arranged.{canonical_text}
 use Rattle.edif_spec.specs.Canonical.{tree_of}
-use Rattle.edif_spec.proofs.Fine.{text_spelled}
-use Rattle.edif_spec.proofs.PlainLemmas.{plain_text}
+use Rattle.edif_spec.proofs.PlainLemmas.{plain_spelled}
 use Rattle.edif_spec.proofs.text_laws.plain_text_spells.Goals as goal
 
-pub returns : goal.returns
-returns c d plain valid = let P : List ℕ → Type 0 = λ bytes. Spells bytes (tree_of d) in subst P (sym (plain_text d plain)) (text_spelled d valid)
+pub returns-clause-spells : goal.returns-clause-spells
+returns-clause-spells c d plain valid = plain_spelled d plain valid
+
+pub returns-clause-only : goal.returns-clause-only
+returns-clause-only c d t plain valid spelled = same_tree (canonical_text d) t (tree_of d) spelled (plain_spelled d plain valid)
