@@ -2,5 +2,6 @@
 #![tactic(auto)]
 
 pub mod keyword;
+pub mod meaning_laws;
 
 pub use keyword::Keyword;

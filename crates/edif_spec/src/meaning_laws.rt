@@ -1,0 +1,17 @@
+//! Laws on what a tree means.
+ghost use Rattle.netlist_schema.specs.Valid.{IsValid};
+ghost use Rattle.spelling_spec.specs.Tree.{Bare};
+ghost use Rattle.edif_spec.specs.Canonical.{tree_of};
+ghost use Rattle.edif_spec.specs.Design.{Design};
+ghost use Rattle.edif_spec.specs.Means.{MeansFile};
+ghost use Rattle.edif_spec.specs.Plain.{IsPlainDesign, IsPlainTree};
+
+/// A plain tree of a valid design means the design.
+pub fn plain_tree_means()
+    ensures { (t : Bare) (d : Design) → IsPlainTree t d → IsValid d → MeansFile t d }
+{}
+
+/// The tree of a plain design's text is a plain tree of the design.
+pub fn plain_design_has_plain_tree()
+    ensures { (d : Design) → IsPlainDesign d → IsPlainTree (tree_of d) d }
+{}
