@@ -1,4 +1,5 @@
 //! Laws on what a tree means.
+ghost use Rattle.std.specs.Prelude.{◌≡◌};
 ghost use Rattle.netlist_schema.specs.Valid.{IsValid};
 ghost use Rattle.spelling_spec.specs.Tree.{Bare};
 ghost use Rattle.edif_spec.specs.Canonical.{tree_of};
@@ -14,4 +15,9 @@ pub fn plain_tree_means()
 /// The tree of a plain design's text is a plain tree of the design.
 pub fn plain_design_has_plain_tree()
     ensures { (d : Design) → IsPlainDesign d → IsPlainTree (tree_of d) d }
+{}
+
+/// A tree means one design at most.
+pub fn one_meaning()
+    ensures { (t : Bare) (d e : Design) → MeansFile t d → MeansFile t e → d ≡ e }
 {}
