@@ -2,6 +2,7 @@ pub mod Both
 pub mod Followers
 pub mod Groups
 pub mod Meanings
+pub mod FromValid
 pub mod Once
 pub mod OnceFile
 pub mod PlainMeanings

@@ -5,3 +5,4 @@ pub mod Keyword
 pub mod Means
 pub mod Plain
 pub mod Rows
+pub mod Defined
