@@ -1,4 +1,7 @@
 pub mod Both
+pub mod ContentsMeanings
+pub mod Defined
+pub mod Files
 pub mod Followers
 pub mod Groups
 pub mod Meanings
@@ -6,4 +9,6 @@ pub mod FromValid
 pub mod Once
 pub mod OnceFile
 pub mod PlainMeanings
+pub mod Scopes
 pub mod ValidForms
+pub mod Whole
