@@ -1,5 +1,5 @@
 -- Followers in groups, each of one keyword: what those of a keyword are, and whether a row allows them.
-use Rattle.std.proofs.Common.{◌≡◌, ℕ, List, [], ◌∷◌, ◌++◌, map, refl, ap, sym, ◌∙◌, subst, Bool, true, false, arith, append-nil}
+use Rattle.std.proofs.Common.{◌≡◌, ℕ, List, [], ◌∷◌, ◌++◌, refl, ap, sym, ◌∙◌, subst, Bool, true, false, arith, append-nil}
 use Rattle.std.specs.Prelude.{IsTrue, cond, ◌&&◌, ◌||◌, filter, nat_eq}
 use Rattle.std.specs.List.{list_all, AllByRecursion}
 use Rattle.std.proofs.lemmas.Bool.Decides.{nat_tests}
@@ -95,37 +95,3 @@ joined_follows fs [] a h = refl
 joined_follows fs (g ∷ gs) a h = let f = both (allows fs g.0) (list_all (λ g. allows fs g.0) gs) a in
     let P : List Bare → Type 0 = λ v. IsTrue (list_all (is_follower fs) v) in
     subst P (sym (joined_cons g gs)) (both_pass (is_follower fs) g.1 (joined gs) (group_follows fs g.0 g.1 f.0 h.0) (joined_follows fs gs f.1 h.1))
-
-equal_numbers : (x y : ℕ) → nat_eq x y ≡ true → x ≡ y
-equal_numbers x y h = grind (arith, nat_tests)
-
-self_equal : (x : ℕ) → nat_eq x x ≡ true
-self_equal x = grind (arith, nat_tests)
-
-equal_lower : (x y : ℕ) → nat_eq (to_ascii_lowercase x) (to_ascii_lowercase y) ≡ true → to_ascii_lowercase x ≡ to_ascii_lowercase y
-equal_lower x y h = equal_numbers (to_ascii_lowercase x) (to_ascii_lowercase y) h
-
--- the test says that the lists are equal in lower case
-pub same_says : (a b : List ℕ) → same a b ≡ true → map to_ascii_lowercase a ≡ map to_ascii_lowercase b
-same_says [] [] h = refl
-same_says [] (c ∷ b) h = absurd (cc h)
-same_says (x ∷ a) [] h = absurd (cc h)
-same_says (x ∷ a) (y ∷ b) h =
-    let t = both (nat_eq (to_ascii_lowercase x) (to_ascii_lowercase y)) (same a b) h in
-    let u : nat_eq (to_ascii_lowercase x) (to_ascii_lowercase y) ≡ true = t.0 in
-    let f = same_says a b t.1 in
-    let e = equal_lower x y u in cc
-
-pub says_same : (a b : List ℕ) → map to_ascii_lowercase a ≡ map to_ascii_lowercase b → same a b ≡ true
-says_same [] [] h = refl
-says_same [] (c ∷ b) h = absurd (cc h)
-says_same (x ∷ a) [] h = absurd (cc h)
-says_same (x ∷ a) (y ∷ b) h =
-    let e : to_ascii_lowercase x ≡ to_ascii_lowercase y = cc h in
-    let f : map to_ascii_lowercase a ≡ map to_ascii_lowercase b = cc h in
-    and_true (nat_eq (to_ascii_lowercase x) (to_ascii_lowercase y)) (same a b) (ap (nat_eq (to_ascii_lowercase x)) (sym e) ∙ self_equal (to_ascii_lowercase x)) (says_same a b f)
-
-pub bool_is : (r s : Bool) → (r ≡ true → s ≡ true) → (s ≡ true → r ≡ true) → r ≡ s
-bool_is true s f g = sym (f refl)
-bool_is false true f g = g refl
-bool_is false false f g = refl

@@ -1,11 +1,10 @@
 -- The canonical tree of a design means the design.
-use Rattle.std.proofs.Common.{◌≡◌, ℕ, pos, List, [], ◌∷◌, ◌++◌, map, refl, ap, ◌∙◌, inl, inr, Bool, true, false, Option, Some, None, arith, append-nil}
-use Rattle.std.specs.Prelude.{IsTrue, IfSome, filter, codes}
+use Rattle.std.proofs.Common.{◌≡◌, ℕ, pos, List, [], ◌∷◌, map, refl, inl, inr, Bool, true, false, Option, Some, None, arith}
+use Rattle.std.specs.Prelude.{IsTrue, IfSome, codes}
 use Rattle.std.specs.List.{list_all, AllByRecursion}
-use Rattle.std.proofs.lemmas.List.Elements.{filter-append}
 use Rattle.spelling_spec.specs.Tree.{Bare, word, integer, string}
 use Rattle.edif_spec.specs.Keyword.{spelling_of, same, row, Follower, Many, One, AnIdentifier, AnInteger, AForm, name_definition}
-use Rattle.edif_spec.specs.Rows.{has_keyword, those, is_follower, is_one_of, FitsRow, Each, Perhaps}
+use Rattle.edif_spec.specs.Rows.{has_keyword, is_follower, is_one_of, FitsRow, Each, Perhaps}
 use Rattle.edif_spec.specs.Canonical.{zero_tree, interface_tree, contents_tree, view_tree, kind_word, cell_tree, make, perhaps, name_tree, name_with, number_tree, boolean_tree, value_tree, text_tree, property_tree, direction_word, direction_tree, port_name_tree, port_tree}
 use Rattle.edif_spec.specs.Means.{IsLevel, MeansName, MeansText, MeansBoolean, MeansNumber, MeansValue, MeansProperty, MeansDirection, MeansPortName, MeansPort, MeansInterface, MeansContents, MeansView, MeansKind, MeansCell}
 use Rattle.netlist_schema.specs.Typed.{IsTypedNum, IsTypedValue, IsTypedProperty}
@@ -19,7 +18,7 @@ use Rattle.edif_spec.specs.declared.keyword.Keyword.{Keyword}
 use Rattle.edif_spec.specs.declared.keyword.Keyword.TheVariants as keywords
 use Rattle.edif_spec.specs.Design as design
 use Rattle.edif_spec.proofs.Groups.{joined, Grouped, those_joined, joined_follows}
-use Rattle.edif_spec.proofs.Followers.{all_kept, none_kept, one_kept, one_dropped, all_pass, one_passes, both_pass, at_most_one, each_map, perhaps_one}
+use Rattle.edif_spec.proofs.Followers.{one_kept, all_pass, one_passes, at_most_one, each_map, perhaps_one}
 
 -- a name definition's tree is one of its choices, and means the name
 pub name_fits : (id : List ℕ) (shown : Option (List ℕ)) → IsTrue (is_one_of name_definition (name_with id shown))
@@ -98,45 +97,8 @@ port_name_fits id None None = refl
 port_name_fits id (Some text) None = refl
 port_name_fits id shown (Some n) = refl
 
--- Three groups of followers: two that may be missing, and a list. What is kept of each.
-groups : {A B C : Type 0} (p : Bare → Bool) (f : A → Bare) (g : B → Bare) (h : C → Bare) (a : Option A) (b : Option B) (cs : List C) (x y z : List Bare) →
-    filter p (perhaps f a) ≡ x → filter p (perhaps g b) ≡ y → filter p (map h cs) ≡ z → filter p (perhaps f a ++ (perhaps g b ++ map h cs)) ≡ x ++ (y ++ z)
-groups p f g h a b cs x y z e d i = filter-append p (perhaps f a) (perhaps g b ++ map h cs) ∙ (ap (λ v. v ++ filter p (perhaps g b ++ map h cs)) e ∙ ap (λ v. x ++ v) (filter-append p (perhaps g b) (map h cs) ∙ (ap (λ v. v ++ filter p (map h cs)) d ∙ ap (λ v. y ++ v) i)))
-
 pub properties_meant : (ps : List design.Property) → ValidProperties ps → Each MeansProperty (map property_tree ps) ps
 properties_meant ps h = each_map IsTypedProperty MeansProperty property_tree ps h property_meant
-
-port_meant : (p : design.Port) → ValidPort p → MeansPort (port_tree p) p
-port_meant p h =
-    let d = perhaps direction_tree p.direction in
-    let s = perhaps (text_tree keywords.Designator) p.designator in
-    let ps = map property_tree p.properties in
-    let fs : List Follower = One keywords.Direction ∷ One keywords.Designator ∷ Many keywords.Property ∷ Many keywords.Comment ∷ Many keywords.UserData ∷ [] in
-    let kept : (k : Keyword) (x y z : List Bare) → filter (has_keyword k) d ≡ x → filter (has_keyword k) s ≡ y → filter (has_keyword k) ps ≡ z → those k (d ++ (s ++ ps)) ≡ x ++ (y ++ z) = λ k. groups (has_keyword k) direction_tree (text_tree keywords.Designator) property_tree p.direction p.designator p.properties in
-    let only_directions : those keywords.Direction (d ++ (s ++ ps)) ≡ d =
-    kept keywords.Direction d [] [] (one_kept (has_keyword keywords.Direction) direction_tree p.direction (λ x. refl)) (one_dropped (has_keyword keywords.Direction) (text_tree keywords.Designator) p.designator (λ x. refl)) (none_kept (has_keyword keywords.Direction) property_tree p.properties (λ x. refl)) ∙ append-nil d in
-    let only_designators : those keywords.Designator (d ++ (s ++ ps)) ≡ s =
-    kept keywords.Designator [] s [] (one_dropped (has_keyword keywords.Designator) direction_tree p.direction (λ x. refl)) (one_kept (has_keyword keywords.Designator) (text_tree keywords.Designator) p.designator (λ x. refl)) (none_kept (has_keyword keywords.Designator) property_tree p.properties (λ x. refl)) ∙ append-nil s in
-    let only_properties : those keywords.Property (d ++ (s ++ ps)) ≡ ps =
-    kept keywords.Property [] [] ps (one_dropped (has_keyword keywords.Property) direction_tree p.direction (λ x. refl)) (one_dropped (has_keyword keywords.Property) (text_tree keywords.Designator) p.designator (λ x. refl)) (all_kept (has_keyword keywords.Property) property_tree p.properties (λ x. refl)) in
-    record {
-      name_part = port_name_tree p.name p.array;
-      inner = d ++ (s ++ ps);
-      form = record {
-        spelled = codes "port";
-        is = refl;
-        keyword = refl;
-        fits = (
-          (port_name_fits p.name.id p.name.shown p.array, tt),
-          both_pass (is_follower fs) d (s ++ ps) (one_passes (is_follower fs) direction_tree p.direction (λ x. refl)) (both_pass (is_follower fs) s ps (one_passes (is_follower fs) (text_tree keywords.Designator) p.designator (λ x. refl)) (all_pass (is_follower fs) property_tree p.properties (λ x. refl))),
-          (rw only_directions (at_most_one direction_tree p.direction), (rw only_designators (at_most_one (text_tree keywords.Designator) p.designator), tt)),
-        );
-      };
-      name = port_name_meant p.name p.array h.array;
-      direction = rw only_directions (perhaps_one MeansDirection direction_tree p.direction direction_meant);
-      designator = rw only_designators (perhaps_one (MeansText keywords.Designator) (text_tree keywords.Designator) p.designator (λ x. text_form keywords.Designator x refl ((refl, tt), refl, tt)));
-      properties = rw only_properties (properties_meant p.properties h.properties);
-    }
 
 -- a list of trees made by one function, as a group
 pub group_of : {A : Type 0} (k : Keyword) (f : A → Bare) (xs : List A) → ((x : A) → has_keyword k (f x) ≡ true) → IsTrue (list_all (has_keyword k) (map f xs))
@@ -144,6 +106,36 @@ group_of k f xs h = all_pass (has_keyword k) f xs h
 
 pub option_group : {A : Type 0} (k : Keyword) (f : A → Bare) (o : Option A) → ((x : A) → has_keyword k (f x) ≡ true) → IsTrue (list_all (has_keyword k) (perhaps f o))
 option_group k f o h = one_passes (has_keyword k) f o h
+
+port_meant : (p : design.Port) → ValidPort p → MeansPort (port_tree p) p
+port_meant p h =
+    let fs : List Follower = One keywords.Direction ∷ One keywords.Designator ∷ Many keywords.Property ∷ Many keywords.Comment ∷ Many keywords.UserData ∷ [] in
+    let gs : List (Keyword × List Bare) = (keywords.Direction, perhaps direction_tree p.direction) ∷ (keywords.Designator, perhaps (text_tree keywords.Designator) p.designator) ∷ (keywords.Property, map property_tree p.properties) ∷ [] in
+    let grouped : Grouped gs = (
+      option_group keywords.Direction direction_tree p.direction (λ x. refl),
+      (option_group keywords.Designator (text_tree keywords.Designator) p.designator (λ x. refl), (group_of keywords.Property property_tree p.properties (λ x. refl), tt)),
+    ) in
+    record {
+      name_part = port_name_tree p.name p.array;
+      inner = joined gs;
+      form = record {
+        spelled = codes "port";
+        is = refl;
+        keyword = refl;
+        fits = (
+          (port_name_fits p.name.id p.name.shown p.array, tt),
+          joined_follows fs gs refl grouped,
+          (
+            rw (those_joined keywords.Direction gs grouped) (at_most_one direction_tree p.direction),
+            (rw (those_joined keywords.Designator gs grouped) (at_most_one (text_tree keywords.Designator) p.designator), tt),
+          ),
+        );
+      };
+      name = port_name_meant p.name p.array h.array;
+      direction = rw (those_joined keywords.Direction gs grouped) (perhaps_one MeansDirection direction_tree p.direction direction_meant);
+      designator = rw (those_joined keywords.Designator gs grouped) (perhaps_one (MeansText keywords.Designator) (text_tree keywords.Designator) p.designator (λ x. text_form keywords.Designator x refl ((refl, tt), refl, tt)));
+      properties = rw (those_joined keywords.Property gs grouped) (properties_meant p.properties h.properties);
+    }
 
 interface_meant : (c : design.CellBody) → AllByRecursion ValidPort c.ports → ValidProperties c.interface_properties → MeansInterface (interface_tree c) c
 interface_meant c h k =
