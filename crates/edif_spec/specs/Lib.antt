@@ -1,10 +1,10 @@
 pub mod Arranged
 pub mod Canonical
+pub mod Defined
 pub mod Design
+pub mod InTime
 pub mod Keyword
 pub mod Means
 pub mod Plain
 pub mod Rows
-pub mod Defined
 pub mod Writable
-pub mod InTime

@@ -25,18 +25,22 @@ pub data Meant : Type 0 where
   Absent : Meant
   Several : Meant
 
+-- the place of the first name that passes a test
 abbrev pub first_place : (List ℕ → Bool) → List (List ℕ) → Option ℕ
 first_place p [] = None
 first_place p (n ∷ ns) = if p n then Some 0 else option_map (λ i. suc i) (first_place p ns)
 
+-- by how many names are the same ignoring case: none, the only one, or several
 abbrev pub only_place : ℕ → Option ℕ → Meant
 only_place n None = Absent
 only_place n (Some i) = if nat_eq n 1 then Found i else Several
 
+-- an equal name comes before all that are only the same ignoring case
 abbrev pub equal_or : Option ℕ → Meant → Meant
 equal_or (Some i) other = Found i
 equal_or None other = other
 
+-- what a name means in a scope
 abbrev pub meant : List (List ℕ) → List ℕ → Meant
 meant scope name = equal_or (first_place (equal name) scope) (only_place (count_by (same name) scope) (first_place (same name) scope))
 
@@ -49,20 +53,24 @@ MeansName t n = ((t ≡ word n.id) × (n.shown ≡ None))
 abbrev pub MeansText : Keyword → Bare → List ℕ → Type 0
 MeansText k t text = IsFormOf k t (string text ∷ []) []
 
+-- `(true)` or `(false)`
 abbrev pub MeansBoolean : Bare → Bool → Type 0
 MeansBoolean t true = IsFormOf keywords.True t [] []
 MeansBoolean t false = IsFormOf keywords.False t [] []
 
+-- an integer, or `(e mantissa exponent)`, which is kept as a pair
 abbrev pub MeansNumber : Bare → design.Num → Type 0
 MeansNumber t (numbers.Int z) = t ≡ integer z
 MeansNumber t (numbers.Scaled m x) = IsFormOf keywords.E t (integer m ∷ integer x ∷ []) [] × FitsSigned w32 x
 
+-- a value of each kind is a form of its own keyword
 abbrev pub MeansValue : Bare → design.Value → Type 0
 MeansValue t (values.Boolean b) = (u : Bare) × IsFormOf keywords.Boolean t (u ∷ []) [] × MeansBoolean u b
 MeansValue t (values.Integer z) = IsFormOf keywords.Integer t (integer z ∷ []) []
 MeansValue t (values.Number n) = (u : Bare) × IsFormOf keywords.Number t (u ∷ []) [] × MeansNumber u n
 MeansValue t (values.Text text) = IsFormOf keywords.String t (string text ∷ []) []
 
+-- a property is a key, a value and perhaps an owner
 pub record MeansProperty (t : Bare) (p : design.Property) : Type 0 where
   pub key_part : Bare
   pub value_part : Bare
@@ -76,13 +84,16 @@ pub record MeansProperty (t : Bare) (p : design.Property) : Type 0 where
 abbrev pub MeansProperties : List Bare → List design.Property → Type 0
 MeansProperties inner ps = Each MeansProperty (those keywords.Property inner) ps
 
+-- a direction's word is read ignoring case
 abbrev pub MeansDirection : Bare → design.Direction → Type 0
 MeansDirection t d = (w : List ℕ) × IsFormOf keywords.Direction t (word w ∷ []) [] × IsTrue (same w (direction_word d))
 
+-- the name of a scalar port, or that of an array with its width
 abbrev pub MeansPortName : Bare → design.Name → Option ℕ → Type 0
 MeansPortName t name None = MeansName t name
 MeansPortName t name (Some n) = (u : Bare) × IsFormOf keywords.Array t (u ∷ integer (pos n) ∷ []) [] × MeansName u name × (0 < n) × (n ≤ 65536)
 
+-- a port is its name, perhaps a direction and a designator, and its properties
 pub record MeansPort (t : Bare) (p : design.Port) : Type 0 where
   pub name_part : Bare
   pub inner : List Bare
@@ -92,6 +103,7 @@ pub record MeansPort (t : Bare) (p : design.Port) : Type 0 where
   pub designator : Perhaps (MeansText keywords.Designator) (those keywords.Designator inner) p.designator
   pub properties : MeansProperties inner p.properties
 
+-- an interface is the ports of its cell, and its own properties
 pub record MeansInterface (t : Bare) (c : design.CellBody) : Type 0 where
   pub inner : List Bare
   pub form : IsFormOf keywords.Interface t [] inner
@@ -120,6 +132,7 @@ pub record MeansViewRef (libs : List design.Lib) (own : Option ℕ) (t : Bare) (
   pub cell : MeansCellRef libs own cell_part id
   pub view : meant (design.view_id libs id ∷ []) spelled ≡ Found 0
 
+-- an instance is its name, the cell that it places, perhaps a designator, and its properties
 pub record MeansInst (libs : List design.Lib) (own : Option ℕ) (t : Bare) (i : design.Inst) : Type 0 where
   pub name_part : Bare
   pub view_part : Bare
@@ -130,9 +143,11 @@ pub record MeansInst (libs : List design.Lib) (own : Option ℕ) (t : Bare) (i :
   pub designator : Perhaps (MeansText keywords.Designator) (those keywords.Designator inner) i.designator
   pub properties : MeansProperties inner i.properties
 
+-- an instance among all of the contents
 abbrev pub MeansInstRef : List design.Inst → Bare → ℕ → Type 0
 MeansInstRef insts t i = (w : List ℕ) × IsFormOf keywords.InstanceRef t (word w ∷ []) [] × (meant (design.inst_ids insts) w ≡ Found i)
 
+-- the width of the port at a place, 0 where there is none
 abbrev pub width_at : List design.Port → ℕ → ℕ
 width_at ports i = unwrap_or (option_map design.port_width (slice_get ports i)) 0
 
@@ -142,6 +157,7 @@ MeansBit ports t port bit =
     ((w : List ℕ) × (t ≡ word w) × (meant (design.port_ids ports) w ≡ Found port) × (width_at ports port ≡ 1) × (bit ≡ 0))
     ⊎ ((w : List ℕ) × IsFormOf keywords.Member t (word w ∷ integer (pos bit) ∷ []) [] × (meant (design.port_ids ports) w ≡ Found port) × (bit < width_at ports port))
 
+-- an end is a bit of the cell's own port, or of a port of an instance
 pub record MeansEnd (libs : List design.Lib) (ports : List design.Port) (insts : List design.Inst) (t : Bare) (e : design.End) : Type 0 where
   pub bit_part : Bare
   pub inner : List Bare
@@ -149,6 +165,7 @@ pub record MeansEnd (libs : List design.Lib) (ports : List design.Port) (insts :
   pub inst : Perhaps (MeansInstRef insts) (those keywords.InstanceRef inner) e.inst
   pub bit : MeansBit (ports_of_end libs ports insts e.inst) bit_part e.port e.bit
 
+-- a net is its name, the ends that it joins, and its properties
 pub record MeansNet (libs : List design.Lib) (ports : List design.Port) (insts : List design.Inst) (t : Bare) (n : design.Net) : Type 0 where
   pub name_part : Bare
   pub joined_part : Bare
@@ -160,15 +177,18 @@ pub record MeansNet (libs : List design.Lib) (ports : List design.Port) (insts :
   pub ends : Each (MeansEnd libs ports insts) refs n.ends
   pub properties : MeansProperties inner n.properties
 
+-- contents are instances and nets, in any order among each other
 pub record MeansContents (libs : List design.Lib) (own : Option ℕ) (ports : List design.Port) (t : Bare) (c : design.Contents) : Type 0 where
   pub inner : List Bare
   pub form : IsFormOf keywords.Contents t [] inner
   pub insts : Each (MeansInst libs own) (those keywords.Instance inner) c.insts
   pub nets : Each (MeansNet libs ports c.insts) (those keywords.Net inner) c.nets
 
+-- the view is a netlist
 abbrev pub IsNetlist : Bare → Type 0
 IsNetlist t = (w : List ℕ) × IsFormOf keywords.ViewType t (word w ∷ []) [] × IsTrue (same w (codes "NETLIST"))
 
+-- a view is its name, its interface, its properties, and its contents where the cell is no leaf
 pub record MeansView (libs : List design.Lib) (own : Option ℕ) (t : Bare) (c : design.CellBody) : Type 0 where
   pub name_part : Bare
   pub type_part : Bare
@@ -181,9 +201,11 @@ pub record MeansView (libs : List design.Lib) (own : Option ℕ) (t : Bare) (c :
   pub contents : Perhaps (MeansContents libs own c.ports) (those keywords.Contents inner) c.contents
   pub properties : MeansProperties inner c.view_properties
 
+-- a cell's type is read ignoring case
 abbrev pub MeansKind : Bare → design.CellKind → Type 0
 MeansKind t k = (w : List ℕ) × IsFormOf keywords.CellType t (word w ∷ []) [] × IsTrue (same w (kind_word k))
 
+-- a cell is its name, its type, its one view, and its properties
 pub record MeansCell (libs : List design.Lib) (own : Option ℕ) (t : Bare) (c : design.CellBody) : Type 0 where
   pub name_part : Bare
   pub kind_part : Bare
@@ -209,6 +231,7 @@ pub record MeansLibrary (before : List design.Lib) (t : Bare) (l : design.Lib) :
   pub level : IsLevel keywords.EdifLevel level_part
   pub cells : EachAfter (λ cells. MeansCell (before ++ record { head = l.head; cells = cells } ∷ []) (Some (length before))) [] (those keywords.Cell inner) l.cells
 
+-- a library, or an external one
 abbrev pub is_library : Bare → Bool
 is_library t = has_keyword keywords.Library t || has_keyword keywords.External t
 
@@ -217,6 +240,7 @@ abbrev pub has_mark : Bare → Bool
 has_mark (Form' p (More k (More (Word' r n) ts))) = same n (codes "netdb_note")
 has_mark _ = false
 
+-- a note is a userData form with the mark of notes
 abbrev pub is_note : Bare → Bool
 is_note t = has_keyword keywords.UserData t && has_mark t
 
@@ -228,6 +252,7 @@ MeansPath libs id (t ∷ ts) [] = ⊥
 MeansPath libs id (t ∷ ts) (n ∷ ns) = (w : List ℕ) × (i : ℕ) × (x : design.Inst) × (t ≡ word w)
     × (meant (design.inst_ids (design.insts_at libs id)) w ≡ Found i) × (slice_get (design.insts_at libs id) i ≡ Some x) × (n ≡ x.name.id) × MeansPath libs x.of ts ns
 
+-- a note is exactly a path of at least one step and a property
 pub record MeansNote (libs : List design.Lib) (top : design.CellId) (t : Bare) (n : design.Note) : Type 0 where
   pub spelled : List ℕ
   pub mark : List ℕ
@@ -240,6 +265,7 @@ pub record MeansNote (libs : List design.Lib) (top : design.CellId) (t : Bare) (
   pub path : MeansPath libs top steps n.path
   pub property : MeansProperty property_part n.property
 
+-- a design is its name, the top cell, its properties, and the notes
 pub record MeansDesign (libs : List design.Lib) (notes : List design.Note) (t : Bare) (d : design.TopHead) : Type 0 where
   pub name_part : Bare
   pub cell_part : Bare
@@ -259,6 +285,7 @@ before_design (t ∷ ts) = if has_keyword keywords.Design t then [] else (t ∷ 
 abbrev pub libs_before_design : List Bare → List design.Lib → List design.Lib
 libs_before_design inner libs = take (length (filter is_library (before_design inner))) libs
 
+-- a file is its title, the libraries in order, the top where there is a design, and the notes; and the design is valid
 pub record MeansFile (t : Bare) (d : design.Design) : Type 0 where
   pub name_part : Bare
   pub version_part : Bare
