@@ -1,0 +1,296 @@
+//! Bytes in pieces to tokens.
+ghost use Rattle.std.specs.Prelude.{◌≡◌, ◌≢◌, ◌+◌, ◌<◌, ◌∷◌, ◌++◌, [], true, length, List, ℕ, OnOk, OnErr, IfErr, IsOkUnless};
+ghost use Rattle.std.specs.List.{list_all};
+ghost use Rattle.spelling_spec.specs.Bytes.{is_word_byte, EndsRun};
+ghost use Rattle.edif_lexer.specs.Reading.{is_open_string, is_pending, HasRead, Feeds, Finishes};
+ghost use Rattle.edif_lexer.specs.Steps.{Anything, Advances, BadEscapeOf, Ends, StopsAtEnd};
+ghost use Rattle.spelling_spec.specs.declared.token.Token.{Token};
+ghost use Rattle.edif_lexer.specs.declared.errors.LexError.{LexError};
+
+use crate::errors::LexError;
+use crate::strings::decode;
+use crate::words::{is_word_byte, word_kind};
+use spelling_spec::{LexKind, Token, TokenKind};
+use std::alloc::Global;
+use std::marker::Model;
+
+/// Whether a lexer goes on.
+#[derive(Clone, Copy, Debug, PartialEq, Eq)]
+pub enum State {
+    /// Bytes may be fed.
+    Running,
+    /// An earlier call answered this error, and so does each later one.
+    Failed(LexError),
+    /// `finish` was Ok.
+    Finished,
+}
+
+/// Reads a text that comes in pieces. A token that has begun is kept until its end comes, in whatever piece.
+#[derive(Drop)]
+pub struct Lexer {
+    alloc: Global,
+    start: u64,
+    pending: Vec<u8>,
+    state: State,
+}
+
+impl Model for Lexer {
+    ghost use Rattle.std.specs.Prelude.{◌≡◌, true};
+    ghost use Rattle.edif_lexer.specs.Reading.{Reading, is_pending};
+
+    ghost Value = { Reading };
+
+    ghost view = { λ s. record { start = s.start; pending = s.pending.items; state = s.state } };
+
+    ghost invariant = { λ s. is_pending s.pending.items ≡ true };
+}
+
+impl Lexer {
+    /// A lexer that was fed no bytes. Takes no memory.
+    pub fn new(alloc: Global) -> Lexer
+        ensures { HasRead result [] [] }
+    {
+        Lexer {
+            alloc,
+            start: 0,
+            pending: Vec::new(alloc),
+            state: State::Running,
+        }
+    }
+
+    /// One more byte of a token.
+    fn keep(&mut self, byte: u8) -> Result<(), LexError>
+        requires { is_pending (self.old.pending ++ byte ∷ []) ≡ true }
+        ensures ok { OnOk result (self.new ≡ record self.old { pending = self.old.pending ++ byte ∷ [] }) }
+        ensures err { OnErr result (self.new ≡ self.old) }
+        ensures memory { IsOkUnless result LexError.NoMemory }
+    {
+        self.pending.push(byte)?;
+        Ok(())
+    }
+
+    /// The bytes up to here are read.
+    fn pass(&mut self, count: u64) -> Result<(), LexError>
+        ensures ok { OnOk result (self.new ≡ record self.old { start = self.old.start + count; pending = [] }) }
+        ensures err { OnErr result (self.new ≡ self.old) }
+        ensures memory { IsOkUnless result LexError.NoMemory }
+    {
+        match self.start.checked_add(count) {
+            Some(start) => {
+                self.start = start;
+                self.pending.clear();
+                Ok(())
+            }
+            None => Err(LexError::NoMemory),
+        }
+    }
+
+    /// A token of so many bytes ends here.
+    fn hand_out(
+        &mut self,
+        kind: TokenKind,
+        count: u64,
+        out: &mut Vec<Token>,
+    ) -> Result<(), LexError>
+        ensures ok { OnOk result ((out.new.items ≡ out.old.items ++ record { kind = kind; place = self.old.start } ∷ [])
+            × (self.new ≡ record self.old { start = self.old.start + count; pending = [] })) }
+        ensures err { OnErr result (out.new.items ≡ out.old.items) }
+        ensures memory { IsOkUnless result LexError.NoMemory }
+    {
+        let place = self.start;
+        self.pass(count)?;
+        out.push(Token { kind, place })?;
+        Ok(())
+    }
+
+    /// The first byte of a token, or a byte of none.
+    fn begin(&mut self, byte: u8, out: &mut Vec<Token>) -> Result<(), LexError>
+        requires { self.old.pending ≡ [] }
+        ensures { (gained : List Token) × (out.new.items ≡ out.old.items ++ gained)
+            × Advances Anything self.old (byte ∷ []) self.new gained result }
+    {
+        match byte {
+            b'(' => self.hand_out(TokenKind::LeftParen, 1, out),
+            b')' => self.hand_out(TokenKind::RightParen, 1, out),
+            b'"' => self.keep(byte),
+            _ if byte.is_ascii_whitespace() => self.pass(1),
+            _ if is_word_byte(byte) => self.keep(byte),
+            _ => Err(LexError::At {
+                kind: LexKind::BadByte,
+                place: self.start,
+            }),
+        }
+    }
+
+    /// No more bytes of the word come.
+    fn end_word(&mut self, out: &mut Vec<Token>) -> Result<(), LexError>
+        requires begun { 0 < length self.old.pending }
+        requires word { list_all is_word_byte self.old.pending ≡ true }
+        ensures read { (gained : List Token) × (out.new.items ≡ out.old.items ++ gained)
+            × Advances (EndsRun is_word_byte) self.old [] self.new gained result }
+        ensures ended { OnOk result (self.new.pending ≡ []) }
+    {
+        let count = self.pending.len() as u64;
+        match word_kind(self.alloc, &self.pending)? {
+            Ok(kind) => self.hand_out(kind, count, out),
+            Err(kind) => Err(LexError::At {
+                kind,
+                place: self.start,
+            }),
+        }
+    }
+
+    /// The closing quote of the string comes.
+    fn end_string(&mut self, out: &mut Vec<Token>) -> Result<(), LexError>
+        requires { is_open_string self.old.pending ≡ true }
+        ensures { (gained : List Token) × (out.new.items ≡ out.old.items ++ gained)
+            × Advances Anything self.old (34 ∷ []) self.new gained result }
+    {
+        let count = self.pending.len() as u64;
+        match decode(self.alloc, &self.pending[1..], true)? {
+            Ok(text) => self.hand_out(TokenKind::String(text), count + 1, out),
+            Err(at) => Err(self.bad_escape(at)),
+        }
+    }
+
+    /// The fault of an escape before whose `%` so many bytes of the string stand.
+    fn bad_escape(&self, at: usize) -> LexError
+        ensures { BadEscapeOf self.now at result }
+    {
+        match self.start.checked_add(at as u64) {
+            Some(before) if before < u64::MAX => LexError::At {
+                kind: LexKind::BadEscape,
+                place: before + 1,
+            },
+            _ => LexError::NoMemory,
+        }
+    }
+
+    /// The next byte of the text.
+    fn step(&mut self, byte: u8, out: &mut Vec<Token>) -> Result<(), LexError>
+        ensures { (gained : List Token) × (out.new.items ≡ out.old.items ++ gained)
+            × Advances Anything self.old (byte ∷ []) self.new gained result }
+    {
+        match self.pending.first().copied() {
+            None => self.begin(byte, out),
+            Some(b'"') => {
+                if byte == b'"' {
+                    self.end_string(out)
+                } else {
+                    self.keep(byte)
+                }
+            }
+            Some(_) => {
+                if is_word_byte(byte) {
+                    self.keep(byte)
+                } else {
+                    self.end_word(out)?;
+                    self.begin(byte, out)
+                }
+            }
+        }
+    }
+
+    /// The next bytes of the text.
+    fn run(&mut self, piece: &[u8], out: &mut Vec<Token>) -> Result<(), LexError>
+        ensures { (gained : List Token) × (out.new.items ≡ out.old.items ++ gained)
+            × Advances Anything self.old piece.now self.new gained result }
+    {
+        for byte in piece {
+            self.step(*byte, out)?;
+        }
+        Ok(())
+    }
+
+    /// No more bytes come.
+    fn end(&mut self, out: &mut Vec<Token>) -> Result<u64, LexError>
+        ensures { (gained : List Token) × (out.new.items ≡ out.old.items ++ gained)
+            × Ends self.old gained result }
+    {
+        match self.pending.first().copied() {
+            None => Ok(self.start),
+            Some(b'"') => Err(self.open_string()),
+            Some(_) => {
+                self.end_word(out)?;
+                Ok(self.start)
+            }
+        }
+    }
+
+    /// The text ends inside a string.
+    fn open_string(&self) -> LexError
+        requires { is_open_string self.now.pending ≡ true }
+        ensures { StopsAtEnd self.now [] result }
+    {
+        match decode(self.alloc, &self.pending[1..], false) {
+            Ok(Ok(_)) => LexError::At {
+                kind: LexKind::BadString,
+                place: self.start,
+            },
+            Ok(Err(at)) => self.bad_escape(at),
+            Err(_) => LexError::NoMemory,
+        }
+    }
+
+    /// From here on each call answers this error.
+    fn fail(&mut self, error: LexError) -> LexError
+        ensures value { result ≡ error }
+        ensures kept { self.new ≡ record self.old { state = State.Failed error } }
+    {
+        self.state = State::Failed(error);
+        error
+    }
+
+    /// Reads the next piece, and appends to `out` the tokens that it completes: those after which the text may go on in any
+    /// way. A word at the end of the piece is not complete, since more of it may come.
+    ///
+    /// `LexError::At` is the first lexical fault of the text whatever follows, and the tokens before it are all appended.
+    /// After `LexError::NoMemory` a prefix of the tokens is appended. After either error each later call answers the same
+    /// error and appends nothing.
+    pub fn feed(&mut self, piece: &[u8], out: &mut Vec<Token>) -> Result<(), LexError>
+        requires { self.old.state ≢ State.Finished }
+        ensures read { (gained : List Token) × (out.new.items ≡ out.old.items ++ gained)
+            × ((fed : List ℕ) (handed : List Token) → HasRead self.old fed handed
+            → Feeds fed piece.now handed gained self.new result) }
+        ensures ok { OnOk result (self.new.state ≡ State.Running) }
+        ensures err { IfErr result (λ error. self.new.state ≡ State.Failed error) }
+        ensures again { (error : LexError) → self.old.state ≡ State.Failed error
+            → (result ≡ Err error) × (self.new ≡ self.old) × (out.new.items ≡ out.old.items) }
+    {
+        if let State::Failed(error) = self.state {
+            return Err(error);
+        }
+        match self.run(piece, out) {
+            Ok(()) => Ok(()),
+            Err(error) => Err(self.fail(error)),
+        }
+    }
+
+    /// The text ends here: appends a last word to `out`, and answers the number of bytes of the text. After Ok the lexer is
+    /// done.
+    ///
+    /// `LexError::At` is the first lexical fault of the text, and the tokens before it are all appended. After
+    /// `LexError::NoMemory` a prefix of the tokens is appended. After either error each later call answers the same error
+    /// and appends nothing.
+    pub fn finish(&mut self, out: &mut Vec<Token>) -> Result<u64, LexError>
+        requires { self.old.state ≢ State.Finished }
+        ensures read { (gained : List Token) × (out.new.items ≡ out.old.items ++ gained)
+            × ((fed : List ℕ) (handed : List Token) → HasRead self.old fed handed
+            → Finishes fed handed gained result) }
+        ensures ok { OnOk result (self.new.state ≡ State.Finished) }
+        ensures err { IfErr result (λ error. self.new.state ≡ State.Failed error) }
+        ensures again { (error : LexError) → self.old.state ≡ State.Failed error
+            → (result ≡ Err error) × (self.new ≡ self.old) × (out.new.items ≡ out.old.items) }
+    {
+        if let State::Failed(error) = self.state {
+            return Err(error);
+        }
+        match self.end(out) {
+            Ok(count) => {
+                self.state = State::Finished;
+                Ok(count)
+            }
+            Err(error) => Err(self.fail(error)),
+        }
+    }
+}
