@@ -1,0 +1,9 @@
+pub mod Calls
+pub mod Facts
+pub mod Keeps
+pub mod Line
+pub mod Logs
+pub mod Rows
+pub mod Same
+pub mod Views
+pub mod Works

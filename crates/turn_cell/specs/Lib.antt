@@ -1,0 +1,4 @@
+pub mod Rule
+pub mod Seats
+pub mod Steps
+pub mod Views
