@@ -1,0 +1,9 @@
+use Rattle.std.proofs.Common.{suc}
+use Rattle.edif_writer.proofs.ListTexts.{port_text}
+use Rattle.edif_writer.proofs.WrittenLemmas.{writes_then, writes_same}
+use Rattle.edif_writer.proofs.cell.write_port.Goals as goal
+
+pub returns : goal.returns
+returns g c level = writes_same (port_text level c.args.port.now)
+    (writes_then c.put.ensures (writes_then (c.write_port_name.ensures (suc level)) (writes_then (writes_same (c.direction_text.ensures level) c.put-2.ensures)
+    (writes_then c.write_text_form.ensures (writes_then (c.write_properties.ensures level) c.put-3.ensures)))))

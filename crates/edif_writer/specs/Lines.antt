@@ -1,0 +1,18 @@
+-- The arguments of a form, as they are written one after another.
+use Rattle.std.specs.Prelude.{ℕ, suc, List, [], ◌∷◌, ◌++◌, Option, Some, None}
+use Rattle.std.specs.List.{flat_map}
+use Rattle.spelling_spec.specs.Tree.{Bare}
+use Rattle.edif_spec.specs.Canonical.{layout, new_line, string_text}
+
+-- on the line of the form, each behind a blank
+abbrev pub spaced : ℕ → List Bare → List ℕ
+spaced level ts = flat_map (λ t. 32 ∷ layout (suc level) t) ts
+
+-- each on a line of its own
+abbrev pub lined : ℕ → List Bare → List ℕ
+lined level ts = flat_map (λ t. new_line level ++ layout (suc level) t) ts
+
+-- a text, where there is one, between the beginning of its form and `)`
+abbrev pub enclosed : List ℕ → Option (List ℕ) → List ℕ
+enclosed opening None = []
+enclosed opening (Some text) = opening ++ (string_text text ++ 41 ∷ [])

@@ -1,0 +1,105 @@
+//! Libraries, with their cells.
+ghost use Rattle.std.specs.Prelude.{◌≡◌, ◌∷◌, ◌++◌, Some, map};
+ghost use Rattle.edif_spec.specs.Canonical.{layout, new_line, name_text, library_keyword, cell_tree, library_tree};
+ghost use Rattle.edif_spec.specs.Design.{CellBody, Lib};
+ghost use Rattle.edif_spec.specs.Keyword.{spelling_of};
+ghost use Rattle.edif_spec.specs.Plain.{IsPlainDesign};
+ghost use Rattle.edif_writer.specs.Lines.{lined};
+ghost use Rattle.edif_writer.specs.Written.{Writes};
+ghost use Rattle.netlist_schema.specs.Design.{lib_at, cells_in, cell_at};
+
+use crate::cell::write_cell;
+use crate::page::Page;
+use crate::small::write_name;
+use netdb_outside::Sink;
+use netlist_schema::{CellId, LibId, Shown};
+use std::alloc::Global;
+
+/// How the form of a library begins.
+fn library_opening(is_external: bool) -> &'static [u8]
+    ensures { result.now ≡ 40 ∷ name_text (spelling_of (library_keyword is_external)) }
+{
+    if is_external {
+        b"(external"
+    } else {
+        b"(library"
+    }
+}
+
+/// Writes a cell on a line of its own, where there is such a cell.
+fn write_cell_line<S: Shown, K: Sink>(
+    alloc: Global,
+    design: &S,
+    id: CellId,
+    page: &mut Page,
+    out: &mut K,
+)
+    requires { IsPlainDesign (S.design design.now) }
+    ensures { (c : CellBody) → cell_at (S.design design.now) id ≡ Some c
+        → Writes K.written K.faults out.old page.old out.new page.new (new_line 2 ++ layout 3 (cell_tree (S.design design.now).libs c)) }
+{
+    if page.is_stuck() {
+        return;
+    }
+    if let Some(body) = design.cell(id) {
+        page.put(b"\n  ", out);
+        write_cell(alloc, body, page, out);
+    }
+}
+
+/// Writes the cells of a library on lines of their own, in the order of the directory.
+fn write_cell_lines<S: Shown, K: Sink>(
+    alloc: Global,
+    design: &S,
+    lib: LibId,
+    page: &mut Page,
+    out: &mut K,
+)
+    requires { IsPlainDesign (S.design design.now) }
+    ensures { Writes K.written K.faults out.old page.old out.new page.new (lined 2 (map (cell_tree (S.design design.now).libs) (cells_in (S.design design.now) lib))) }
+{
+    for slot in 0..design.cell_count(lib) {
+        write_cell_line(alloc, design, CellId { lib, slot }, page, out);
+    }
+}
+
+/// Writes a library on a line of its own, where there is such a library.
+fn write_library_line<S: Shown, K: Sink>(
+    alloc: Global,
+    design: &S,
+    lib: LibId,
+    page: &mut Page,
+    out: &mut K,
+)
+    requires { IsPlainDesign (S.design design.now) }
+    ensures { (l : Lib) → lib_at (S.design design.now) lib ≡ Some l
+        → Writes K.written K.faults out.old page.old out.new page.new (new_line 1 ++ layout 2 (library_tree (S.design design.now).libs l)) }
+{
+    if page.is_stuck() {
+        return;
+    }
+    if let Some(head) = design.lib(lib) {
+        page.put(b"\n ", out);
+        page.put(library_opening(head.external), out);
+        page.put(b" ", out);
+        write_name(alloc, &head.name, page, out);
+        page.put(b"\n  (edifLevel 0)\n  (technology (numberDefinition))", out);
+        write_cell_lines(alloc, design, lib, page, out);
+        page.put(b")", out);
+    }
+}
+
+/// Writes the libraries on lines of their own, in order.
+pub fn write_library_lines<S: Shown, K: Sink>(
+    alloc: Global,
+    design: &S,
+    page: &mut Page,
+    out: &mut K,
+)
+    requires { IsPlainDesign (S.design design.now) }
+    ensures { Writes K.written K.faults out.old page.old out.new page.new (lined 1 (map (library_tree (S.design design.now).libs) (S.design design.now).libs)) }
+{
+    for lib in 0..design.lib_count() {
+        write_library_line(alloc, design, LibId(lib), page, out);
+    }
+}

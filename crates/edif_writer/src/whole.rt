@@ -1,0 +1,51 @@
+//! Whole designs.
+ghost use Rattle.std.specs.Prelude.{◌≡◌, ◌≤◌, OnErr, OnOk, IsErrOf};
+ghost use Rattle.edif_spec.specs.Arranged.{canonical_text};
+ghost use Rattle.edif_spec.specs.Canonical.{text};
+ghost use Rattle.edif_spec.specs.Plain.{IsPlainDesign};
+ghost use Rattle.edif_writer.specs.Written.{Writes};
+ghost use Rattle.edif_writer.specs.declared.error.WriteError.TheVariants.{WriteFault};
+ghost use Rattle.netdb_outside.specs.Outside.{Appends, AppendsFront, Rose};
+
+use crate::error::WriteError;
+use crate::library::write_library_lines;
+use crate::page::Page;
+use crate::small::write_name;
+use netdb_outside::Sink;
+use netlist_schema::Shown;
+use std::alloc::Global;
+
+/// Writes the canonical text of a design, in pieces of some kilobytes: memory is wanted for a piece, and never for the whole
+/// text. The design is one of leaf cells with scalar ports.
+///
+/// After an error a front of the text was written, and no more. `WriteFault` comes only where the sink had a fault.
+pub fn write_design<S: Shown, K: Sink>(
+    alloc: Global,
+    design: &S,
+    out: &mut K,
+) -> Result<(), WriteError>
+    requires { IsPlainDesign (S.design design.now) }
+    ensures ok { OnOk result (Appends (K.written out.old) (K.written out.new) (canonical_text (S.design design.now))) }
+    ensures err { OnErr result (AppendsFront (K.written out.old) (K.written out.new) (canonical_text (S.design design.now))) }
+    ensures fault { IsErrOf result WriteFault → Rose (K.faults out.old) (K.faults out.new) }
+    ensures never_falls { K.faults out.old ≤ K.faults out.new }
+{
+    let mut page = Page::new(alloc);
+    write_file(alloc, design, &mut page, out);
+    page.finish(out)
+}
+
+/// Writes the text of a design, with its cells in the order of the directories.
+fn write_file<S: Shown, K: Sink>(alloc: Global, design: &S, page: &mut Page, out: &mut K)
+    requires { IsPlainDesign (S.design design.now) }
+    ensures { Writes K.written K.faults out.old page.old out.new page.new (text (S.design design.now)) }
+{
+    page.put(b"(edif ", out);
+    write_name(alloc, design.title(), page, out);
+    page.put(
+        b"\n (edifVersion 2 0 0)\n (edifLevel 0)\n (keywordMap (keywordLevel 0))",
+        out,
+    );
+    write_library_lines(alloc, design, page, out);
+    page.put(b")\n", out);
+}

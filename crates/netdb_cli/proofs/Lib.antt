@@ -1,0 +1,13 @@
+pub mod BytesLemmas
+pub mod CellLemmas
+pub mod DepthLemmas
+pub mod EachLemmas
+pub mod FileLemmas
+pub mod LeafLemmas
+pub mod LexLemmas
+pub mod LibLemmas
+pub mod NameLemmas
+pub mod PieceLemmas
+pub mod RunLemmas
+pub mod ShapeLemmas
+pub mod WordLemmas

@@ -1,0 +1,77 @@
+-- What a call of the program answers, why, and what it wrote.
+use Rattle.std.specs.Prelude.{◌≡◌, ◌⊎◌, ℕ, List, [], ◌∷◌, drop, Option, None, IfSome, IsSomeAnd, MatchOption, Contains}
+use Rattle.netlist_schema.specs.Design.{Design}
+use Rattle.netlist_schema.specs.Valid.{IsValid}
+use Rattle.netdb_outside.specs.Outside.{Shelf, Appends, AppendsFront, Rose, file_named}
+use Rattle.spelling_spec.specs.Spelling.{Spells}
+use Rattle.spelling_spec.specs.Tree.{Bare}
+use Rattle.edif_spec.specs.Arranged.{canonical_text}
+use Rattle.edif_spec.specs.Means.{MeansFile}
+use Rattle.edif_spec.specs.Plain.{IsPlainDesign, IsPlainFile}
+use Rattle.netdb_cli.specs.declared.status.Status.{Status}
+use Rattle.netdb_cli.specs.declared.status.Status.TheVariants as status
+use Rattle.netdb_cli.specs.declared.status.EdifFault.TheVariants.{NotPlain}
+
+-- these bytes are no plain file
+abbrev pub IsNoPlainFile : List ℕ → Type 0
+IsNoPlainFile bytes = (d : Design) → IsPlainFile bytes d → ⊥
+
+-- where files are told: there is none of this name
+abbrev pub IsMissing : Option Shelf → List ℕ → Type 0
+IsMissing told name = IfSome told (λ shelf. file_named shelf.files name ≡ None)
+
+-- where files are told: the file of this name is no plain file
+abbrev pub IsNotPlain : Option Shelf → List ℕ → Type 0
+IsNotPlain told name = IfSome told (λ shelf. IsSomeAnd (file_named shelf.files name) IsNoPlainFile)
+
+-- where files are told: the file of this name is a plain file of this design
+abbrev pub IsFileOf : Option Shelf → List ℕ → Design → Type 0
+IsFileOf told name d = IfSome told (λ shelf. IsSomeAnd (file_named shelf.files name) (λ bytes. IsPlainFile bytes d))
+
+-- a design that was read from the file: it is plain and valid, and the file, where it is told, is a plain file of it
+pub record IsRead (told : Option Shelf) (name : List ℕ) (d : Design) : Type 0 where
+  pub plain : IsPlainDesign d
+  pub valid : IsValid d
+  pub file : IsFileOf told name d
+
+-- the bytes spell a tree that means the design
+abbrev pub ReadsBack : List ℕ → Design → Type 0
+ReadsBack bytes d = (t : Bare) × Spells bytes t × MeansFile t d
+
+-- the canonical text of a design that was read from the file was written whole, and it reads back as that design
+abbrev pub WritesWhole : Option Shelf → List ℕ → Option (List ℕ) → Option (List ℕ) → Type 0
+WritesWhole told name old new = (d : Design) × IsRead told name d × Appends old new (canonical_text d) × ReadsBack (canonical_text d) d
+
+-- a front of the canonical text of a design that was read from the file was written
+abbrev pub WritesFront : Option Shelf → List ℕ → Option (List ℕ) → Option (List ℕ) → Type 0
+WritesFront told name old new = (d : Design) × IsRead told name d × AppendsFront old new (canonical_text d)
+
+-- where files are told: the file of this name was read to its end, or to one byte past the size of a design file
+abbrev pub IsReadThrough : Option Shelf → List ℕ → Type 0
+IsReadThrough told name = IfSome told (λ shelf. IsSomeAnd (file_named shelf.files name) (λ bytes. shelf.rest ≡ drop 134217729 bytes))
+
+-- what holds of the outside before and after a call: the files with their rest, the count of their faults, what was written, and the count of the sink's faults
+pub record Outside : Type 0 where
+  pub files : Option Shelf
+  pub read_faults : ℕ
+  pub written : Option (List ℕ)
+  pub write_faults : ℕ
+
+-- Why `write` of the file of this name answers this status, and what it wrote. Where files are told, the causes exclude each
+-- other, so each status comes exactly where its cause holds, unless a fault or want of memory comes instead.
+abbrev pub WriteGives : List ℕ → Outside → Outside → Status → Type 0
+WriteGives name old new status.Ok = WritesWhole new.files name old.written new.written × IsReadThrough new.files name
+WriteGives name old new status.Usage = ⊥
+WriteGives name old new (status.Missing word) = (word ≡ 1) × IsMissing new.files name × (new.written ≡ old.written)
+WriteGives name old new (status.ReadFault word) = (word ≡ 1) × Rose old.read_faults new.read_faults × (new.written ≡ old.written)
+WriteGives name old new status.WriteFault = WritesFront new.files name old.written new.written × IsReadThrough new.files name × Rose old.write_faults new.write_faults
+WriteGives name old new (status.BadEdif fault) = (fault ≡ NotPlain) × IsNotPlain new.files name × IsReadThrough new.files name × (new.written ≡ old.written)
+WriteGives name old new status.NoMemory = (new.written ≡ old.written) ⊎ WritesFront new.files name old.written new.written
+
+-- Where files are told: where there is no file of this name, its being missing is answered, or a fault in reading it, or want of
+-- memory; where it is no plain file, that is answered, or a fault in reading it, or want of memory; and where it is one, neither.
+abbrev pub IsDue : Option Shelf → List ℕ → Status → Type 0
+IsDue told name result = IfSome told (λ shelf. MatchOption (file_named shelf.files name)
+    (Contains (status.Missing 1 ∷ status.ReadFault 1 ∷ status.NoMemory ∷ []) result)
+    (λ bytes. (IsNoPlainFile bytes → Contains (status.BadEdif NotPlain ∷ status.ReadFault 1 ∷ status.NoMemory ∷ []) result)
+    × ((d : Design) → IsPlainFile bytes d → Contains (status.Ok ∷ status.ReadFault 1 ∷ status.WriteFault ∷ status.NoMemory ∷ []) result)))

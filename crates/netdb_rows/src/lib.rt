@@ -1,0 +1,5 @@
+//! The worked rows of the program, run on its top call over files and a sink in memory.
+#![tactic(auto)]
+
+#[cfg(test)]
+mod rows;
