@@ -1,0 +1,16 @@
+pub mod Chains
+pub mod Connection
+pub mod ConnectionTest
+pub mod Effective
+pub mod ExampleFeedthrough
+pub mod ExampleParts
+pub mod Flattening
+pub mod HandedDown
+pub mod Occurrences
+pub mod PathOrder
+pub mod Paths
+pub mod Representatives
+pub mod Steps
+pub mod Trees
+pub mod Typed
+pub mod Types
