@@ -1,7 +1,7 @@
 -- The list of occurrences has each path below the root, in order, and the list of nets each net.
 use Rattle.std.proofs.Common.{◌≡◌, ◌<◌, ◌≤◌, ◌⊎◌, ℕ, zero, suc, ◌+◌, List, [], ◌∷◌, ◌++◌, length, map, refl, sym, ap, subst, ◌∙◌, inl, inr, arith, Some, zero-add, add-zero, add-one}
 use Rattle.std.specs.Prelude.{slice_get}
-use Rattle.std.specs.List.{flat_map, range_with_len}
+use Rattle.std.specs.List.{enumerate_from, flat_map, range_with_len}
 use Rattle.std.proofs.lemmas.Option.{none-some}
 use Rattle.netlist_schema.specs.Design.{Design}
 use Rattle.netlist_schema.specs.Hierarchy.{insts_at, NoCellIsBelowItself}
@@ -13,7 +13,7 @@ use Rattle.flat_spec.specs.Trees.{Forest, Bare, Grown, Tree, UnfoldEach, Unfolds
 use Rattle.flat_spec.specs.declared.item.NetAt.{NetAt}
 use Rattle.flat_spec.proofs.ListLemmas.{Member, Member-append_left, Member-append_right, Member-append_cases, Member-map, Member-from_map, Contains-member, Member-contains, Ascends, Ascends-append, Ascends-map, Ascends-pairs}
 use Rattle.flat_spec.proofs.PathLemmas.{Some-same, Reaches-parts, Reaches-cons, IsNet-parts, IsNet-from}
-use Rattle.flat_spec.proofs.TreeLemmas.{tree-unfolds}
+use Rattle.flat_spec.proofs.TreeLemmas.{tree-unfolds, Unfolds-same}
 
 abbrev root_and_below : CellId → Forest → List Occurrence
 root_and_below cell below = record { path = []; cell = cell } ∷ occurrences_from 0 below
@@ -156,6 +156,28 @@ occurrences_are_all d root acyclic = record {
   );
   in_order = Ascends-pairs OccurrenceBefore (occurrences d root) (occurrences_in-ascends (tree d root));
 }
+
+-- trees that unfold instances have the occurrences of the instances' cells
+occurrences_from-each : (d : Design) → NoCellIsBelowItself d → (f : Forest) (insts : List Inst) (i : ℕ) → UnfoldEach d insts f
+    → occurrences_from i f ≡ flat_map (λ (p : ℕ × Inst). map (under p.0) (occurrences d p.1.of)) (enumerate_from i insts)
+occurrences_from-each d acyclic Bare [] i u = refl
+occurrences_from-each d acyclic Bare (inst ∷ insts) i u = absurd u
+occurrences_from-each d acyclic (Grown cell below others) [] i u = absurd u
+occurrences_from-each d acyclic (Grown cell below others) (inst ∷ insts) i u =
+    let one : record { cell = cell; below = below } ≡ tree d inst.of = Unfolds-same d inst.of (record { cell = cell; below = below }) (tree d inst.of) (u.0, u.1) (tree-unfolds d acyclic inst.of) in
+    let later = occurrences_from-each d acyclic others insts (suc i) u.2 in
+    let each = λ (p : ℕ × Inst). map (under p.0) (occurrences d p.1.of) in
+    cc (ap (λ (t : Tree). map (under i) (occurrences_in t)) one, later, ap (λ k. flat_map each (enumerate_from k insts)) (add-one i))
+
+pub occurrences_go_down : (d : Design) (root : CellId) → NoCellIsBelowItself d
+    → occurrences d root
+    ≡ record { path = []; cell = root } ∷ flat_map (λ (p : ℕ × Inst). map (under p.0) (occurrences d p.1.of)) (enumerate_from 0 (insts_at d root))
+occurrences_go_down d root acyclic =
+    let u = tree-unfolds d acyclic root in
+    let each = occurrences_from-each d acyclic (tree d root).below (insts_at d root) 0 u.1 in
+    let head : ◌≡◌ {A = Occurrence} (record { path = []; cell = (tree d root).cell }) (record { path = []; cell = root }) =
+    λ i. record { path = []; cell = u.0 i } in
+    λ i. head i ∷ each i
 
 range_with_len-least : (n count k : ℕ) → Member (range_with_len n count) k → n ≤ k
 range_with_len-least n zero k m = absurd m

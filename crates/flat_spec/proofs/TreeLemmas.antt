@@ -106,7 +106,7 @@ ids_from-member lib (x ∷ xs) (suc k) l j b e f =
     Member-append_right (ids_in lib 0 x.cells) (ids_from (suc lib) xs) _
     (subst (λ n. Member (ids_from (suc lib) xs) (record { lib = record { 0 = n }; slot = j })) sum (ids_from-member (suc lib) xs k l j b e f))
 
-lib_found : (o : Option Lib) (slot : ℕ) (body : CellBody) → slice_get (option_map_or (λ (l : Lib). l.cells) o []) slot ≡ Some body
+pub lib_found : (o : Option Lib) (slot : ℕ) (body : CellBody) → slice_get (option_map_or (λ (l : Lib). l.cells) o []) slot ≡ Some body
     → (l : Lib) × (o ≡ Some l) × (slice_get l.cells slot ≡ Some body)
 lib_found None slot body e = absurd (none-some body e)
 lib_found (Some l) slot body e = (l, refl, e)

@@ -9,6 +9,10 @@ use Rattle.flat_spec.specs.Paths.{Bit, own, on}
 abbrev pub named : List ℕ → Name
 named id = record { id = id; shown = None }
 
+-- a name with the text of a rename
+abbrev pub renamed : List ℕ → List ℕ → Name
+renamed id text = record { id = id; shown = Some text }
+
 abbrev pub id_of : ℕ → ℕ → CellId
 id_of lib slot = record { lib = record { 0 = lib }; slot = slot }
 
@@ -16,18 +20,31 @@ abbrev pub scalar : List ℕ → Direction → Port
 scalar name direction =
     record { name = named name; array = None; direction = Some direction; designator = None; properties = [] }
 
+abbrev pub array : Name → ℕ → Direction → Port
+array name width direction =
+    record { name = name; array = Some width; direction = Some direction; designator = None; properties = [] }
+
+abbrev pub own_bit : ℕ → ℕ → End
+own_bit port bit = own (record { port = port; bit = bit })
+
 -- the only bit of a scalar port, as the cell's own and on an instance
 abbrev pub own_port : ℕ → End
-own_port port = own (record { port = port; bit = 0 })
+own_port port = own_bit port 0
 
 abbrev pub on_port : ℕ → ℕ → End
 on_port inst port = on inst (record { port = port; bit = 0 })
 
+abbrev pub inst_named : Name → CellId → List Property → Inst
+inst_named name of properties = record { name = name; of = of; designator = None; properties = properties }
+
 abbrev pub inst : List ℕ → CellId → List Property → Inst
-inst name of properties = record { name = named name; of = of; designator = None; properties = properties }
+inst name of properties = inst_named (named name) of properties
+
+abbrev pub net_named : Name → List End → Net
+net_named name ends = record { name = name; ends = ends; properties = [] }
 
 abbrev pub net : List ℕ → List End → Net
-net name ends = record { name = named name; ends = ends; properties = [] }
+net name ends = net_named (named name) ends
 
 -- the property of this key whose value is a text
 abbrev pub says : List ℕ → List ℕ → Property

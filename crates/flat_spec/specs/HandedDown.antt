@@ -43,7 +43,7 @@ pub record IsFirstInside (d : Design) (c : CellId) (n first : ℕ) : Type 0 wher
 -- a net has the representative of each net of the parent that is handed down to it
 abbrev pub RepresentativesAreHandedDown : Type 0
 RepresentativesAreHandedDown = (d : Design) (root : CellId) (o : Inner) (m n : ℕ)
-    → NoCellIsBelowItself d → IsInner d root o → IsNet d o.cell (at_root n) → IsHandedDown d root o m n
+    → NoCellIsBelowItself d → IsInner d root o → IsHandedDown d root o m n
     → representative d root (inner_net o n) ≡ representative d root (outer_net o m)
 
 -- where none is, its representative is the first net of the same contents that is connected with it in the tree of the cell

@@ -2,8 +2,11 @@ pub mod Chains
 pub mod Connection
 pub mod ConnectionTest
 pub mod Effective
+pub mod ExampleCounter
 pub mod ExampleFeedthrough
+pub mod ExampleNotes
 pub mod ExampleParts
+pub mod ExampleTower
 pub mod Flattening
 pub mod HandedDown
 pub mod Occurrences

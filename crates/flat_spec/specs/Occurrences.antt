@@ -1,8 +1,8 @@
 -- The occurrences of a tree in path order, and their nets.
-use Rattle.std.specs.Prelude.{◌↔◌, ℕ, suc, List, [], ◌∷◌, ◌++◌, length, map}
-use Rattle.std.specs.List.{AllPairs, Contains, flat_map, range_with_len}
+use Rattle.std.specs.Prelude.{◌≡◌, ◌↔◌, ℕ, suc, List, [], ◌∷◌, ◌++◌, length, map}
+use Rattle.std.specs.List.{AllPairs, Contains, enumerate_from, flat_map, range_with_len}
 use Rattle.netlist_schema.specs.Design.{Design}
-use Rattle.netlist_schema.specs.Hierarchy.{NoCellIsBelowItself}
+use Rattle.netlist_schema.specs.Hierarchy.{insts_at, NoCellIsBelowItself}
 use Rattle.netlist_schema.specs.Types.{CellId}
 use Rattle.flat_spec.specs.PathOrder.{PathBefore, NetBefore}
 use Rattle.flat_spec.specs.Paths.{nets_at, at_path, Reaches, IsNet}
@@ -56,3 +56,9 @@ OccurrencesAreAll = (d : Design) (root : CellId) → NoCellIsBelowItself d → A
 
 abbrev pub NetsAreAll : Type 0
 NetsAreAll = (d : Design) (root : CellId) → NoCellIsBelowItself d → AreNets d root (nets d root)
+
+-- the occurrences of a cell are its own, and then, for each of its instances in order, those of the instance's cell under that step
+abbrev pub OccurrencesGoDown : Type 0
+OccurrencesGoDown = (d : Design) (root : CellId) → NoCellIsBelowItself d
+    → occurrences d root
+    ≡ record { path = []; cell = root } ∷ flat_map (λ p. map (under p.0) (occurrences d p.1.of)) (enumerate_from 0 (insts_at d root))

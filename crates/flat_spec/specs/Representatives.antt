@@ -1,5 +1,5 @@
 -- The first net of those that are connected.
-use Rattle.std.specs.Prelude.{◌≡◌, Bool, ◌||◌, find, unwrap_or}
+use Rattle.std.specs.Prelude.{◌≡◌, ◌↔◌, find, unwrap_or}
 use Rattle.netlist_schema.specs.Design.{Design}
 use Rattle.netlist_schema.specs.Hierarchy.{NoCellIsBelowItself}
 use Rattle.netlist_schema.specs.Types.{CellId}
@@ -25,3 +25,8 @@ abbrev pub EachNetHasOneRepresentative : Type 0
 EachNetHasOneRepresentative = (d : Design) (root : CellId) (x : NetAt) → NoCellIsBelowItself d → IsNet d root x
     → IsRepresentative d root x (representative d root x)
     × ((y : NetAt) → IsRepresentative d root x y → y ≡ representative d root x)
+
+-- nets are connected exactly where they have one representative
+abbrev pub ConnectedNetsHaveOneRepresentative : Type 0
+ConnectedNetsHaveOneRepresentative = (d : Design) (root : CellId) (x y : NetAt) → NoCellIsBelowItself d → IsNet d root x → IsNet d root y
+    → (representative d root x ≡ representative d root y) ↔ Connected d root x y
