@@ -4,6 +4,7 @@ pub mod HandedDownLemmas
 pub mod ListLemmas
 pub mod OccurrenceLemmas
 pub mod PathLemmas
+pub mod PinLemmas
 pub mod ReachLemmas
 pub mod RepresentativeLemmas
 pub mod TestLemmas

@@ -13,14 +13,14 @@ board = record {
   title = named (codes "e");
   libs =
       lib (codes "w") (
-        leaf (codes "lamp") (scalar (codes "a") Input ∷ [])
-        ∷ body (codes "bridge") (scalar (codes "p") Inout ∷ scalar (codes "q") Inout ∷ []) []
-            (net (codes "through") (own_port 0 ∷ own_port 1 ∷ []) ∷ [])
-        ∷ body (codes "socket") (scalar (codes "r") Inout ∷ []) (inst (codes "l") (id_of 0 0) [] ∷ [])
-            (net (codes "feed") (own_port 0 ∷ on_port 0 0 ∷ []) ∷ [])
-        ∷ body (codes "board") [] (inst (codes "u") (id_of 0 1) [] ∷ inst (codes "v") (id_of 0 2) [] ∷ [])
-            (net (codes "left") (on_port 0 0 ∷ []) ∷ net (codes "right") (on_port 0 1 ∷ on_port 1 0 ∷ []) ∷ [])
-        ∷ []
+      leaf (codes "lamp") (scalar (codes "a") Input ∷ [])
+      ∷ body (codes "bridge") (scalar (codes "p") Inout ∷ scalar (codes "q") Inout ∷ []) []
+      (net (codes "through") (own_port 0 ∷ own_port 1 ∷ []) ∷ [])
+      ∷ body (codes "socket") (scalar (codes "r") Inout ∷ []) (inst (codes "l") (id_of 0 0) [] ∷ [])
+      (net (codes "feed") (own_port 0 ∷ on_port 0 0 ∷ []) ∷ [])
+      ∷ body (codes "board") [] (inst (codes "u") (id_of 0 1) [] ∷ inst (codes "v") (id_of 0 2) [] ∷ [])
+      (net (codes "left") (on_port 0 0 ∷ []) ∷ net (codes "right") (on_port 0 1 ∷ on_port 1 0 ∷ []) ∷ [])
+      ∷ []
       )
       ∷ [];
   top = top (codes "board") (id_of 0 3) [];

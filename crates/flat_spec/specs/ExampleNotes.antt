@@ -11,10 +11,10 @@ pair = record {
   title = named (codes "e");
   libs =
       lib (codes "w") (
-        leaf (codes "table") []
-        ∷ body (codes "block") [] (inst (codes "u2") (id_of 0 0) (says (codes "INIT") (codes "0") ∷ []) ∷ []) []
-        ∷ body (codes "pair") [] (inst (codes "u1") (id_of 0 1) [] ∷ inst (codes "u3") (id_of 0 1) [] ∷ []) []
-        ∷ []
+      leaf (codes "table") []
+      ∷ body (codes "block") [] (inst (codes "u2") (id_of 0 0) (says (codes "INIT") (codes "0") ∷ []) ∷ []) []
+      ∷ body (codes "pair") [] (inst (codes "u1") (id_of 0 1) [] ∷ inst (codes "u3") (id_of 0 1) [] ∷ []) []
+      ∷ []
       )
       ∷ [];
   top = top (codes "pair") (id_of 0 2) [];

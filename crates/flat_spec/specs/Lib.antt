@@ -12,6 +12,7 @@ pub mod HandedDown
 pub mod Occurrences
 pub mod PathOrder
 pub mod Paths
+pub mod Pins
 pub mod Representatives
 pub mod Steps
 pub mod Trees

@@ -22,7 +22,11 @@ pub enum Item {
         properties: Row<Property>,
     },
     /// A net of the occurrence at the path, with the first net that is connected with it.
-    Net { path: Path, net: u32, first: NetAt },
+    Net {
+        path: Path,
+        net: u32,
+        first: NetAt,
+    },
     /// A bit of a port of the occurrence at the path, with the first net that is connected with the net that joins the bit.
     /// There is none where no net joins it.
     Pin {

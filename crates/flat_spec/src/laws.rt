@@ -8,6 +8,7 @@ ghost use Rattle.flat_spec.specs.ExampleNotes.{PairIsFlattened};
 ghost use Rattle.flat_spec.specs.ExampleTower.{TowerBegins};
 ghost use Rattle.flat_spec.specs.HandedDown.{OrAreTheFirstInside, RepresentativesAreHandedDown};
 ghost use Rattle.flat_spec.specs.Occurrences.{NetsAreAll, OccurrencesAreAll, OccurrencesGoDown};
+ghost use Rattle.flat_spec.specs.Pins.{PinsAreExact};
 ghost use Rattle.flat_spec.specs.Representatives.{ConnectedNetsHaveOneRepresentative, EachNetHasOneRepresentative};
 ghost use Rattle.flat_spec.specs.Trees.{EachCellHasOneTree};
 
@@ -46,6 +47,11 @@ pub fn connection_is_local()
 pub fn representatives_are_handed_down()
     ensures handed { RepresentativesAreHandedDown }
     ensures inside { OrAreTheFirstInside }
+{}
+
+/// In a valid design the net at a pin is the only one that joins it.
+pub fn pins_are_exact()
+    ensures { PinsAreExact }
 {}
 
 /// The flattening of a board with a feedthrough: all its nets are one.
