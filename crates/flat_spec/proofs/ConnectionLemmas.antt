@@ -1,13 +1,13 @@
 -- Connection in a tree, and connection in the trees below it.
-use Rattle.std.proofs.Common.{◌≡◌, ℕ, List, [], ◌∷◌, ◌++◌, refl, sym, ap, subst, inl, inr, ◌∙◌, append_assoc}
+use Rattle.std.proofs.Common.{ℕ, List, [], ◌∷◌, ◌++◌, refl, sym, ap, subst, inl, inr, ◌∙◌, append_assoc}
 use Rattle.netlist_schema.specs.Design.{Design}
 use Rattle.netlist_schema.specs.Types.{CellId}
 use Rattle.flat_spec.specs.Chains.{Leads, Chain}
-use Rattle.flat_spec.specs.Paths.{Bit, own, on, at_path, at_root, Joins, Reaches, IsNet}
+use Rattle.flat_spec.specs.Paths.{Bit, own, on, at_path, at_root, Joins, Reaches}
 use Rattle.flat_spec.specs.Connection.{Meets, AreNeighbours, Connected, IsConnectedBit, AreLinked}
 use Rattle.flat_spec.specs.declared.item.NetAt.{NetAt}
 use Rattle.flat_spec.proofs.ChainLemmas.{Chain-same, Chain-cons, Chain-one, Chain-append, Chain-mono, Chain-sym}
-use Rattle.flat_spec.proofs.PathLemmas.{Some-same, Joins-outward, Joins-outward_here, Joins-inward, Joins-net, Joins-reaches}
+use Rattle.flat_spec.proofs.PathLemmas.{Joins-outward, Joins-outward_here, Joins-inward, Joins-reaches}
 
 pub AreNeighbours-sym : (d : Design) (c : CellId) (x y : NetAt) → AreNeighbours d c x y → AreNeighbours d c y x
 AreNeighbours-sym d c x y t = elim t [ inl m ↦ inr m | inr m ↦ inl m ]

@@ -1,5 +1,5 @@
 -- The representative of a net below the root: that of a net of the parent, or a net of the same contents.
-use Rattle.std.proofs.Common.{◌≡◌, ◌<◌, ℕ, List, [], ◌∷◌, ◌++◌, refl, sym, ap, subst, inl, inr, ◌∙◌, arith, append_assoc, append-nil}
+use Rattle.std.proofs.Common.{◌≡◌, ℕ, List, [], ◌∷◌, ◌++◌, refl, sym, ap, subst, inl, inr, ◌∙◌, arith, append_assoc, append-nil}
 use Rattle.netlist_schema.specs.Design.{Design}
 use Rattle.netlist_schema.specs.Hierarchy.{NoCellIsBelowItself}
 use Rattle.netlist_schema.specs.Types.{CellId}
@@ -13,7 +13,7 @@ use Rattle.flat_spec.specs.declared.item.NetAt.{NetAt}
 use Rattle.flat_spec.proofs.ConnectionLemmas.{Connected-same, Connected-sym, Connected-append, Connected-one, Connected-below, Meets-inward, Meets-here}
 use Rattle.flat_spec.proofs.ListLemmas.{last_cases, last_same, append-same}
 use Rattle.flat_spec.proofs.PathLemmas.{Joins-inward, Joins-net, net_of-below}
-use Rattle.flat_spec.proofs.RepresentativeLemmas.{IsRepresentative-connected, representative-is, representative-connected}
+use Rattle.flat_spec.proofs.RepresentativeLemmas.{IsRepresentative-connected, representative-first, representative-is, representative-connected}
 
 -- no occurrence comes before one that it is below
 PathBefore-below : (p s : List ℕ) → PathBefore (p ++ s) p → ⊥
@@ -23,7 +23,7 @@ PathBefore-below (i ∷ p) s h = elim h [ inl less ↦ omega (arith, less) | inr
 
 -- the path of the inner occurrence
 abbrev inner_path : Inner → List ℕ
-inner_path o = o.path ++ o.step ∷ []
+inner_path o = o.parent ++ o.step ∷ []
 
 -- the net is at or below the inner occurrence, and connected with its net n in the tree of its cell
 abbrev Inside : Design → Inner → ℕ → NetAt → Type 0
@@ -40,7 +40,7 @@ module _ (d : Design) (root : CellId) (o : Inner) (is : IsInner d root o) where
   pub handed-connected : (m n : ℕ) → IsHandedDown d root o m n → Connected d root (inner_net o n) (outer_net o m)
   handed-connected m n h =
       let inner = h.inside in
-      let meets = Meets-here d root o.cell o.path o.step m inner.0 h.joint is h.outside inner.1 in
+      let meets = Meets-here d root o.cell o.parent o.step m inner.0 h.joint is h.outside inner.1 in
       Connected-append d root (inner_net o n) (inner_net o inner.0) (outer_net o m)
       (Connected-inside n inner.0 (Connected-sym d o.cell (at_root inner.0) (at_root n) inner.2))
       (Connected-one d root (inner_net o inner.0) (outer_net o m) (inr meets))
@@ -59,9 +59,9 @@ module _ (d : Design) (root : CellId) (o : Inner) (is : IsInner d root o) where
   higher n x y none h m =
       elim (last_cases h.0) [
         | inl empty ↦
-            let whole : y.path ++ m.step ∷ [] ≡ o.path ++ o.step ∷ [] =
+            let whole : y.path ++ m.step ∷ [] ≡ o.parent ++ o.step ∷ [] =
             sym m.below ∙ h.1 ∙ ap (λ s. inner_path o ++ s) empty ∙ append-nil (inner_path o) in
-            let parts = last_same y.path o.path m.step o.step whole in
+            let parts = last_same y.path o.parent m.step o.step whole in
             let over : Joins d root (outer_net o y.net) (on o.step m.joint) =
             subst (λ s. Joins d root (outer_net o y.net) (on s m.joint)) parts.1
             (subst (λ p. Joins d root (at_path p y.net) (on m.step m.joint)) parts.0 m.joins_on) in
@@ -134,3 +134,15 @@ module _ (d : Design) (root : CellId) (o : Inner) (is : IsInner d root o) where
       let outer_is : IsNet d root (at_path (inner_path o ++ []) n) = rw (net_of-below d root o.cell (inner_path o) [] n is) is_net in
       let inner_is : IsNet d root (inner_net o n) = subst (λ p. IsNet d root (at_path p n)) (append-nil (inner_path o)) outer_is in
       representative-is d acyclic root (inner_net o n) (inner_net o first) inner_is (untouched-representative n first none local)
+
+-- in the cell's own tree the representative of a net of the contents is one of them, the first that is connected
+pub first_inside : (d : Design) (c : CellId) (n : ℕ) → NoCellIsBelowItself d → IsNet d c (at_root n)
+    → (first : ℕ) × IsFirstInside d c n first × (representative d c (at_root n) ≡ at_root first)
+first_inside d c n acyclic is =
+    at_top (representative d c (at_root n)).path (representative d c (at_root n)).net refl (representative-first d acyclic c (at_root n) is)
+  where
+    at_top : (path : List ℕ) (first : ℕ) → representative d c (at_root n) ≡ at_path path first → IsRepresentative d c (at_root n) (at_path path first)
+        → (k : ℕ) × IsFirstInside d c n k × (representative d c (at_root n) ≡ at_root k)
+    at_top [] first same rep =
+        (first, record { connected = rep.connected; least = λ k connected less. rep.least (at_root k) connected (inr (refl, less)) }, same)
+    at_top (i ∷ path) first same rep = absurd (rep.least (at_root n) (Connected-same d c (at_root n)) (inl tt))

@@ -1,5 +1,5 @@
 -- The list of occurrences has each path below the root, in order, and the list of nets each net.
-use Rattle.std.proofs.Common.{◌≡◌, ◌<◌, ◌≤◌, ◌⊎◌, ℕ, zero, suc, ◌+◌, List, [], ◌∷◌, ◌++◌, length, map, refl, sym, ap, subst, ◌∙◌, inl, inr, arith, Some, zero-add, add-zero, add-one}
+use Rattle.std.proofs.Common.{◌≡◌, ◌<◌, ◌≤◌, ◌⊎◌, ℕ, zero, suc, ◌+◌, List, [], ◌∷◌, length, map, refl, sym, ap, subst, ◌∙◌, inl, inr, arith, Some, zero-add, add-zero, add-one}
 use Rattle.std.specs.Prelude.{slice_get}
 use Rattle.std.specs.List.{enumerate_from, flat_map, range_with_len}
 use Rattle.std.proofs.lemmas.Option.{none-some}
@@ -143,12 +143,15 @@ occurrences_in-reaches d t root o u m =
     ]
 
 pub occurrences-member : (d : Design) → NoCellIsBelowItself d → (root : CellId) (o : Occurrence) → Reaches d root o.path o.cell → Member (occurrences d root) o
+unfolding occurrences
 occurrences-member d acyclic root o at = occurrences_in-member d (tree d root) root o.path o.cell (tree-unfolds d acyclic root) at
 
 pub occurrences-reaches : (d : Design) → NoCellIsBelowItself d → (root : CellId) (o : Occurrence) → Member (occurrences d root) o → Reaches d root o.path o.cell
+unfolding occurrences
 occurrences-reaches d acyclic root o m = occurrences_in-reaches d (tree d root) root o (tree-unfolds d acyclic root) m
 
 pub occurrences_are_all : (d : Design) (root : CellId) → NoCellIsBelowItself d → AreOccurrences d root (occurrences d root)
+unfolding occurrences
 occurrences_are_all d root acyclic = record {
   each = λ o. (
     λ c. occurrences-reaches d acyclic root o (Contains-member (occurrences d root) o c),
@@ -160,6 +163,7 @@ occurrences_are_all d root acyclic = record {
 -- trees that unfold instances have the occurrences of the instances' cells
 occurrences_from-each : (d : Design) → NoCellIsBelowItself d → (f : Forest) (insts : List Inst) (i : ℕ) → UnfoldEach d insts f
     → occurrences_from i f ≡ flat_map (λ (p : ℕ × Inst). map (under p.0) (occurrences d p.1.of)) (enumerate_from i insts)
+unfolding occurrences
 occurrences_from-each d acyclic Bare [] i u = refl
 occurrences_from-each d acyclic Bare (inst ∷ insts) i u = absurd u
 occurrences_from-each d acyclic (Grown cell below others) [] i u = absurd u
@@ -172,6 +176,7 @@ occurrences_from-each d acyclic (Grown cell below others) (inst ∷ insts) i u =
 pub occurrences_go_down : (d : Design) (root : CellId) → NoCellIsBelowItself d
     → occurrences d root
     ≡ record { path = []; cell = root } ∷ flat_map (λ (p : ℕ × Inst). map (under p.0) (occurrences d p.1.of)) (enumerate_from 0 (insts_at d root))
+unfolding occurrences
 occurrences_go_down d root acyclic =
     let u = tree-unfolds d acyclic root in
     let each = occurrences_from-each d acyclic (tree d root).below (insts_at d root) 0 u.1 in
@@ -262,6 +267,7 @@ nets-is_net d acyclic root x m =
     IsNet-from d root found.0.cell x.path x.net at found.3
 
 pub nets-ascends : (d : Design) (root : CellId) → Ascends NetBefore (nets d root)
+unfolding occurrences
 nets-ascends d root = nets_of_each-ascends d (occurrences d root) (occurrences_in-ascends (tree d root))
 
 pub nets_are_all : (d : Design) (root : CellId) → NoCellIsBelowItself d → AreNets d root (nets d root)

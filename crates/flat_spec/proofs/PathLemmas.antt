@@ -8,7 +8,7 @@ use Rattle.std.proofs.lemmas.Bool.{false≢true}
 use Rattle.netlist_schema.specs.Design.{Design}
 use Rattle.netlist_schema.specs.Hierarchy.{insts_at}
 use Rattle.netlist_schema.specs.Types.{CellId, End, Inst, Net}
-use Rattle.flat_spec.specs.Paths.{Bit, nets_at, cell_along, Reaches, at_path, at_root, net_of, IsNet, ends_at, Joins}
+use Rattle.flat_spec.specs.Paths.{nets_at, cell_along, Reaches, at_path, at_root, net_of, IsNet, ends_at, Joins}
 use Rattle.flat_spec.specs.declared.item.NetAt.{NetAt}
 
 pub Some-same : {A : Type 0} {x y : A} (o : Option A) → o ≡ Some x → o ≡ Some y → x ≡ y

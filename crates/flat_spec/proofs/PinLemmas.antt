@@ -8,11 +8,10 @@ use Rattle.std.proofs.lemmas.Iterator.Adapters.{position_from-zero}
 use Rattle.std.proofs.lemmas.List.Quantifiers.{position-Some}
 use Rattle.std.proofs.lemmas.Option.{none-some, same_Some, slice_get-get_or}
 use Rattle.netlist_schema.specs.Design.{Design, cell_at, nets_of, ends_of}
-use Rattle.netlist_schema.specs.Names.{AreDistinct}
 use Rattle.netlist_schema.specs.Types.{CellBody, CellId, End, Net}
 use Rattle.netlist_schema.specs.Valid.{IsValid}
 use Rattle.flat_spec.specs.ConnectionTest.{above, has_end}
-use Rattle.flat_spec.specs.Paths.{Bit, own, on, at_path, cell_along, Reaches, nets_at, net_of, ends_at, Joins}
+use Rattle.flat_spec.specs.Paths.{Bit, own, on, at_path, cell_along, Reaches, nets_at, net_of, Joins}
 use Rattle.flat_spec.specs.Pins.{net_joining, net_at_pin, JoinsPin}
 use Rattle.flat_spec.specs.declared.item.NetAt.{NetAt}
 use Rattle.flat_spec.proofs.ListLemmas.{Member, Member-append_left, Member-append_right, Ascends, Contains-member}

@@ -1,5 +1,5 @@
 -- What the tests on ends, nets and meets tell.
-use Rattle.std.proofs.Common.{◌≡◌, ◌⊎◌, ℕ, List, [], ◌∷◌, ◌++◌, Bool, true, false, ◌&&◌, ◌||◌, nat_eq, refl, sym, ap, subst, ◌∙◌, inl, inr, Option, Some, None}
+use Rattle.std.proofs.Common.{◌≡◌, ℕ, List, [], ◌∷◌, ◌++◌, Bool, true, false, ◌&&◌, nat_eq, refl, sym, ap, subst, ◌∙◌, inl, inr, Option, Some, None}
 use Rattle.std.specs.Cmp.Lexicographic.{pointwise, pointwise_decides}
 use Rattle.std.specs.List.{Contains, list_any}
 use Rattle.std.specs.Option.{option_eq, option_map_or}
@@ -10,7 +10,7 @@ use Rattle.netlist_schema.specs.Design.{Design}
 use Rattle.netlist_schema.specs.Types.{CellId, End}
 use Rattle.flat_spec.specs.Connection.{Meets, AreNeighbours}
 use Rattle.flat_spec.specs.ConnectionTest.{same_end, has_end, bit_of, share_bit, above, meets, are_neighbours, same_net}
-use Rattle.flat_spec.specs.Paths.{Bit, own, on, ends_at, Joins}
+use Rattle.flat_spec.specs.Paths.{Bit, own, on, ends_at}
 use Rattle.flat_spec.specs.declared.item.NetAt.{NetAt}
 
 same_inst-true : (i j : Option ℕ) → option_eq nat_eq i j ≡ true → i ≡ j

@@ -1,14 +1,14 @@
 -- How the flattening of a tower begins: its list is too long to be computed, so it is followed down the first instances.
-use Rattle.std.proofs.Common.{◌≡◌, ◌<◌, ◌+◌, ℕ, zero, suc, List, [], ◌∷◌, ◌++◌, map, refl, sym, ap, subst, ◌∙◌, arith, Option, Some, None, add-zero, zero-add, append_assoc, inl, inr}
+use Rattle.std.proofs.Common.{◌≡◌, ◌<◌, ◌+◌, ℕ, zero, suc, List, [], ◌∷◌, ◌++◌, map, refl, sym, ap, subst, ◌∙◌, arith, Some, add-zero, zero-add, append_assoc, inl, inr}
 use Rattle.std.specs.Prelude.{slice_get, codes}
 use Rattle.std.specs.List.{Contains, enumerate_from, flat_map, range_with_len}
 use Rattle.std.proofs.lemmas.Option.{none-some, same_Some}
-use Rattle.netlist_schema.specs.Design.{Design, cell_at, insts_of}
-use Rattle.netlist_schema.specs.Hierarchy.{insts_at, HasInst, NoCellIsBelowItself}
+use Rattle.netlist_schema.specs.Design.{Design, insts_of}
+use Rattle.netlist_schema.specs.Hierarchy.{insts_at, NoCellIsBelowItself}
 use Rattle.netlist_schema.specs.Types.{CellBody, CellId, Inst, Lib}
 use Rattle.netlist_schema.proofs.Cells.{cell_of_inst, ranked_has_no_cycle}
 use Rattle.flat_spec.specs.ExampleParts.{named, id_of, inst}
-use Rattle.flat_spec.specs.ExampleTower.{storey, tower, tower_items, TowerBegins}
+use Rattle.flat_spec.specs.ExampleTower.{storey, tower, TowerBegins}
 use Rattle.flat_spec.specs.Flattening.{items_of}
 use Rattle.flat_spec.specs.Occurrences.{Occurrence, under, occurrences}
 use Rattle.flat_spec.proofs.ListLemmas.{Contains-member}

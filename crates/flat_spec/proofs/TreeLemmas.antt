@@ -1,10 +1,10 @@
 -- In a design in which no cell is below itself, each cell has one tree.
 use Rattle.std.proofs.Common.{◌≡◌, ◌≤◌, ◌⊎◌, ℕ, zero, suc, ◌+◌, List, [], ◌∷◌, ◌++◌, length, refl, sym, ap, subst, ◌∙◌, inl, inr, arith, Option, Some, None, add-zero, zero-add, length-append}
 use Rattle.std.specs.Prelude.{slice_get}
-use Rattle.std.specs.List.{Contains, flat_map}
+use Rattle.std.specs.List.{flat_map}
 use Rattle.std.specs.Option.{option_map_or}
 use Rattle.std.proofs.lemmas.Option.{none-some}
-use Rattle.netlist_schema.specs.Design.{Design, cell_at}
+use Rattle.netlist_schema.specs.Design.{Design}
 use Rattle.netlist_schema.specs.Hierarchy.{insts_at, HasInst, IsBelow, placed, deeper, NoCellIsBelowItself}
 use Rattle.netlist_schema.specs.Types.{CellBody, CellId, Inst, Lib}
 use Rattle.netlist_schema.proofs.Cells.{cell_of_inst}

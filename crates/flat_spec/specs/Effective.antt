@@ -1,5 +1,5 @@
 -- The properties of an occurrence: those of its instance, as the notes for it change them.
-use Rattle.std.specs.Prelude.{ℕ, List, [], ◌∷◌, ◌++◌, Bool, not, nat_eq, Option, None, slice_get, find, unwrap_or, map, filter}
+use Rattle.std.specs.Prelude.{ℕ, List, [], ◌∷◌, ◌++◌, Bool, not, nat_eq, None, slice_get, find, unwrap_or, map, filter}
 use Rattle.std.specs.Cmp.Lexicographic.{pointwise}
 use Rattle.std.specs.List.{last_or, list_any}
 use Rattle.std.specs.Option.{option_map_or}
@@ -7,7 +7,7 @@ use Rattle.netlist_schema.specs.Design.{Design}
 use Rattle.netlist_schema.specs.Hierarchy.{insts_at}
 use Rattle.netlist_schema.specs.Types.{CellId, Inst, Note, Property, TopHead}
 
--- the instances through which the path goes
+-- the instances through which the path goes, as far as it leads
 abbrev pub insts_along : Design → CellId → List ℕ → List Inst
 insts_along d c [] = []
 insts_along d c (i ∷ path) = option_map_or (λ inst. inst ∷ insts_along d inst.of path) (slice_get (insts_at d c) i) []
@@ -16,7 +16,7 @@ insts_along d c (i ∷ path) = option_map_or (λ inst. inst ∷ insts_along d in
 abbrev pub names_along : Design → CellId → List ℕ → List (List ℕ)
 names_along d c path = map (λ inst. inst.name.id) (insts_along d c path)
 
--- the properties of the instance at the end of the path, and at the top those of the design
+-- the properties of the last instance on the path, and at the top those of the design
 abbrev pub base_properties : Design → TopHead → List ℕ → List Property
 base_properties d top path =
     option_map_or (λ inst. inst.properties) (last_or None (insts_along d top.cell path)) top.properties

@@ -1,6 +1,7 @@
 -- A note gives one of two occurrences of an instance another value.
 use Rattle.std.specs.Prelude.{◌≡◌, List, [], ◌∷◌, codes}
 use Rattle.netlist_schema.specs.Design.{Design}
+use Rattle.flat_spec.specs.Effective.{merged}
 use Rattle.flat_spec.specs.ExampleParts.{named, id_of, inst, says, leaf, body, lib, top}
 use Rattle.flat_spec.specs.Flattening.{flattening}
 use Rattle.flat_spec.specs.declared.item.Item.{Item}
@@ -33,3 +34,12 @@ pair_items =
 
 abbrev pub PairIsFlattened : Type 0
 PairIsFlattened = flattening pair ≡ pair_items
+
+-- a note replaces the property of its key in that property's place, and the notes of other keys come after, in their order
+abbrev pub NotesAreMerged : Type 0
+NotesAreMerged =
+    merged
+    (says (codes "A") (codes "0") ∷ says (codes "B") (codes "0") ∷ says (codes "C") (codes "0") ∷ [])
+    (says (codes "X") (codes "1") ∷ says (codes "B") (codes "1") ∷ says (codes "a") (codes "1") ∷ [])
+    ≡ says (codes "A") (codes "0") ∷ says (codes "B") (codes "1") ∷ says (codes "C") (codes "0")
+    ∷ says (codes "X") (codes "1") ∷ says (codes "a") (codes "1") ∷ []

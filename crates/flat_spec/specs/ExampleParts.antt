@@ -1,10 +1,9 @@
 -- Short forms for the parts of example designs.
-use Rattle.std.specs.Prelude.{ℕ, List, [], ◌∷◌, Option, Some, None, false, codes}
-use Rattle.netlist_schema.specs.Design.{Design}
+use Rattle.std.specs.Prelude.{ℕ, List, [], Option, Some, None, false, codes}
 use Rattle.netlist_schema.specs.Types.{CellBody, CellId, Contents, Direction, End, Inst, Lib, Name, Net, Port, Property, TopHead}
 use Rattle.netlist_schema.specs.declared.cell.CellKind.TheVariants.{Generic}
 use Rattle.netlist_schema.specs.declared.property.Value.TheVariants.{Text}
-use Rattle.flat_spec.specs.Paths.{Bit, own, on}
+use Rattle.flat_spec.specs.Paths.{own, on}
 
 abbrev pub named : List ℕ → Name
 named id = record { id = id; shown = None }

@@ -5,25 +5,25 @@ use Rattle.netlist_schema.specs.Hierarchy.{NoCellIsBelowItself}
 use Rattle.netlist_schema.specs.Types.{CellId}
 use Rattle.flat_spec.specs.Connection.{Connected, IsConnectedBit}
 use Rattle.flat_spec.specs.Paths.{Bit, on, at_path, at_root, Joins, Reaches, IsNet}
-use Rattle.flat_spec.specs.Representatives.{IsRepresentative, representative}
+use Rattle.flat_spec.specs.Representatives.{representative}
 use Rattle.flat_spec.specs.declared.item.NetAt.{NetAt}
 
--- an occurrence below the root: an instance of the occurrence at the path, and its cell
+-- an occurrence below the root: the path of its parent, the instance there, and its cell
 pub record Inner : Type 0 where
-  pub path : List ℕ
+  pub parent : List ℕ
   pub step : ℕ
   pub cell : CellId
 
 -- it stands in the root's tree
 abbrev pub IsInner : Design → CellId → Inner → Type 0
-IsInner d root o = Reaches d root (o.path ++ o.step ∷ []) o.cell
+IsInner d root o = Reaches d root (o.parent ++ o.step ∷ []) o.cell
 
 -- net n of the inner occurrence, and net m of its parent
 abbrev pub inner_net : Inner → ℕ → NetAt
-inner_net o n = at_path (o.path ++ o.step ∷ []) n
+inner_net o n = at_path (o.parent ++ o.step ∷ []) n
 
 abbrev pub outer_net : Inner → ℕ → NetAt
-outer_net o m = at_path o.path m
+outer_net o m = at_path o.parent m
 
 -- in the tree of the inner occurrence's cell an own bit is connected with net n, and net m of the parent joins that bit on the instance
 pub record IsHandedDown (d : Design) (root : CellId) (o : Inner) (m n : ℕ) : Type 0 where
@@ -39,6 +39,11 @@ IsUntouched d root o n = (m : ℕ) → IsHandedDown d root o m n → ⊥
 pub record IsFirstInside (d : Design) (c : CellId) (n first : ℕ) : Type 0 where
   pub connected : Connected d c (at_root n) (at_root first)
   pub least : (k : ℕ) → Connected d c (at_root n) (at_root k) → k < first → ⊥
+
+-- each net of a cell's contents has such a first, which is its representative in the cell's tree
+abbrev pub EachNetHasAFirstInside : Type 0
+EachNetHasAFirstInside = (d : Design) (c : CellId) (n : ℕ) → NoCellIsBelowItself d → IsNet d c (at_root n)
+    → (first : ℕ) × IsFirstInside d c n first × (representative d c (at_root n) ≡ at_root first)
 
 -- a net has the representative of each net of the parent that is handed down to it
 abbrev pub RepresentativesAreHandedDown : Type 0

@@ -29,7 +29,7 @@ abbrev pub occurrences_in : Tree → List Occurrence
 occurrences_in t = record { path = []; cell = t.cell } ∷ occurrences_from 0 t.below
 
 -- the occurrences of a cell's tree, in path order
-abbrev pub occurrences : Design → CellId → List Occurrence
+unfoldable pub occurrences : Design → CellId → List Occurrence
 occurrences d root = occurrences_in (tree d root)
 
 -- the nets of an occurrence, in the order of its contents

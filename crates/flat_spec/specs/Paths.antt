@@ -11,7 +11,7 @@ use Rattle.flat_spec.specs.declared.item.NetAt.{NetAt}
 abbrev pub nets_at : Design → CellId → List Net
 nets_at d id = option_map_or nets_of (cell_at d id) []
 
--- the cell to which the path of instances leads, from this cell downwards
+-- the cell to which the path leads from this cell downwards; a step is the place of an instance in the contents reached so far
 abbrev pub cell_along : Design → CellId → List ℕ → Option CellId
 cell_along d c [] = Some c
 cell_along d c (i ∷ path) = option_and_then (λ inst. cell_along d inst.of path) (slice_get (insts_at d c) i)

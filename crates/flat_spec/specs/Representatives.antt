@@ -15,8 +15,8 @@ pub record IsRepresentative (d : Design) (root : CellId) (x first : NetAt) : Typ
   pub connected : Connected d root x first
   pub least : (y : NetAt) → Connected d root x y → NetBefore y first → ⊥
 
--- The first net of the tree that is connected with the net.
--- Rest nothing on how connection is tested: that each net has one representative, which is this, is all that there is to know.
+-- The first net of the tree that is connected with the net; what is no net of the tree is its own.
+-- Rest nothing on how connection is tested: that this is the one representative of the net is all that there is to know.
 unfoldable pub representative : Design → CellId → NetAt → NetAt
 representative d root x = unwrap_or (find (connects d root x) (nets d root)) x
 

@@ -33,7 +33,7 @@ grown d zero (inst ∷ insts) = Bare
 grown d (suc depth) (inst ∷ insts) = Grown inst.of (grown d depth (insts_at d inst.of)) (grown d (suc depth) insts)
 
 -- The tree of the cell: as deep as there are cells, since no path goes through a cell twice.
--- Rest nothing on the depth: that each cell has one tree, which is this, is all that there is to know.
+-- Rest nothing on the depth: that this is the one tree of the cell is all that there is to know.
 unfoldable pub tree : Design → CellId → Tree
 tree d c = record { cell = c; below = grown d (length (flat_map (λ lib. lib.cells) d.libs)) (insts_at d c) }
 

@@ -4,9 +4,9 @@ ghost use Rattle.flat_spec.specs.Connection.{ConnectionIsLocal};
 ghost use Rattle.flat_spec.specs.ConnectionTest.{TestTellsConnection};
 ghost use Rattle.flat_spec.specs.ExampleCounter.{CounterIsFlattened};
 ghost use Rattle.flat_spec.specs.ExampleFeedthrough.{BoardIsFlattened};
-ghost use Rattle.flat_spec.specs.ExampleNotes.{PairIsFlattened};
+ghost use Rattle.flat_spec.specs.ExampleNotes.{NotesAreMerged, PairIsFlattened};
 ghost use Rattle.flat_spec.specs.ExampleTower.{TowerBegins};
-ghost use Rattle.flat_spec.specs.HandedDown.{OrAreTheFirstInside, RepresentativesAreHandedDown};
+ghost use Rattle.flat_spec.specs.HandedDown.{EachNetHasAFirstInside, OrAreTheFirstInside, RepresentativesAreHandedDown};
 ghost use Rattle.flat_spec.specs.Occurrences.{NetsAreAll, OccurrencesAreAll, OccurrencesGoDown};
 ghost use Rattle.flat_spec.specs.Pins.{PinsAreExact};
 ghost use Rattle.flat_spec.specs.Representatives.{ConnectedNetsHaveOneRepresentative, EachNetHasOneRepresentative};
@@ -43,10 +43,11 @@ pub fn connection_is_local()
 {}
 
 /// The representative of a net below the root is that of the parent's net that is handed down to it, and where none is, the first
-/// net of the same contents that is connected with it inside.
+/// net of the same contents that is connected with it inside. There is always such a first net inside.
 pub fn representatives_are_handed_down()
     ensures handed { RepresentativesAreHandedDown }
     ensures inside { OrAreTheFirstInside }
+    ensures there { EachNetHasAFirstInside }
 {}
 
 /// In a valid design the net at a pin is the only one that joins it.
@@ -59,9 +60,10 @@ pub fn board_is_flattened()
     ensures { BoardIsFlattened }
 {}
 
-/// The flattening of a design with a note.
+/// The flattening of a design with a note, and properties with several notes.
 pub fn pair_is_flattened()
-    ensures { PairIsFlattened }
+    ensures items { PairIsFlattened }
+    ensures merged { NotesAreMerged }
 {}
 
 /// The flattening of a small counter.
