@@ -11,6 +11,7 @@ use Rattle.flat_spec.specs.Occurrences.{nets}
 use Rattle.flat_spec.specs.Paths.{Bit, own, on, ends_at}
 use Rattle.flat_spec.specs.declared.item.NetAt.{NetAt}
 
+-- both ends are of one instance or both the cell's own, and they are the same bit of the same port
 abbrev pub same_end : End → End → Bool
 same_end e f = option_eq nat_eq e.inst f.inst && (nat_eq e.port f.port && nat_eq e.bit f.bit)
 
@@ -18,6 +19,7 @@ same_end e f = option_eq nat_eq e.inst f.inst && (nat_eq e.port f.port && nat_eq
 abbrev pub has_end : List End → End → Bool
 has_end ends e = list_any (same_end e) ends
 
+-- which bit the end is, of whatever instance
 abbrev pub bit_of : End → Bit
 bit_of e = record { port = e.port; bit = e.bit }
 
@@ -36,6 +38,7 @@ meets d root upper lower = option_map_or
     (λ up. pointwise nat_eq up.0 upper.path && share_bit up.1 (ends_at d root upper) (ends_at d root lower))
     (above lower.path) false
 
+-- one of the two meets the other
 abbrev pub are_neighbours : Design → CellId → NetAt → NetAt → Bool
 are_neighbours d root x y = meets d root x y || meets d root y x
 
@@ -45,6 +48,7 @@ leads_through related [] x y = related x y
 leads_through related (z ∷ zs) x y =
     leads_through related zs x y || (leads_through related zs x z && leads_through related zs z y)
 
+-- both are one net of one occurrence
 abbrev pub same_net : NetAt → NetAt → Bool
 same_net x y = pointwise nat_eq x.path y.path && nat_eq x.net y.net
 

@@ -21,6 +21,7 @@ abbrev pub base_properties : Design → TopHead → List ℕ → List Property
 base_properties d top path =
     option_map_or (λ inst. inst.properties) (last_or None (insts_along d top.cell path)) top.properties
 
+-- two identifiers are equal byte for byte
 abbrev pub same_name : List ℕ → List ℕ → Bool
 same_name = pointwise nat_eq
 
@@ -28,6 +29,7 @@ same_name = pointwise nat_eq
 abbrev pub notes_for : List (List ℕ) → List Note → List Property
 notes_for names notes = map (λ note. note.property) (filter (λ note. pointwise same_name note.path names) notes)
 
+-- two properties have equal keys
 abbrev pub same_key : Property → Property → Bool
 same_key p q = same_name p.key.id q.key.id
 

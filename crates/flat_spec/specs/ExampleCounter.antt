@@ -8,6 +8,7 @@ use Rattle.flat_spec.specs.Paths.{at_path}
 use Rattle.flat_spec.specs.declared.item.Item.{Item}
 use Rattle.flat_spec.specs.declared.item.Item.TheVariants.{Enter, Net, Pin}
 
+-- a register and an inverter that feeds it
 abbrev pub counter : Design
 counter = record {
   title = named (codes "counter");
@@ -53,5 +54,6 @@ counter_items =
     ∷ Pin (1 ∷ []) 1 0 (Some (at_path [] 1))
     ∷ []
 
+-- the flattening of the counter is these items
 abbrev pub CounterIsFlattened : Type 0
 CounterIsFlattened = flattening counter ≡ counter_items

@@ -8,6 +8,7 @@ use Rattle.flat_spec.specs.Paths.{at_path}
 use Rattle.flat_spec.specs.declared.item.Item.{Item}
 use Rattle.flat_spec.specs.declared.item.Item.TheVariants.{Enter, Net, Pin}
 
+-- the net through of the bridge joins both of its ports; left is at the one, right at the other
 abbrev pub board : Design
 board = record {
   title = named (codes "e");
@@ -41,5 +42,6 @@ board_items =
     ∷ Pin (1 ∷ 0 ∷ []) 0 0 (Some (at_path [] 0))
     ∷ []
 
+-- the flattening of the board is these items
 abbrev pub BoardIsFlattened : Type 0
 BoardIsFlattened = flattening board ≡ board_items

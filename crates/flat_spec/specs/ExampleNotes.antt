@@ -7,6 +7,7 @@ use Rattle.flat_spec.specs.Flattening.{flattening}
 use Rattle.flat_spec.specs.declared.item.Item.{Item}
 use Rattle.flat_spec.specs.declared.item.Item.TheVariants.{Enter}
 
+-- two blocks with a table in each, and a note for the table in u1
 abbrev pub pair : Design
 pair = record {
   title = named (codes "e");
@@ -32,6 +33,7 @@ pair_items =
     ∷ Enter (1 ∷ 0 ∷ []) (id_of 0 0) (says (codes "INIT") (codes "0") ∷ [])
     ∷ []
 
+-- the flattening of the pair is these items
 abbrev pub PairIsFlattened : Type 0
 PairIsFlattened = flattening pair ≡ pair_items
 

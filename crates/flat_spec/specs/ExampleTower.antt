@@ -14,6 +14,7 @@ storey zero = leaf (codes "c0") []
 storey (suc height) =
     body (codes "c" ++ decimal (suc height)) [] (inst (codes "a") (id_of 0 height) [] ∷ inst (codes "b") (id_of 0 height) [] ∷ []) []
 
+-- the storeys up to this height, the highest of which is the top
 abbrev pub tower : ℕ → Design
 tower height = record {
   title = named (codes "e");

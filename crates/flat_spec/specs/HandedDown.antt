@@ -18,10 +18,11 @@ pub record Inner : Type 0 where
 abbrev pub IsInner : Design → CellId → Inner → Type 0
 IsInner d root o = Reaches d root (o.parent ++ o.step ∷ []) o.cell
 
--- net n of the inner occurrence, and net m of its parent
+-- net n of the inner occurrence
 abbrev pub inner_net : Inner → ℕ → NetAt
 inner_net o n = at_path (o.parent ++ o.step ∷ []) n
 
+-- net m of its parent
 abbrev pub outer_net : Inner → ℕ → NetAt
 outer_net o m = at_path o.parent m
 

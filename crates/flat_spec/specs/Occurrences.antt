@@ -50,10 +50,11 @@ pub record AreNets (d : Design) (root : CellId) (xs : List NetAt) : Type 0 where
   pub each : (x : NetAt) → Contains xs x ↔ IsNet d root x
   pub in_order : AllPairs NetBefore xs
 
--- the list of occurrences has each path below the cell, and the list of nets each net, in order
+-- the list of occurrences has each path below the cell, in order
 abbrev pub OccurrencesAreAll : Type 0
 OccurrencesAreAll = (d : Design) (root : CellId) → NoCellIsBelowItself d → AreOccurrences d root (occurrences d root)
 
+-- the list of nets has each net below the cell, in order
 abbrev pub NetsAreAll : Type 0
 NetsAreAll = (d : Design) (root : CellId) → NoCellIsBelowItself d → AreNets d root (nets d root)
 

@@ -10,6 +10,7 @@ pub data Forest : Type 0 where
   Bare : Forest
   Grown : (cell : CellId) → (below : Forest) → (others : Forest) → Forest
 
+-- a cell at the root, and below it trees side by side
 pub record Tree : Type 0 where
   pub cell : CellId
   pub below : Forest

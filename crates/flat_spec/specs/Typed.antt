@@ -7,9 +7,11 @@ use Rattle.flat_spec.specs.declared.item.Item.{Item}
 use Rattle.flat_spec.specs.declared.item.Item.TheVariants.{Enter, Net, Pin}
 use Rattle.flat_spec.specs.declared.item.NetAt.{NetAt}
 
+-- the steps of the net's path fit
 abbrev pub IsTypedNetAt : NetAt → Type 0
 IsTypedNetAt x = IsTypedPath x.path
 
+-- the steps of the item's paths fit, and the properties of an occurrence are typed
 abbrev pub IsTypedItem : Item → Type 0
 IsTypedItem (Enter path cell properties) = IsTypedPath path × All IsTypedProperty properties
 IsTypedItem (Net path net first) = IsTypedPath path × IsTypedNetAt first
