@@ -1,0 +1,12 @@
+pub mod ChainLemmas
+pub mod ConnectionLemmas
+pub mod HandedDownLemmas
+pub mod ListLemmas
+pub mod OccurrenceLemmas
+pub mod PathLemmas
+pub mod PinLemmas
+pub mod ReachLemmas
+pub mod RepresentativeLemmas
+pub mod TestLemmas
+pub mod TowerLemmas
+pub mod TreeLemmas
