@@ -1,6 +1,7 @@
 //! `Pins`: the live pins, and the versions that they hold.
 ghost use Rattle.std.specs.Prelude.{◌≡◌, ℕ, [], ◌+◌, ◌-◌, ◌<◌, ◌==◌, if◌then◌else◌, IfOk, OnErr, length};
 ghost use Rattle.std.specs.List.{list_any};
+ghost use Rattle.pin_registry.specs.Counts.{count_at};
 ghost use Rattle.pin_registry.specs.Registry.{IsLive, with_pin, without_pin};
 
 use netlist_schema::NoMemory;
@@ -48,8 +49,8 @@ impl Pins {
         }
     }
 
-    /// Makes a live pin on the version, and gives its number. The one error is that an allocation was refused; the
-    /// registry is unchanged then.
+    /// Makes a live pin on the version, and gives its number. Fewer than `MOST_PINS` pins may have been made. The one error
+    /// is that an allocation was refused; the registry is unchanged then.
     pub fn add(&mut self, version: u64) -> Result<u64, NoMemory>
         requires { self.old.made < MOST_PINS }
         ensures ok { IfOk result (λ number. (number ≡ self.old.made) × (self.new ≡ with_pin self.old version)) }
@@ -63,7 +64,7 @@ impl Pins {
         Ok(number)
     }
 
-    /// Ends a live pin. Takes no memory.
+    /// Ends the live pin of this number. Takes no memory.
     pub fn remove(&mut self, number: u64)
         requires { IsLive self.old number }
         ensures { self.new ≡ without_pin self.old number }
@@ -95,8 +96,6 @@ impl Pins {
     }
 }
 
-ghost use Rattle.pin_registry.specs.Counts.{count_at};
-
 /// The count of a version.
 fn count_of(counts: &BTreeMap<u64, u64>, version: u64) -> u64
     ensures { result ≡ count_at counts.now version }
@@ -110,6 +109,7 @@ fn count_down(counts: &mut BTreeMap<u64, u64>, version: u64)
 {
     let count = count_of(counts, version);
     if count > 1 {
+        // The version has its entry, so this can't fail.
         let _ = counts.insert(version, count - 1);
     } else {
         counts.remove(&version);

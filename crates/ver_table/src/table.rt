@@ -1,9 +1,9 @@
 //! `Table`: a finite map that is changed by making the next one.
-ghost use Rattle.std.specs.Prelude.{◌≡◌, ◌++◌, ◌≤◌, IfOk, IsTrue, OnOk};
+ghost use Rattle.std.specs.Prelude.{◌≡◌, ◌++◌, ◌≤◌, IfOk, OnOk};
 ghost use Rattle.std.specs.Arc.{arc_value};
 ghost use Rattle.std.specs.Option.{option_copied};
-ghost use Rattle.std.specs.Ordering.{nat_cmp};
 ghost use Rattle.std.specs.FinMap as map;
+ghost use Rattle.ver_table.specs.Entries.{pairs_of, IsInOrder, IsPlace, GivesWay};
 
 use netlist_schema::NoMemory;
 use std::alloc::Global;
@@ -19,7 +19,7 @@ struct Entry<T> {
 }
 
 /// A finite map from slots to items. A change makes a new table, which shares the items with the old one; the old table
-/// stays as it was. `P`, from 1 to 1024, is how many neighbouring slots are kept together; the map is the same for each `P`.
+/// stays as it was. `P`, from 1 to 1024, is the number of slots to a page, and no answer depends on it.
 #[derive(Drop)]
 pub struct Table<T, const P: usize> {
     /// The slots that are set, in order.
@@ -81,8 +81,6 @@ impl<T: Drop, const P: usize> Table<T, P> {
         Ok(Table { entries: changed })
     }
 }
-
-ghost use Rattle.ver_table.specs.Entries.{pairs_of, IsInOrder, IsPlace, GivesWay};
 
 /// Where the slot stands among the entries, or else where it belongs.
 fn place_of<T>(entries: &[Entry<T>], slot: u32) -> Result<usize, usize>
