@@ -13,8 +13,10 @@ stamped [] = []
 stamped ((object, None) ∷ entries) = stamped entries
 stamped ((object, Some last) ∷ entries) = (object, last) ∷ stamped entries
 
+-- the marks, as a finite map
 abbrev pub commits_of : Inside → Commits
 commits_of stamps = from_entries (stamped stamps.marks.entries)
 
+-- the entries stand in the order of their objects, each object once
 abbrev pub IsInOrder : Inside → Type 0
 IsInOrder stamps = IsOrdered object_cmp stamps.marks

@@ -12,6 +12,7 @@ use Rattle.conflict_check.specs.declared.stamps.Later.{Later}
 abbrev pub mark_at : BTreeMap Object (Option ℕ) → Object → Option ℕ
 mark_at marks object = option_and_then (λ mark. mark) (get object_cmp marks object)
 
+-- each object has the same mark in both
 abbrev pub HasSameMarks : BTreeMap Object (Option ℕ) → BTreeMap Object (Option ℕ) → Type 0
 HasSameMarks old new = (object : Object) → mark_at new object ≡ mark_at old object
 
@@ -27,6 +28,7 @@ is_among objects object = list_any (eq_by_cmp object_cmp object) objects
 abbrev pub marked_at : BTreeMap Object (Option ℕ) → List Object → ℕ → Object → Option ℕ
 marked_at marks written version object = if is_among written object then Some (later_of (mark_at marks object) version) else mark_at marks object
 
+-- the object with this mark, where it is greater than the version
 abbrev pub later_mark : Object → ℕ → Option ℕ → Option Later
 later_mark object version None = None
 later_mark object version (Some last) = if nat_lt version last then Some (record { object = object; version = last }) else None

@@ -7,9 +7,11 @@ use Rattle.pin_registry.specs.Registry.{Registry, live_pin}
 use Rattle.pin_registry.specs.declared.pins.Pins.TheInside.{Inside}
 use Rattle.pin_registry.specs.declared.pins.TheConstants.{MOST_PINS}
 
+-- the live pins, each with its version
 abbrev pub registry_of : Inside → Registry
 registry_of pins = record { made = pins.made; live = map (λ entry. live_pin entry.0 entry.1) pins.versions.entries }
 
+-- the entries are those of pins that were made, and the counts are theirs
 pub record IsRegistry (pins : Inside) : Type 0 where
   pub ordered : IsOrdered nat_cmp pins.versions
   -- each live pin has the number of one that was made

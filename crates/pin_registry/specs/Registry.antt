@@ -6,12 +6,14 @@ pub record LivePin : Type 0 where
   pub number : ℕ
   pub version : ℕ
 
+-- how many pins were made, and which of them are live
 pub record Registry : Type 0 where
   -- the number of pins made
   pub made : ℕ
   -- the live pins, in the order of their numbers
   pub live : List LivePin
 
+-- the live pin of this number, on this version
 abbrev pub live_pin : ℕ → ℕ → LivePin
 live_pin number version = record { number = number; version = version }
 
