@@ -1,0 +1,4 @@
+pub mod Finding
+pub mod Marking
+pub mod Order
+pub mod Views
