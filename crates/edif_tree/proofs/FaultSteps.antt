@@ -1,5 +1,5 @@
 -- The first fault, token by token.
-use Rattle.std.proofs.Common.{◌≡◌, ℕ, zero, suc, ◌+◌, ◌<◌, ◌≤◌, List, [], ◌∷◌, ◌++◌, length, Option, Some, None, refl, sym, ap, ◌∙◌, arith, append_assoc, append-nil, ltb, cond}
+use Rattle.std.proofs.Common.{◌≡◌, ℕ, zero, suc, ◌<◌, ◌≤◌, List, [], ◌∷◌, ◌++◌, Option, None, refl, ap, ◌∙◌, arith, append_assoc, ltb}
 use Rattle.std.proofs.lemmas.Bool.{lt-ltb, le-ltb, cond-true, cond-false}
 use Rattle.spelling_spec.specs.TreeFaults.{token_at, TreeFault, fault_at, fault_within, tree_fault}
 use Rattle.spelling_spec.specs.declared.token.Token.{Token}

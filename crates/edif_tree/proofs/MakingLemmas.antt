@@ -1,14 +1,14 @@
 -- What stands after one more token.
-use Rattle.std.proofs.Common.{◌≡◌, ℕ, zero, suc, ◌+◌, ◌<◌, ◌≤◌, ◌⊎◌, inl, inr, ⊎_elim, List, [], ◌∷◌, ◌++◌, length, take, drop, Option, Some, None, refl, sym, ap, ◌∙◌, subst, arith, append_assoc, append-nil, length-append}
+use Rattle.std.proofs.Common.{◌≡◌, ℕ, zero, suc, ◌<◌, ◌≤◌, inl, inr, ⊎_elim, List, [], ◌∷◌, ◌++◌, length, take, drop, Some, refl, sym, ap, ◌∙◌, subst, arith, append_assoc, append-nil, length-append}
 use Rattle.std.specs.Prelude.{slice_get}
 use Rattle.std.specs.List.{slice_range}
 use Rattle.std.proofs.lemmas.List.{take_rest}
 use Rattle.spelling_spec.specs.Tree.{Placed, Trees, Form', Word', Integer', String', End, More}
-use Rattle.spelling_spec.specs.TreeFaults.{token_at, Lists, ListsAll, fault_within, tree_fault}
+use Rattle.spelling_spec.specs.TreeFaults.{token_at, Lists, ListsAll, tree_fault}
 use Rattle.spelling_spec.specs.declared.token.Token.{Token}
 use Rattle.spelling_spec.specs.declared.token.TokenKind.TheVariants.{LeftParen, RightParen}
 use Rattle.edif_tree.specs.Nodes.{FormOf, Row, row_of, IsAt, AreAt}
-use Rattle.edif_tree.specs.Making.{IsToken, token_of, Level, InForm, InForms, fault_from, IsOpen, IsClosed, HasRead, CanCome}
+use Rattle.edif_tree.specs.Making.{IsToken, token_of, Level, InForms, fault_from, HasRead, CanCome}
 use Rattle.edif_tree.specs.declared.node.NodeId.{NodeId}
 use Rattle.edif_tree.specs.declared.node.NodeKind.{NodeKind}
 use Rattle.edif_tree.specs.declared.node.NodeKind.TheVariants as kinds

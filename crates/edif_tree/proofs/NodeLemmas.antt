@@ -1,12 +1,12 @@
 -- Facts on the nodes of a list.
-use Rattle.std.proofs.Common.{◌≡◌, ℕ, ℤ, Bor, zero, suc, ◌+◌, ◌-◌, ◌<◌, ◌≤◌, List, [], ◌∷◌, ◌++◌, length, map, take, drop, Option, Some, None, refl, sym, ap, ◌∙◌, subst, arith, length-drop, length-append, get_or}
+use Rattle.std.proofs.Common.{◌≡◌, ℕ, ℤ, Bor, zero, suc, ◌-◌, ◌<◌, ◌≤◌, List, [], ◌∷◌, ◌++◌, length, map, take, drop, Some, refl, sym, ap, ◌∙◌, subst, arith, length-drop, length-append, get_or}
 use Rattle.std.specs.Prelude.{slice_get, option_map, FitsSigned}
 use Rattle.std.specs.Int.{w64}
 use Rattle.std.specs.List.{slice_range}
 use Rattle.std.proofs.lemmas.List.{take-append-le, drop-append-le, map-append, length-map}
 use Rattle.std.proofs.lemmas.Option.{slice_get_within, slice_get-map, slice_get_read}
 use Rattle.spelling_spec.specs.Tree.{Placed, Trees, Form', Word', Integer', String', End, More}
-use Rattle.edif_tree.specs.Nodes.{Seen, FormOf, WordOf, IntegerOf, StringOf, Row, shape_of, row_of, IsWithin, AreWithin, IsAt, AreAt, IsNode, place_of, ShapeIs, seen}
+use Rattle.edif_tree.specs.Nodes.{FormOf, WordOf, StringOf, Row, shape_of, row_of, IsWithin, AreWithin, IsAt, AreAt, IsNode, place_of, ShapeIs, seen}
 use Rattle.edif_tree.specs.Making.{IsToken}
 use Rattle.edif_tree.specs.declared.node.NodeId.{NodeId}
 use Rattle.edif_tree.specs.declared.node.Node.{Node}

@@ -1,8 +1,8 @@
 -- What a maker that has read tokens says of the next one, and of an end.
-use Rattle.std.proofs.Common.{◌≡◌, ℕ, zero, suc, ◌<◌, ◌≤◌, ◌⊎◌, ⊎_elim, List, [], ◌∷◌, ◌++◌, length, Option, Some, None, refl, sym, ap, ◌∙◌, subst, arith, append-nil}
+use Rattle.std.proofs.Common.{◌≡◌, ℕ, ◌<◌, ◌≤◌, ⊎_elim, List, [], ◌∷◌, ◌++◌, length, Some, None, refl, sym, ap, ◌∙◌, subst, arith, append-nil}
 use Rattle.std.specs.Prelude.{slice_get}
 use Rattle.spelling_spec.specs.Tree.{Placed}
-use Rattle.spelling_spec.specs.TreeFaults.{token_at, Lists, IsFile, TreeFault, fault_at, tree_fault, fault_within}
+use Rattle.spelling_spec.specs.TreeFaults.{token_at, Lists, IsFile, fault_at, tree_fault}
 use Rattle.spelling_spec.specs.declared.token.Token.{Token}
 use Rattle.spelling_spec.specs.declared.token.TokenKind.{TokenKind}
 use Rattle.spelling_spec.specs.declared.token.TokenKind.TheVariants.{LeftParen, RightParen}
@@ -10,7 +10,7 @@ use Rattle.spelling_spec.specs.declared.tree_fault.TreeKind.TheVariants.{NotForm
 use Rattle.spelling_spec.proofs.TreeFaultLemmas.{tree_of_none}
 use Rattle.spelling_spec.proofs.PlacedListings.{one_placed}
 use Rattle.edif_tree.specs.Nodes.{Row, IsAt}
-use Rattle.edif_tree.specs.Making.{Level, InForms, IsOpen, IsClosed, HasRead, fault_from}
+use Rattle.edif_tree.specs.Making.{Level, InForms, HasRead, fault_from}
 use Rattle.edif_tree.specs.declared.node.NodeId.{NodeId}
 use Rattle.edif_tree.specs.declared.maker.OpenForm.{OpenForm}
 use Rattle.edif_tree.specs.declared.maker.Maker.{Maker}

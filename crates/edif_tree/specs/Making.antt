@@ -5,7 +5,7 @@ use Rattle.spelling_spec.specs.Tree.{Placed, Trees}
 use Rattle.spelling_spec.specs.TreeFaults.{token_at, Lists, ListsAll, TreeFault, fault_within, tree_fault}
 use Rattle.spelling_spec.specs.declared.token.Token.{Token}
 use Rattle.spelling_spec.specs.declared.token.TokenKind.{TokenKind}
-use Rattle.spelling_spec.specs.declared.token.TokenKind.TheVariants.{LeftParen, RightParen, Word, Integer, String}
+use Rattle.spelling_spec.specs.declared.token.TokenKind.TheVariants.{LeftParen, Word, Integer, String}
 use Rattle.edif_tree.specs.Nodes.{Row, IsAt, AreAt}
 use Rattle.edif_tree.specs.declared.node.NodeId.{NodeId}
 use Rattle.edif_tree.specs.declared.node.NodeKind.{NodeKind}

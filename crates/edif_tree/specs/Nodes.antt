@@ -1,5 +1,5 @@
 -- Which tree stands at a node of a list of nodes.
-use Rattle.std.specs.Prelude.{◌≡◌, ◌≤◌, FitsSigned, ℕ, ℤ, List, [], ◌∷◌, map, length, Option, Some, slice_get}
+use Rattle.std.specs.Prelude.{◌≡◌, ◌≤◌, FitsSigned, ℕ, ℤ, List, [], ◌∷◌, Some, slice_get}
 use Rattle.std.specs.Int.{w64}
 use Rattle.std.specs.List.{slice_range}
 use Rattle.spelling_spec.specs.Tree.{Placed, Trees, Form', Word', Integer', String', End, More}

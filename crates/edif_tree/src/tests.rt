@@ -32,6 +32,10 @@ const BEGINNINGS: [(&str, TreeKind, u64); 7] = [
     ("(", TreeKind::Unended, 1),
 ];
 
+/// The nodes of ` (a () (b 5 "st") c_1)`.
+const NODES: &str =
+    "1 form 4 2 word [97] 4 form 0 7 form 3 8 word [98] 10 5 12 string [115, 116] 18 word [99, 95, 49] ";
+
 /// The token of a word of a test's input: a digit, a string without escapes, or a name.
 fn token(alloc: Global, word: &[u8], place: u64) -> Result<Token, Fail> {
     let kind = match word {
@@ -107,6 +111,19 @@ fn shown_with_arguments(alloc: Global, tree: &Tree, node: NodeId) -> Result<Stri
     Ok(seen)
 }
 
+/// A node, and its arguments in order, each with its own arguments.
+fn shown_two_deep(alloc: Global, tree: &Tree, node: NodeId) -> Result<String, AllocError>
+    requires { IsNode tree.now.rows node }
+{
+    let mut seen = shown(alloc, tree, node)?;
+    if let Shape::Form(ids) = tree.shape(node) {
+        for id in ids {
+            seen.push_str(&shown_with_arguments(alloc, tree, *id)?)?;
+        }
+    }
+    Ok(seen)
+}
+
 #[test]
 fn first_tree_faults(rt: HostRuntime) -> Result<(), Fail> {
     let alloc = rt.alloc();
@@ -156,21 +173,7 @@ fn nodes(rt: HostRuntime) -> Result<(), Fail> {
     let text = b" (a () (b 5 \"st\") c_1)";
     let tokens = tokens(alloc, text)?;
     let tree = read_tree(alloc, &tokens, text.len() as u64)?;
-    let seen = shown_with_arguments(alloc, &tree, tree.root())?;
-    assert_eq!(rt;
-        seen.as_str(),
-        "1 form 4 2 word [97] 4 form 0 7 form 3 18 word [99, 95, 49] "
-    );
-    if let Shape::Form(ids) = tree.shape(tree.root()) {
-        for id in ids {
-            if tree.place(*id) == 7 {
-                let seen = shown_with_arguments(alloc, &tree, *id)?;
-                assert_eq!(rt;
-                    seen.as_str(),
-                    "7 form 3 8 word [98] 10 5 12 string [115, 116] "
-                );
-            }
-        }
-    }
+    let seen = shown_two_deep(alloc, &tree, tree.root())?;
+    assert_eq!(rt; seen.as_str(), NODES);
     Ok(())
 }

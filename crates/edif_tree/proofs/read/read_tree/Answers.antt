@@ -1,14 +1,11 @@
-use Rattle.std.proofs.Common.{◌≡◌, ◌≤◌, ◌+◌, ◌∙◌, ◌∷◌, ◌++◌, [], List, length, take, drop, ap, sym, subst, arith, append_assoc, None}
+use Rattle.std.proofs.Common.{◌≡◌, ◌+◌, ◌∙◌, ◌∷◌, ◌++◌, [], List, take, drop, ap, sym, subst, arith, append_assoc}
 use Rattle.std.proofs.lemmas.List.{take-append-drop, take_all}
 use Rattle.std.proofs.lemmas.Grind.{take_at_read}
 use Rattle.std.proofs.lemmas.Result.{err_from_is_err_and, IfOk-weaker, IfErr-weaker}
 use Rattle.spelling_spec.specs.declared.token.Token.{Token}
-use Rattle.spelling_spec.specs.Tree.{Placed}
-use Rattle.spelling_spec.specs.TreeFaults.{Lists, IsFile, tree_fault}
-use Rattle.edif_tree.specs.Nodes.{Table, IsAt}
+use Rattle.spelling_spec.specs.TreeFaults.{tree_fault}
 use Rattle.edif_tree.specs.Making.{HasRead}
 use Rattle.edif_tree.specs.TreeError.{Names}
-use Rattle.edif_tree.specs.declared.errors.TreeError.{TreeError}
 use Rattle.edif_tree.proofs.ReadFaults.{is_file}
 use Rattle.edif_tree.proofs.read.read_tree.Goals as goal
 

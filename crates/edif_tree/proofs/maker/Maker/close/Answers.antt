@@ -1,4 +1,4 @@
-use Rattle.std.proofs.Common.{◌≡◌, ◌≤◌, ◌∙◌, ◌∷◌, ◌++◌, [], length, drop, ap, sym, refl, arith}
+use Rattle.std.proofs.Common.{◌≡◌, ◌∙◌, ◌∷◌, ◌++◌, [], length, drop, ap, refl, arith}
 use Rattle.edif_tree.specs.Nodes.{FormOf}
 use Rattle.edif_tree.proofs.MakingLemmas.{read_right, can_cut, range_rest}
 use Rattle.edif_tree.proofs.maker.Maker.close.Goals as goal

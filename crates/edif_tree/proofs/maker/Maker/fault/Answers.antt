@@ -3,8 +3,7 @@ use Rattle.std.proofs.lemmas.Bool.{eqb-true, eqb-false}
 use Rattle.std.specs.Prelude.{vec_len}
 use Rattle.spelling_spec.specs.TreeFaults.{token_at, fault_at, tree_fault}
 use Rattle.spelling_spec.specs.declared.token.TokenKind.{TokenKind}
-use Rattle.spelling_spec.specs.declared.token.TokenKind.TheVariants.{LeftParen, RightParen}
-use Rattle.spelling_spec.specs.declared.tree_fault.TreeKind.TheVariants.{NotForm, ExtraClose, TooDeep, Trailing}
+use Rattle.spelling_spec.specs.declared.tree_fault.TreeKind.TheVariants.{ExtraClose, TooDeep}
 use Rattle.edif_tree.proofs.ReadFaults.{deep_at, close_at, trailing_at, form_at}
 use Rattle.edif_tree.proofs.maker.Maker.fault.Goals as goal
 

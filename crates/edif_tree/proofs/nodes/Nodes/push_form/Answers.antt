@@ -1,5 +1,5 @@
-use Rattle.std.proofs.Common.{◌≡◌, ◌≤◌, ◌++◌, ◌∷◌, [], ◌∙◌, ap, length, map, sym, subst, List, arith, length-append}
-use Rattle.edif_tree.specs.Nodes.{AreWithin, Row, FormOf, row_of}
+use Rattle.std.proofs.Common.{◌≡◌, ◌≤◌, ◌++◌, ◌∷◌, [], ◌∙◌, ap, length, sym, subst, List, arith, length-append}
+use Rattle.edif_tree.specs.Nodes.{AreWithin, FormOf}
 use Rattle.edif_tree.specs.declared.node.Node.{Node}
 use Rattle.edif_tree.proofs.NodeLemmas.{are_within_more, form_pushed}
 use Rattle.edif_tree.proofs.nodes.Nodes.push_form.Goals as goal
