@@ -1,8 +1,12 @@
 pub mod EscapeLemmas
 pub mod FaultLemmas
+pub mod FirstTreeFault
 pub mod IntegerLemmas
 pub mod LexedLemmas
 pub mod Listings
+pub mod OneTreeFault
+pub mod PlacedListings
 pub mod RowLemmas
 pub mod SpelledTokens
 pub mod TextLemmas
+pub mod TreeFaultLemmas

@@ -6,4 +6,5 @@ pub mod Names
 pub mod Spelling
 pub mod Strings
 pub mod Tree
+pub mod TreeFaults
 pub mod Words

@@ -3,8 +3,12 @@
 
 pub mod laws;
 pub mod token;
+pub mod tree_fault;
+pub mod tree_laws;
 
 pub use laws::{
     one_fault, one_reading, one_spelled_tree, one_tree, row_is_spelled, spelled_has_no_fault,
 };
 pub use token::{LexKind, Token, TokenKind};
+pub use tree_fault::TreeKind;
+pub use tree_laws::{fault_is_first, one_placed_tree, spelled_has_no_tree_fault, tree_or_fault};

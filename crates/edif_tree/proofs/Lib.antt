@@ -1,0 +1,5 @@
+pub mod FaultSteps
+pub mod MakingLemmas
+pub mod NodeLemmas
+pub mod OneTree
+pub mod ReadFaults

@@ -1,0 +1,3 @@
+pub mod Making
+pub mod Nodes
+pub mod TreeError

@@ -1,0 +1,88 @@
+-- Which tree stands at a node of a list of nodes.
+use Rattle.std.specs.Prelude.{◌≡◌, ◌≤◌, FitsSigned, ℕ, ℤ, List, [], ◌∷◌, Some, slice_get}
+use Rattle.std.specs.Int.{w64}
+use Rattle.std.specs.List.{slice_range}
+use Rattle.spelling_spec.specs.Tree.{Placed, Trees, Form', Word', Integer', String', End, More}
+use Rattle.edif_tree.specs.declared.node.NodeId.{NodeId}
+use Rattle.edif_tree.specs.declared.node.Node.{Node}
+use Rattle.edif_tree.specs.declared.node.NodeKind.{NodeKind}
+use Rattle.edif_tree.specs.declared.node.NodeKind.TheVariants as kinds
+use Rattle.edif_tree.specs.declared.node.Shape.{Shape}
+use Rattle.edif_tree.specs.declared.node.Shape.TheVariants as shapes
+
+-- a form by the nodes of its arguments, or a token
+pub data Seen : Type 0 where
+  FormOf : (arguments : List NodeId) → Seen
+  WordOf : (name : List ℕ) → Seen
+  IntegerOf : (value : ℤ) → Seen
+  StringOf : (value : List ℕ) → Seen
+
+-- what is seen of a node: the number of bytes before its first token, and its shape
+pub record Row : Type 0 where
+  pub place : ℕ
+  pub shape : Seen
+
+-- the nodes of a tree, and the node at its top
+pub record Table : Type 0 where
+  pub rows : List Row
+  pub root : NodeId
+
+-- the shape where the arguments of all forms stand in one list
+abbrev pub shape_of : List NodeId → NodeKind → Seen
+shape_of arguments (kinds.Form first end) = FormOf (slice_range arguments first end)
+shape_of arguments (kinds.Word name) = WordOf name
+shape_of arguments (kinds.Integer value) = IntegerOf value
+shape_of arguments (kinds.String value) = StringOf value
+
+abbrev pub row_of : List NodeId → Node → Row
+row_of arguments node = record { place = node.place; shape = shape_of arguments node.kind }
+
+-- the arguments of a form lie within a list of this length, and an integer within 64 bits
+abbrev pub IsWithin : ℕ → NodeKind → Type 0
+IsWithin count (kinds.Form first end) = (first ≤ end) × (end ≤ count)
+IsWithin count (kinds.Integer value) = FitsSigned w64 value
+IsWithin count _ = Unit {0}
+
+abbrev pub AreWithin : ℕ → List Node → Type 0
+AreWithin count [] = Unit {0}
+AreWithin count (node ∷ nodes) = IsWithin count node.kind × AreWithin count nodes
+
+-- the tree stands at the node: its place, its kind, and its arguments at the nodes that the node names
+abbrev mutual
+  pub IsAt : List Row → NodeId → Placed → Type 0
+  IsAt rows id (Form' place arguments) = (ids : List NodeId) × (slice_get rows id.0 ≡ Some (record { place = place; shape = FormOf ids })) × AreAt rows ids arguments
+  IsAt rows id (Word' place name) = slice_get rows id.0 ≡ Some (record { place = place; shape = WordOf name })
+  IsAt rows id (Integer' place value) = slice_get rows id.0 ≡ Some (record { place = place; shape = IntegerOf value })
+  IsAt rows id (String' place value) = slice_get rows id.0 ≡ Some (record { place = place; shape = StringOf value })
+
+  pub AreAt : List Row → List NodeId → Trees ℕ → Type 0
+  AreAt rows [] End = Unit {0}
+  AreAt rows [] (More t ts) = ⊥
+  AreAt rows (id ∷ ids) End = ⊥
+  AreAt rows (id ∷ ids) (More t ts) = IsAt rows id t × AreAt rows ids ts
+
+-- some tree stands at the node
+abbrev pub IsNode : List Row → NodeId → Type 0
+IsNode rows id = (t : Placed) × IsAt rows id t
+
+-- the place of the first token of a tree
+abbrev pub place_of : Placed → ℕ
+place_of (Form' place arguments) = place
+place_of (Word' place name) = place
+place_of (Integer' place value) = place
+place_of (String' place value) = place
+
+-- what is lent of a node is the tree's: the nodes of its arguments in order, or its token
+abbrev pub ShapeIs : List Row → Shape → Placed → Type 0
+ShapeIs rows (shapes.Form ids) (Form' place arguments) = AreAt rows ids.now arguments
+ShapeIs rows (shapes.Word name) (Word' place n) = name.now ≡ n
+ShapeIs rows (shapes.Integer value) (Integer' place n) = value ≡ n
+ShapeIs rows (shapes.String text) (String' place s) = text.now ≡ s
+ShapeIs rows _ _ = ⊥
+
+-- what is seen where this is lent
+abbrev pub seen : Shape → Seen
+seen (shapes.Form ids) = FormOf ids.now
+seen (shapes.Word name) = WordOf name.now
+seen (shapes.Integer value) = IntegerOf value
+seen (shapes.String text) = StringOf text.now

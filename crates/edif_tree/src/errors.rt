@@ -1,0 +1,23 @@
+//! Why tokens have no tree.
+ghost use Rattle.std.specs.Prelude.{◌≡◌};
+ghost use Rattle.edif_tree.specs.declared.errors.TreeError.TheVariants.{NoMemory};
+
+use netlist_schema::NoMemory;
+use spelling_spec::TreeKind;
+
+/// What ended the reading of tokens.
+#[derive(Clone, Copy, Debug, PartialEq, Eq)]
+pub enum TreeError {
+    /// The first tree fault of the tokens, and the number of bytes before it.
+    At { kind: TreeKind, place: u64 },
+    /// An allocation was refused, or the tree has more nodes than a `u32` counts.
+    NoMemory,
+}
+
+impl From<NoMemory> for TreeError {
+    ghost from_gives = { λ _ e. e ≡ NoMemory };
+
+    fn from(_e: NoMemory) -> TreeError {
+        TreeError::NoMemory
+    }
+}
