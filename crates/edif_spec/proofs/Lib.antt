@@ -1,9 +1,13 @@
 pub mod Arrange
 pub mod ArrangeOrder
 pub mod Both
+pub mod CellFaultsApart
 pub mod CellPlaces
 pub mod ContentsMeanings
 pub mod Defined
+pub mod FaultForms
+pub mod FaultsApart
+pub mod FileFaultsApart
 pub mod Files
 pub mod Fine
 pub mod Followers
@@ -16,8 +20,8 @@ pub mod OnceFile
 pub mod Order
 pub mod PlainLemmas
 pub mod PlainMeanings
-pub mod Ready
 pub mod ReadBack
+pub mod Ready
 pub mod Scopes
 pub mod StringLemmas
 pub mod ValidForms
