@@ -267,7 +267,7 @@ name_width t n (Some w) h =
     let u = part_there keywords.Array t (h.0 ∷ integer (pos w) ∷ []) [] 1 (integer (pos w)) h.1 refl in
     ap (λ b. width_with b (slice_get (arguments t) 1)) (keyword_of keywords.Array (bare t) (h.0 ∷ integer (pos w) ∷ []) [] h.1) ∙ (ap (width_with true) u.1 ∙ integer_width u.0 w u.2)
 
-port_declares : (t : Placed) (p : design.Port) → MeansPort (bare t) p → declared_width t ≡ port_width p
+pub port_declares : (t : Placed) (p : design.Port) → MeansPort (bare t) p → declared_width t ≡ port_width p
 port_declares t p h =
     let u = part_there keywords.Port t (h.name_part ∷ []) h.inner 0 h.name_part h.form refl in
     ap first_width u.1 ∙ name_width u.0 p.name p.array (subst (λ v. MeansPortName v p.name p.array) (sym u.2) h.name)

@@ -13,6 +13,8 @@ pub mod Fine
 pub mod Followers
 pub mod FromValid
 pub mod Groups
+pub mod KnownForms
+pub mod KnownRows
 pub mod Layouts
 pub mod Meanings
 pub mod Once
