@@ -81,7 +81,7 @@ inst_apart libs own t x f h d (inr (inr (inl b))) = view_ref_apart libs own b.0 
 inst_apart libs own t x f h d (inr (inr (inr (inl b)))) = texts_apart keywords.Designator (parts keywords.Instance keywords.Designator t) (those keywords.Designator h.inner) x.designator f (parts_are keywords.Instance keywords.Designator t (h.name_part ∷ h.view_part ∷ []) h.inner h.form) h.designator b
 inst_apart libs own t x f h d (inr (inr (inr (inr b)))) = properties_apart (parts keywords.Instance keywords.Property t) (those keywords.Property h.inner) x.properties f (parts_are keywords.Instance keywords.Property t (h.name_part ∷ h.view_part ∷ []) h.inner h.form) h.properties d b
 
-inst_named : (libs : List design.Lib) (own : Option ℕ) (t : Placed) (x : design.Inst) → MeansInst libs own (bare t) x → IsNamed t x.name.id
+pub inst_named : (libs : List design.Lib) (own : Option ℕ) (t : Placed) (x : design.Inst) → MeansInst libs own (bare t) x → IsNamed t x.name.id
 inst_named libs own t x h = form_named keywords.Instance t h.name_part (h.view_part ∷ []) h.inner x.name h.form h.name
 
 -- ends
@@ -135,7 +135,7 @@ follower_has true h = refl
 follower_has false h = absurd (cc h)
 
 -- a list whose elements all pass is what passes of it
-all_kept : (k : Keyword) (ts : List Bare) → IsTrue (list_all (is_follower (Many k ∷ [])) ts) → those k ts ≡ ts
+pub all_kept : (k : Keyword) (ts : List Bare) → IsTrue (list_all (is_follower (Many k ∷ [])) ts) → those k ts ≡ ts
 all_kept k [] h = refl
 all_kept k (t ∷ ts) h =
     let f = both (is_follower (Many k ∷ []) t) (list_all (is_follower (Many k ∷ [])) ts) h in
@@ -155,11 +155,11 @@ net_apart libs ports insts t x f h d (inr (inr (inl b))) =
     ]
 net_apart libs ports insts t x f h d (inr (inr (inr b))) = properties_apart (parts keywords.Net keywords.Property t) (those keywords.Property h.inner) x.properties f (parts_are keywords.Net keywords.Property t (h.name_part ∷ h.joined_part ∷ []) h.inner h.form) h.properties d b
 
-net_named : (libs : List design.Lib) (ports : List design.Port) (insts : List design.Inst) (t : Placed) (x : design.Net) → MeansNet libs ports insts (bare t) x → IsNamed t x.name.id
+pub net_named : (libs : List design.Lib) (ports : List design.Port) (insts : List design.Inst) (t : Placed) (x : design.Net) → MeansNet libs ports insts (bare t) x → IsNamed t x.name.id
 net_named libs ports insts t x h = form_named keywords.Net t h.name_part (h.joined_part ∷ []) h.inner x.name h.form h.name
 
 -- the ends of a net, in order
-net_ends : (libs : List design.Lib) (ports : List design.Port) (insts : List design.Inst) (t : Placed) (x : design.Net) → MeansNet libs ports insts (bare t) x → AllZip (λ u e. MeansEnd libs ports insts (bare u) e) (ends_in t) x.ends
+pub net_ends : (libs : List design.Lib) (ports : List design.Port) (insts : List design.Inst) (t : Placed) (x : design.Net) → MeansNet libs ports insts (bare t) x → AllZip (λ u e. MeansEnd libs ports insts (bare u) e) (ends_in t) x.ends
 net_ends libs ports insts t x h =
     let u = part_there keywords.Net t (h.name_part ∷ h.joined_part ∷ []) h.inner 1 h.joined_part h.form refl in
     let j = subst (λ v. IsFormOf keywords.Joined v [] h.refs) (sym u.2) h.joined in
@@ -173,7 +173,7 @@ zip_append R [] (y ∷ ys) us vs h k = absurd h
 zip_append R (x ∷ xs) [] us vs h k = absurd h
 zip_append R (x ∷ xs) (y ∷ ys) us vs h k = (h.0, zip_append R xs ys us vs h.1 k)
 
-zip_flat : {A B C D : Type 0} (R : A → B → Type 0) (S : C → D → Type 0) (f : A → List C) (g : B → List D) → ((x : A) (y : B) → R x y → AllZip S (f x) (g y)) → (xs : List A) (ys : List B) → AllZip R xs ys → AllZip S (flat_map f xs) (flat_map g ys)
+pub zip_flat : {A B C D : Type 0} (R : A → B → Type 0) (S : C → D → Type 0) (f : A → List C) (g : B → List D) → ((x : A) (y : B) → R x y → AllZip S (f x) (g y)) → (xs : List A) (ys : List B) → AllZip R xs ys → AllZip S (flat_map f xs) (flat_map g ys)
 zip_flat R S f g each [] [] h = tt
 zip_flat R S f g each [] (y ∷ ys) h = absurd h
 zip_flat R S f g each (x ∷ xs) [] h = absurd h

@@ -13,6 +13,7 @@ pub mod Fine
 pub mod Followers
 pub mod FromValid
 pub mod Groups
+pub mod KnownCells
 pub mod KnownForms
 pub mod KnownRows
 pub mod Layouts
