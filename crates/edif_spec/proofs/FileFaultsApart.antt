@@ -55,11 +55,11 @@ pub record FineLibrary (l : design.Lib) : Type 0 where
   pub names : AreDistinct (cell_names l.cells)
   pub count : length l.cells ≤ 65536
 
-cells_are : (e : Bool) (t : Placed) (n l g : Bare) (inner : List Bare) → IsFormOf (library_keyword e) (bare t) (n ∷ l ∷ g ∷ []) inner → map bare (cells_in t) ≡ those keywords.Cell inner
+pub cells_are : (e : Bool) (t : Placed) (n l g : Bare) (inner : List Bare) → IsFormOf (library_keyword e) (bare t) (n ∷ l ∷ g ∷ []) inner → map bare (cells_in t) ≡ those keywords.Cell inner
 cells_are false t n l g inner h = parts_are keywords.Library keywords.Cell t (n ∷ l ∷ g ∷ []) inner h
 cells_are true t n l g inner h = parts_are keywords.External keywords.Cell t (n ∷ l ∷ g ∷ []) inner h
 
-external_is : (e : Bool) (t n l g : Bare) (inner : List Bare) → IsFormOf (library_keyword e) t (n ∷ l ∷ g ∷ []) inner → has_keyword keywords.External t ≡ e
+pub external_is : (e : Bool) (t n l g : Bare) (inner : List Bare) → IsFormOf (library_keyword e) t (n ∷ l ∷ g ∷ []) inner → has_keyword keywords.External t ≡ e
 external_is true t n l g inner h = keyword_of keywords.External t (n ∷ l ∷ g ∷ []) inner h
 external_is false t n l g inner h = go (has_keyword keywords.External t) refl
   where
@@ -99,7 +99,7 @@ library_apart before t l f h v b = go (cells_are l.head.external t h.name_part h
         let n : length (cells_in t) ≡ length l.cells = sym (map_length bare (cells_in t)) ∙ (ap length e ∙ after_length (λ cells. MeansCell (before ++ record { head = l.head; cells = cells } ∷ []) (Some (length before))) [] (those keywords.Cell h.inner) l.cells h.cells) in
         let k : length l.cells ≤ 65536 = v.count in beyond_apart 65536 (cells_in t) f (omega (arith, n, k)) b
 
-library_named : (before : List design.Lib) (t : Placed) (l : design.Lib) → MeansLibrary before (bare t) l → IsNamed t l.head.name.id
+pub library_named : (before : List design.Lib) (t : Placed) (l : design.Lib) → MeansLibrary before (bare t) l → IsNamed t l.head.name.id
 library_named before t l h = form_named (library_keyword l.head.external) t h.name_part (h.level_part ∷ h.technology_part ∷ []) h.inner l.head.name h.form h.name
 
 -- notes
@@ -121,19 +121,19 @@ steps_apart libs id (t ∷ ts) (u ∷ bs) (n ∷ ns) f e h (inr (inr b)) =
     steps_apart libs h.2.of ts bs ns f r h.7 (subst P x b.7)
 
 -- the parts of a note
-note_arguments : (libs : List design.Lib) (top : design.CellId) (t : Placed) (n : design.Note) (h : MeansNote libs top (bare t) n) → map bare (arguments t) ≡ word h.mark ∷ form (word h.path_word ∷ h.steps) ∷ h.property_part ∷ []
+pub note_arguments : (libs : List design.Lib) (top : design.CellId) (t : Placed) (n : design.Note) (h : MeansNote libs top (bare t) n) → map bare (arguments t) ≡ word h.mark ∷ form (word h.path_word ∷ h.steps) ∷ h.property_part ∷ []
 note_arguments libs top t n h = arguments_of_form h.spelled t (word h.mark ∷ form (word h.path_word ∷ h.steps) ∷ h.property_part ∷ []) h.is
 
 argument_is : (t u : Placed) (bs : List Bare) (i : ℕ) (b : Bare) → map bare (arguments t) ≡ bs → slice_get (arguments t) i ≡ Some u → slice_get bs i ≡ Some b → bare u ≡ b
 argument_is t u bs i b e g k = let w : Some (bare u) ≡ Some b = sym (get_map bare (arguments t) i u g) ∙ (ap (λ v. slice_get v i) e ∙ k) in cc w
 
-note_path : (libs : List design.Lib) (top : design.CellId) (t u : Placed) (n : design.Note) → MeansNote libs top (bare t) n → slice_get (arguments t) 1 ≡ Some u → MeansPath libs top (map bare (arguments u)) n.path
+pub note_path : (libs : List design.Lib) (top : design.CellId) (t u : Placed) (n : design.Note) → MeansNote libs top (bare t) n → slice_get (arguments t) 1 ≡ Some u → MeansPath libs top (map bare (arguments u)) n.path
 note_path libs top t u n h e =
     let w : bare u ≡ form (word h.path_word ∷ h.steps) = argument_is t u (word h.mark ∷ form (word h.path_word ∷ h.steps) ∷ h.property_part ∷ []) 1 (form (word h.path_word ∷ h.steps)) (note_arguments libs top t n h) e refl in
     let s : map bare (arguments u) ≡ h.steps = arguments_of_form h.path_word u h.steps w in
     subst (λ v. MeansPath libs top v n.path) (sym s) h.path
 
-note_property : (libs : List design.Lib) (top : design.CellId) (t u : Placed) (n : design.Note) → MeansNote libs top (bare t) n → slice_get (arguments t) 2 ≡ Some u → MeansProperty (bare u) n.property
+pub note_property : (libs : List design.Lib) (top : design.CellId) (t u : Placed) (n : design.Note) → MeansNote libs top (bare t) n → slice_get (arguments t) 2 ≡ Some u → MeansProperty (bare u) n.property
 note_property libs top t u n h e =
     let w : bare u ≡ h.property_part = argument_is t u (word h.mark ∷ form (word h.path_word ∷ h.steps) ∷ h.property_part ∷ []) 2 h.property_part (note_arguments libs top t n h) e refl in
     subst (λ v. MeansProperty v n.property) (sym w) h.property
@@ -154,7 +154,7 @@ note_apart libs top t n f h (inr (inr (inl b))) =
 note_apart libs top t n f h (inr (inr (inr b))) = property_apart b.0 n.property f (note_property libs top t b.0 n h b.1) b.3
 
 -- the path and the key of a note
-abbrev HasKey : List design.Lib → design.CellId → Placed → List (List ℕ) × List ℕ → Type 0
+abbrev pub HasKey : List design.Lib → design.CellId → Placed → List (List ℕ) × List ℕ → Type 0
 HasKey libs top u k = (n : design.Note) × MeansNote libs top (bare u) n × (note_key n ≡ k)
 
 same_note : (libs : List design.Lib) (top : design.CellId) (f : MeaningFault) (a b : Placed) (x y : List (List ℕ) × List ℕ) → HasKey libs top a x → HasKey libs top b y → SameNote libs top f a b → x ≡ y
@@ -200,7 +200,7 @@ design_apart libs notes t d f h v (inr (inr (inr (inr b)))) =
         ]
 
 -- what stands before the design
-before_bare : (ts : List Placed) → map bare (before_the_design ts) ≡ before_design (map bare ts)
+pub before_bare : (ts : List Placed) → map bare (before_the_design ts) ≡ before_design (map bare ts)
 before_bare [] = refl
 before_bare (t ∷ ts) = go (has_keyword keywords.Design (bare t)) (before_bare ts)
   where

@@ -59,7 +59,7 @@ library_refs_known libs (Some i) [] h l = inl (i, refl)
 library_refs_known libs own (t ∷ u ∷ ts) h l = absurd (omega arith)
 library_refs_known libs own (t ∷ []) h l = elim (library_ref_known libs own t h.0) [ inr b ↦ inr (inl (b.0, inl b.1)) | inl x ↦ inl x ]
 
-parts_bare : (k j : Keyword) (t : Placed) → map bare (parts k j t) ≡ those j (map bare (followers k t))
+pub parts_bare : (k j : Keyword) (t : Placed) → map bare (parts k j t) ≡ those j (map bare (followers k t))
 parts_bare k j t = filter_bare (has_keyword j) (followers k t)
 
 parts_length : (k j : Keyword) (t : Placed) → length (parts k j t) ≡ length (those j (map bare (followers k t)))
@@ -177,7 +177,7 @@ net_known libs ports insts t h = elim (known2 keywords.Net name_definition (the 
             (record { name = n.2; properties = ps.typed }, ps.keys)) ] ] ] ]
 
 -- equality of ends
-option_same : (a b : Option ℕ) → (a ≡ b) ⊎ (a ≢ b)
+pub option_same : (a b : Option ℕ) → (a ≡ b) ⊎ (a ≢ b)
 option_same None None = inl refl
 option_same None (Some y) = inr (λ e. absurd (cc e))
 option_same (Some x) None = inr (λ e. absurd (cc e))

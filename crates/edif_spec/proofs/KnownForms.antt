@@ -40,15 +40,15 @@ map_append : {A B : Type 0} (f : A → B) (xs ys : List A) → map f (xs ++ ys) 
 map_append f [] ys = refl
 map_append f (x ∷ xs) ys = ap (λ v. f x ∷ v) (map_append f xs ys)
 
-trees_bares : (ts : Trees ℕ) → trees (map bare (items ts)) ≡ bares ts
+pub trees_bares : (ts : Trees ℕ) → trees (map bare (items ts)) ≡ bares ts
 trees_bares End = refl
 trees_bares (More t ts) = ap (λ v. More (bare t) v) (trees_bares ts)
 
 -- the fixed arguments stand in their places
-abbrev FixedFit : List (List Choice) → List Placed → Type 0
+abbrev pub FixedFit : List (List Choice) → List Placed → Type 0
 FixedFit cs ts = AllZip (λ c u. is_one_of c (bare u) ≡ true) cs ts
 
-fixed_known : (wrong : Placed → MeaningFault) (place : ℕ) (cs : List (List Choice)) (ts : List Placed) → FixedFit cs (take (length cs) ts) ⊎ Faulty (FixedFault wrong place cs ts)
+pub fixed_known : (wrong : Placed → MeaningFault) (place : ℕ) (cs : List (List Choice)) (ts : List Placed) → FixedFit cs (take (length cs) ts) ⊎ Faulty (FixedFault wrong place cs ts)
 fixed_known wrong place [] ts = inl tt
 fixed_known wrong place (c ∷ cs) [] = inr (At BadForm place, refl)
 fixed_known wrong place (c ∷ cs) (t ∷ ts) = go (test (is_one_of c (bare t))) (fixed_known wrong place cs ts)

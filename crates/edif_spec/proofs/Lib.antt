@@ -14,6 +14,7 @@ pub mod Followers
 pub mod FromValid
 pub mod Groups
 pub mod KnownCells
+pub mod KnownFile
 pub mod KnownForms
 pub mod KnownRows
 pub mod Layouts
