@@ -119,7 +119,7 @@ fits_known k cs fs p q name ts r h =
         let fit : FitsRow (Takes cs fs) (map bare (take (length cs) (items ts))) (map bare (drop (length cs) (items ts))) = (fixed_bare cs (take (length cs) (items ts)) x, y, z) in
         let P : Row → Type 0 = λ v. FitsRow v (map bare (take (length cs) (items ts))) (map bare (drop (length cs) (items ts))) in
         let e : bare t ≡ form (word name ∷ (map bare (take (length cs) (items ts)) ++ map bare (drop (length cs) (items ts)))) =
-            ap (λ v. Form' tt (More (word name) v)) (sym (trees_bares ts) ∙ ap trees (ap (map bare) s ∙ map_append bare (take (length cs) (items ts)) (drop (length cs) (items ts)))) in
+        ap (λ v. Form' tt (More (word name) v)) (sym (trees_bares ts) ∙ ap trees (ap (map bare) s ∙ map_append bare (take (length cs) (items ts)) (drop (length cs) (items ts)))) in
         let f : IsFormOf k (bare t) (map bare (take (length cs) (items ts))) (map bare (drop (length cs) (items ts))) = record { spelled = name; is = e; keyword = h; fits = subst P (sym r) fit } in
         let Q : List Placed → Type 0 = λ v. IsFormOf k (bare t) (map bare (take (length cs) (items ts))) (map bare v) in
         inl (record { fixed = take (length cs) (items ts); split = s ∙ ap (λ v. take (length cs) (items ts) ++ v) (sym n); choices = x; form = subst Q (sym n) f })

@@ -14,9 +14,11 @@ pub mod Followers
 pub mod FromValid
 pub mod Groups
 pub mod KnownCells
+pub mod KnownDesigns
 pub mod KnownFile
 pub mod KnownForms
 pub mod KnownRows
+pub mod KnownValid
 pub mod Layouts
 pub mod Meanings
 pub mod Once

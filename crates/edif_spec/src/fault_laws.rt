@@ -1,11 +1,15 @@
 //! Laws on what a tree means and which faults stand in it.
+ghost use Rattle.std.specs.Prelude.{◌⊎◌};
 ghost use Rattle.spelling_spec.specs.Tree.{bare, Placed};
 ghost use Rattle.edif_spec.specs.Design.{Design};
 ghost use Rattle.edif_spec.specs.Means.{MeansFile};
 ghost use Rattle.edif_spec.specs.Stands.{Stands};
+ghost use Rattle.edif_spec.specs.Writable.{IsWritable};
 ghost use Rattle.edif_spec.specs.declared.fault.MeaningFault.{MeaningFault};
 
-/// No fault stands in a tree that means a design.
-pub fn meaning_has_no_fault()
-    ensures { (t : Placed) (d : Design) (f : MeaningFault) → MeansFile (bare t) d → Stands t f → ⊥ }
+/// A tree means a design, or a fault stands in it, and not both. The tree is any whose words are identifiers, whose integers
+/// fit 64 bits and whose strings are of bytes, as all that a text spells are.
+pub fn fault_or_meaning()
+    ensures apart { (t : Placed) (d : Design) (f : MeaningFault) → MeansFile (bare t) d → Stands t f → ⊥ }
+    ensures known { (t : Placed) → IsWritable (bare t) → ((d : Design) × MeansFile (bare t) d) ⊎ ((f : MeaningFault) × Stands t f) }
 {}
