@@ -13,7 +13,7 @@ use Rattle.edif_spec.specs.Rows.{has_keyword, those, is_follower, IsFormOf, Each
 use Rattle.edif_spec.specs.Canonical.{kind_word, ports_of_end}
 use Rattle.edif_spec.specs.Means.{meant, Found, Absent, Several, width_at, MeansName, MeansText, MeansPort, MeansInterface, MeansLibraryRef, MeansCellRef, MeansViewRef, MeansInst, MeansInstRef, MeansBit, MeansEnd, MeansNet, MeansContents, IsNetlist, MeansView, MeansKind, MeansCell}
 use Rattle.edif_spec.specs.Faults.{AtOne, AtTwo, arguments, followers, those_of, parts, Among, InPart, RowFault, Repeats, Beyond}
-use Rattle.edif_spec.specs.Stands.{WordFault, Dangles, NameFault, PropertiesFault, ports_in, InterfaceFault, LibraryRefFault, CellRefFault, ViewRefFault, InstFault, InstRefFault, WholeFault, IndexFault, BitFault, EndFault, JoinedFault, NetFault, ends_joined, ends_in, insts_in, nets_in, SameEnd, NetsFault, ContentsFault, is_netlist, TypeFault, InContents, ViewFault, is_cell_type, CellTypeFault, CellFault}
+use Rattle.edif_spec.specs.Stands.{WordFault, Dangles, NameFault, PropertiesFault, ports_in, InterfaceFault, LibraryRefFault, CellRefFault, ViewRefFault, InstFault, InstRefFault, WholeFault, IndexFault, BitFault, EndFault, JoinedFault, NetFault, MemberShapeFault, EndShapeFault, NetShapeFault, ends_joined, ends_in, insts_in, nets_in, SameEnd, NetsFault, ContentsFault, is_netlist, TypeFault, InContents, ViewFault, is_cell_type, CellTypeFault, CellFault}
 use Rattle.edif_spec.specs.Design as design
 use Rattle.edif_spec.specs.declared.keyword.Keyword.{Keyword}
 use Rattle.edif_spec.specs.declared.keyword.Keyword.TheVariants as keywords
@@ -189,6 +189,32 @@ map_same : {A : Type 0} (xs : List A) → map (λ x. x) xs ≡ xs
 map_same [] = refl
 map_same (x ∷ xs) = ap (λ v. x ∷ v) (map_same xs)
 
+-- shapes
+any_weaker : (F G : Placed → MeaningFault → Type 0) (f : MeaningFault) → ((u : Placed) → F u f → G u f) → (ts : List Placed) → Among F ts f → Among G ts f
+any_weaker F G f w [] b = b
+any_weaker F G f w (t ∷ ts) (inl b) = inl (w t b)
+any_weaker F G f w (t ∷ ts) (inr b) = inr (any_weaker F G f w ts b)
+
+member_shape_apart : (ports : List design.Port) (t : Placed) (p n : ℕ) (f : MeaningFault) → MeansBit ports (bare t) p n → MemberShapeFault t f → ⊥
+member_shape_apart ports t p n f (inl h) b = word_no_keyword keywords.Member (bare t) h.0 h.1 b.0
+member_shape_apart ports t p n f (inr h) b = row_apart keywords.Member t (word h.0 ∷ integer (pos n) ∷ []) [] f h.1 b.1
+
+end_shape_apart : (libs : List design.Lib) (ports : List design.Port) (insts : List design.Inst) (t : Placed) (x : design.End) (f : MeaningFault) → MeansEnd libs ports insts (bare t) x → EndShapeFault t f → ⊥
+end_shape_apart libs ports insts t x f h (inl b) = row_apart keywords.PortRef t (h.bit_part ∷ []) h.inner f h.form b
+end_shape_apart libs ports insts t x f h (inr (inl b)) = end_apart libs ports insts t x f h (inr (inl (any_weaker (RowFault keywords.InstanceRef) (InstRefFault insts) f (λ u c. inl c) (parts keywords.PortRef keywords.InstanceRef t) b)))
+end_shape_apart libs ports insts t x f h (inr (inr b)) = member_shape_apart (ports_of_end libs ports insts x.inst) b.0 x.port x.bit f
+    (subst (λ v. MeansBit (ports_of_end libs ports insts x.inst) v x.port x.bit) (sym (part_is keywords.PortRef t (h.bit_part ∷ []) h.inner 0 b.0 h.bit_part h.form b.1 refl)) h.bit) b.2
+
+net_shape_apart : (libs : List design.Lib) (ports : List design.Port) (insts : List design.Inst) (t : Placed) (x : design.Net) (f : MeaningFault) → MeansNet libs ports insts (bare t) x → HasDistinctKeys x.properties → NetShapeFault t f → ⊥
+net_shape_apart libs ports insts t x f h d (inl b) = net_apart libs ports insts t x f h d (inl b)
+net_shape_apart libs ports insts t x f h d (inr (inl b)) = net_apart libs ports insts t x f h d (inr (inl b))
+net_shape_apart libs ports insts t x f h d (inr (inr (inr b))) = net_apart libs ports insts t x f h d (inr (inr (inr b)))
+net_shape_apart libs ports insts t x f h d (inr (inr (inl b))) =
+    let j = subst (λ v. IsFormOf keywords.Joined v [] h.refs) (sym (part_is keywords.Net t (h.name_part ∷ h.joined_part ∷ []) h.inner 1 b.0 h.joined_part h.form b.1 refl)) h.joined in
+    elim (b.2) [
+        inl c ↦ row_apart keywords.Joined b.0 [] h.refs f j c
+      | inr c ↦ each_apart (MeansEnd libs ports insts) (λ e. Unit {0}) EndShapeFault f (λ u e m v k. end_shape_apart libs ports insts u e f m k) (parts keywords.Joined keywords.PortRef b.0) h.refs x.ends (joined_are b.0 h.refs j) h.ends (free_all x.ends) c ]
+
 -- what contents owe to the validity of their cell
 pub record FineContents (c : design.Contents) : Type 0 where
   pub insts : length c.insts ≤ 1048576
@@ -218,7 +244,8 @@ contents_apart libs own ports t c f h v b =
         → AllZip (λ u x. MeansEnd libs ports c.insts (bare u) x) (flat_map ends_in (nets_in t)) (flat_map (λ (n : design.Net). n.ends) c.nets) → ContentsFault libs own ports t f → ⊥
     go e d l m ends (inl b) = row_apart keywords.Contents t [] h.inner f h.form b
     go e d l m ends (inr (inl b)) = each_apart (MeansInst libs own) (λ (i : design.Inst). HasDistinctKeys i.properties) (InstFault libs own) f (λ u i k q r. inst_apart libs own u i f k q r) (insts_in t) (those keywords.Instance h.inner) c.insts e h.insts v.inst_keys b
-    go e d l m ends (inr (inr (inl b))) =
+    go e d l m ends (inr (inr (inl (inl b)))) = each_apart (MeansNet libs ports c.insts) (λ (n : design.Net). HasDistinctKeys n.properties) NetShapeFault f (λ u n q r s. net_shape_apart libs ports c.insts u n f q r s) (nets_in t) (those keywords.Net h.inner) c.nets d h.nets v.net_keys b
+    go e d l m ends (inr (inr (inl (inr b)))) =
         let P : List Bare → Type 0 = λ w. Each (MeansInst libs own) w c.insts in
         let i : b.0 ≡ c.insts = each_once (MeansInst libs own) (inst_once libs own) (map bare (insts_in t)) b.0 c.insts b.1 (subst P (sym e) h.insts) in
         let Q : List design.Inst → Type 0 = λ w. Among (NetFault libs ports w) (nets_in t) f ⊎ AtTwo (SameEnd libs ports w f) (flat_map ends_in (nets_in t)) in

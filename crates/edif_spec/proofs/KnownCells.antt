@@ -289,7 +289,7 @@ contents_known libs own ports t h = elim (known0 keywords.Contents (Many keyword
         let d : map bare (nets_in t) ≡ those keywords.Net (map bare (followers keywords.Contents t)) = parts_bare keywords.Contents keywords.Net t in
         let xs : Each (MeansInst libs own) (map bare (insts_in t)) x.0 = subst (λ v. Each (MeansInst libs own) v x.0) (sym e) x.1 in
         elim (each_in (MeansNet libs ports x.0) (λ n. IsTypedNet n × HasDistinctKeys n.properties) (NetFault libs ports x.0) keywords.Contents keywords.Net t (net_known libs ports x.0) h.1) [
-          | inr b ↦ inr (b.0, inr (inr (inl (x.0, xs, inl b.1))))
+          | inr b ↦ inr (b.0, inr (inr (inl (inr (x.0, xs, inl b.1)))))
           | inl y ↦ (let nets : AllZip (λ u n. MeansNet libs ports x.0 (bare u) n) (nets_in t) y.0 = each_with (MeansNet libs ports x.0) (λ u n. MeansNet libs ports x.0 (bare u) n) (λ u n k. k) (nets_in t) (those keywords.Net (map bare (followers keywords.Contents t))) y.0 d y.1 in
               let ends : AllZip (λ u z. MeansEnd libs ports x.0 (bare u) z) (flat_map ends_in (nets_in t)) (flat_map (λ (n : design.Net). n.ends) y.0) =
               zip_flat (λ u n. MeansNet libs ports x.0 (bare u) n) (λ u z. MeansEnd libs ports x.0 (bare u) z) ends_in (λ (n : design.Net). n.ends) (net_ends libs ports x.0) (nets_in t) y.0 nets in
@@ -297,7 +297,7 @@ contents_known libs own ports t h = elim (known0 keywords.Contents (Many keyword
               let mn : length (nets_in t) ≡ length y.0 = each_count (MeansNet libs ports x.0) (nets_in t) (those keywords.Net (map bare (followers keywords.Contents t))) y.0 d y.1 in
               let en : length (flat_map ends_in (nets_in t)) ≡ length (flat_map (λ (n : design.Net). n.ends) y.0) = zip_length (λ u z. MeansEnd libs ports x.0 (bare u) z) (flat_map ends_in (nets_in t)) (flat_map (λ (n : design.Net). n.ends) y.0) ends in
               elim (ends_known libs ports x.0 (flat_map ends_in (nets_in t)) (flat_map (λ (n : design.Net). n.ends) y.0) ends) [
-                | inr b ↦ inr (b.0, inr (inr (inl (x.0, xs, inr b.1))))
+                | inr b ↦ inr (b.0, inr (inr (inl (inr (x.0, xs, inr b.1)))))
                 | inl once ↦ elim (names_known (λ (i : design.Inst). i.name.id) (insts_in t) x.0 (each_with (MeansInst libs own) (λ u i. IsNamed u i.name.id) (inst_named libs own) (insts_in t) (those keywords.Instance (map bare (followers keywords.Contents t))) x.0 e x.1)) [
                   | inr b ↦ inr (b.0, inr (inr (inr (inl b.1))))
                   | inl di ↦ elim (names_known (λ (n : design.Net). n.name.id) (nets_in t) y.0 (each_with (MeansNet libs ports x.0) (λ u n. IsNamed u n.name.id) (net_named libs ports x.0) (nets_in t) (those keywords.Net (map bare (followers keywords.Contents t))) y.0 d y.1)) [

@@ -143,6 +143,21 @@ JoinedFault libs ports insts t f = RowFault keywords.Joined t f ⊎ Among (EndFa
 abbrev pub NetFault : List design.Lib → List design.Port → List design.Inst → Placed → MeaningFault → Type 0
 NetFault libs ports insts t f = RowFault keywords.Net t f ⊎ (InPart 0 NameFault t f ⊎ (InPart 1 (JoinedFault libs ports insts) t f ⊎ PropertiesFault (parts keywords.Net keywords.Property t) f))
 
+-- in a member, the shape alone
+abbrev pub MemberShapeFault : Placed → MeaningFault → Type 0
+MemberShapeFault t f = IsTrue (has_keyword keywords.Member (bare t)) × RowFault keywords.Member t f
+
+-- in an end, the shape alone: its row, that of its instance, that of its member
+abbrev pub EndShapeFault : Placed → MeaningFault → Type 0
+EndShapeFault t f = RowFault keywords.PortRef t f ⊎ (Among (RowFault keywords.InstanceRef) (parts keywords.PortRef keywords.InstanceRef t) f ⊎ InPart 0 MemberShapeFault t f)
+
+abbrev pub JoinedShapeFault : Placed → MeaningFault → Type 0
+JoinedShapeFault t f = RowFault keywords.Joined t f ⊎ Among EndShapeFault (parts keywords.Joined keywords.PortRef t) f
+
+-- in a net, whatever its ends mean: its row, its name, the shape of what it joins, its properties
+abbrev pub NetShapeFault : Placed → MeaningFault → Type 0
+NetShapeFault t f = RowFault keywords.Net t f ⊎ (InPart 0 NameFault t f ⊎ (InPart 1 JoinedShapeFault t f ⊎ PropertiesFault (parts keywords.Net keywords.Property t) f))
+
 abbrev pub ends_joined : Option Placed → List Placed
 ends_joined None = []
 ends_joined (Some u) = parts keywords.Joined keywords.PortRef u
@@ -166,9 +181,10 @@ abbrev pub NetsFault : List design.Lib → Option ℕ → List design.Port → P
 NetsFault libs own ports t f = (insts : List design.Inst) × Each (MeansInst libs own) (map bare (insts_in t)) insts
     × (Among (NetFault libs ports insts) (nets_in t) f ⊎ AtTwo (SameEnd libs ports insts f) (flat_map ends_in (nets_in t)))
 
--- in contents: its row, its instances, its nets, a name of either that repeats, more instances, nets or ends than allowed
+-- In contents: its row; its instances; the shape of its nets; its nets and their ends, where the instances are meant; a name of
+-- an instance or of a net that repeats; more instances, nets or ends than allowed.
 abbrev pub ContentsFault : List design.Lib → Option ℕ → List design.Port → Placed → MeaningFault → Type 0
-ContentsFault libs own ports t f = RowFault keywords.Contents t f ⊎ (Among (InstFault libs own) (insts_in t) f ⊎ (NetsFault libs own ports t f
+ContentsFault libs own ports t f = RowFault keywords.Contents t f ⊎ (Among (InstFault libs own) (insts_in t) f ⊎ ((Among NetShapeFault (nets_in t) f ⊎ NetsFault libs own ports t f)
     ⊎ (Repeats (insts_in t) f ⊎ (Repeats (nets_in t) f ⊎ (Beyond 1048576 (insts_in t) f ⊎ (Beyond 1048576 (nets_in t) f ⊎ Beyond 4194304 (flat_map ends_in (nets_in t)) f))))))
 
 abbrev pub is_netlist : List ℕ → Bool
