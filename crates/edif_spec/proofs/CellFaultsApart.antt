@@ -1,19 +1,19 @@
 -- No fault stands in a form that means something: references, instances, nets, contents, views and cells.
-use Rattle.std.proofs.Common.{◌≡◌, ◌≢◌, ℕ, zero, suc, ◌+◌, ◌<◌, ◌≤◌, ℤ, pos, List, [], ◌∷◌, ◌++◌, map, length, refl, ap, sym, ◌∙◌, subst, ◌⊎◌, inl, inr, Bool, true, false, Option, Some, None, arith}
-use Rattle.std.specs.Prelude.{IsTrue, cond, ◌&&◌, ◌||◌, filter, slice_get, IfSome}
-use Rattle.std.specs.List.{AllZip, AllByRecursion, All, flat_map, list_all, sum_by}
+use Rattle.std.proofs.Common.{◌≡◌, ℕ, suc, ◌<◌, ◌≤◌, pos, List, [], ◌∷◌, ◌++◌, map, length, refl, ap, sym, ◌∙◌, subst, ◌⊎◌, inl, inr, Bool, true, false, Option, Some, None, arith}
+use Rattle.std.specs.Prelude.{IsTrue, cond, ◌||◌, IfSome}
+use Rattle.std.specs.List.{AllZip, AllByRecursion, All, flat_map, list_all}
 use Rattle.std.proofs.lemmas.List.Elements.{recursion_from_All}
 use Rattle.netlist_schema.specs.Design.{port_width, insts_of, nets_of, ends_of}
 use Rattle.netlist_schema.specs.Design as schema
 use Rattle.netlist_schema.specs.Limits.{IsCellWithinLimits}
 use Rattle.netlist_schema.specs.Names.{AreDistinct, HasDistinctKeys, HasDistinctNamesInCell}
-use Rattle.spelling_spec.specs.Tree.{Bare, Placed, Form', Word', Integer', String', form, word, integer, bare}
-use Rattle.edif_spec.specs.Keyword.{same, row, Follower, Many, One}
+use Rattle.spelling_spec.specs.Tree.{Bare, Placed, Word', Integer', word, integer, bare}
+use Rattle.edif_spec.specs.Keyword.{same, Many}
 use Rattle.edif_spec.specs.Rows.{has_keyword, those, is_follower, IsFormOf, Each, Perhaps, Just}
 use Rattle.edif_spec.specs.Canonical.{kind_word, ports_of_end}
-use Rattle.edif_spec.specs.Means.{meant, Found, Absent, Several, width_at, MeansName, MeansText, MeansPort, MeansInterface, MeansLibraryRef, MeansCellRef, MeansViewRef, MeansInst, MeansInstRef, MeansBit, MeansEnd, MeansNet, MeansContents, IsNetlist, MeansView, MeansKind, MeansCell}
-use Rattle.edif_spec.specs.Faults.{AtOne, AtTwo, arguments, followers, those_of, parts, Among, InPart, RowFault, Repeats, Beyond}
-use Rattle.edif_spec.specs.Stands.{WordFault, Dangles, NameFault, PropertiesFault, ports_in, InterfaceFault, LibraryRefFault, CellRefFault, ViewRefFault, InstFault, InstRefFault, WholeFault, IndexFault, BitFault, EndFault, JoinedFault, NetFault, MemberShapeFault, EndShapeFault, NetShapeFault, ends_joined, ends_in, insts_in, nets_in, SameEnd, NetsFault, ContentsFault, is_netlist, TypeFault, InContents, ViewFault, is_cell_type, CellTypeFault, CellFault}
+use Rattle.edif_spec.specs.Means.{meant, Found, Absent, Several, width_at, MeansName, MeansPort, MeansInterface, MeansLibraryRef, MeansCellRef, MeansViewRef, MeansInst, MeansInstRef, MeansBit, MeansEnd, MeansNet, MeansContents, IsNetlist, MeansView, MeansKind, MeansCell}
+use Rattle.edif_spec.specs.Faults.{AtTwo, parts, Among, InPart, RowFault}
+use Rattle.edif_spec.specs.Stands.{Dangles, ports_in, LibraryRefFault, CellRefFault, ViewRefFault, InstFault, InstRefFault, IndexFault, BitFault, EndFault, NetFault, MemberShapeFault, EndShapeFault, NetShapeFault, ends_joined, ends_in, insts_in, nets_in, SameEnd, ContentsFault, is_netlist, TypeFault, ViewFault, is_cell_type, CellTypeFault, CellFault}
 use Rattle.edif_spec.specs.Design as design
 use Rattle.edif_spec.specs.declared.keyword.Keyword.{Keyword}
 use Rattle.edif_spec.specs.declared.keyword.Keyword.TheVariants as keywords
@@ -23,8 +23,8 @@ use Rattle.netlist_schema.specs.declared.cell.CellKind.TheVariants as kinds
 use Rattle.edif_spec.proofs.Both.{both}
 use Rattle.edif_spec.proofs.Once.{each_once, perhaps_once, word_no_form, port_once}
 use Rattle.edif_spec.proofs.OnceFile.{library_ref_once, cell_ref_once, inst_once, inst_ref_once, end_once}
-use Rattle.edif_spec.proofs.FaultForms.{part_is, part_there, parts_are, followers_are, row_apart, each_apart, perhaps_apart, just_apart, each_length, map_length, filter_bare, beyond_apart, each_with, IsNamed, repeats_apart, two_apart, differ, Differ, none_of_one}
-use Rattle.edif_spec.proofs.FaultsApart.{keyword_of, word_no_keyword, name_apart, text_apart, texts_apart, properties_apart, word_apart, three, form_named, interface_apart, FineInterface, free_all}
+use Rattle.edif_spec.proofs.FaultForms.{part_is, part_there, parts_are, row_apart, each_apart, perhaps_apart, just_apart, each_length, map_length, beyond_apart, each_with, IsNamed, repeats_apart, two_apart, differ, Differ}
+use Rattle.edif_spec.proofs.FaultsApart.{word_no_keyword, name_apart, texts_apart, properties_apart, word_apart, three, form_named, interface_apart, FineInterface, free_all}
 
 -- references
 pub dangles_apart : (scope : List (List ℕ)) (u : Placed) (w : List ℕ) (i : ℕ) (f : MeaningFault) → bare u ≡ word w → meant scope w ≡ Found i → Dangles scope u f → ⊥
@@ -212,8 +212,9 @@ net_shape_apart libs ports insts t x f h d (inr (inr (inr b))) = net_apart libs 
 net_shape_apart libs ports insts t x f h d (inr (inr (inl b))) =
     let j = subst (λ v. IsFormOf keywords.Joined v [] h.refs) (sym (part_is keywords.Net t (h.name_part ∷ h.joined_part ∷ []) h.inner 1 b.0 h.joined_part h.form b.1 refl)) h.joined in
     elim (b.2) [
-        inl c ↦ row_apart keywords.Joined b.0 [] h.refs f j c
-      | inr c ↦ each_apart (MeansEnd libs ports insts) (λ e. Unit {0}) EndShapeFault f (λ u e m v k. end_shape_apart libs ports insts u e f m k) (parts keywords.Joined keywords.PortRef b.0) h.refs x.ends (joined_are b.0 h.refs j) h.ends (free_all x.ends) c ]
+      | inl c ↦ row_apart keywords.Joined b.0 [] h.refs f j c
+      | inr c ↦ each_apart (MeansEnd libs ports insts) (λ e. Unit {0}) EndShapeFault f (λ u e m v k. end_shape_apart libs ports insts u e f m k) (parts keywords.Joined keywords.PortRef b.0) h.refs x.ends (joined_are b.0 h.refs j) h.ends (free_all x.ends) c
+    ]
 
 -- what contents owe to the validity of their cell
 pub record FineContents (c : design.Contents) : Type 0 where

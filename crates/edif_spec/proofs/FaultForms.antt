@@ -1,18 +1,17 @@
 -- A form that fits its row, seen with places: its parts, and that no breach of the row stands in it.
-use Rattle.std.proofs.Common.{◌≡◌, ◌≢◌, ℕ, zero, suc, ◌+◌, ◌<◌, ◌≤◌, List, [], ◌∷◌, ◌++◌, map, length, refl, ap, sym, ◌∙◌, subst, ◌⊎◌, inl, inr, Bool, true, false, Option, Some, None, arith, slice_index_or}
-use Rattle.std.specs.Prelude.{IsTrue, cond, ◌&&◌, filter, drop, slice_get, IfSome}
+use Rattle.std.proofs.Common.{◌≡◌, ◌≢◌, ℕ, zero, suc, ◌<◌, ◌≤◌, List, [], ◌∷◌, ◌++◌, map, length, refl, ap, sym, ◌∙◌, subst, inl, inr, Bool, true, false, Option, Some, None, arith}
+use Rattle.std.specs.Prelude.{IsTrue, cond, filter, drop, slice_get, IfSome}
 use Rattle.std.specs.List.{list_all, AllZip, AllByRecursion, All}
 use Rattle.std.proofs.lemmas.List.Elements.{recursion_from_All}
 use Rattle.netlist_schema.specs.Names.{AreDistinct}
-use Rattle.spelling_spec.specs.Tree.{Bare, Placed, Trees, Form', Word', Integer', String', End, More, form, word, trees, items, bare, bares}
+use Rattle.spelling_spec.specs.Tree.{Bare, Placed, Trees, Form', Word', Integer', String', End, More, form, word, items, bare, bares}
 use Rattle.edif_spec.specs.Keyword.{row, Row, Takes, Skips, Choice, Follower, Many, One}
 use Rattle.edif_spec.specs.Rows.{has_keyword, those, is_one_of, is_follower, AtMostOnce, FitsRow, IsFormOf, Each, EachAfter, Perhaps, Just}
-use Rattle.edif_spec.specs.Faults.{AtOne, AtTwo, place_of, arguments, fixed_count, followers, those_of, parts, Among, InPart, FixedFault, FollowerFault, SecondFault, second, Breaches, RowFault, token_kind, misplaced, Beyond, defined, SameName, Repeats}
+use Rattle.edif_spec.specs.Faults.{AtOne, AtTwo, place_of, arguments, fixed_count, followers, those_of, parts, Among, FixedFault, FollowerFault, SecondFault, second, Breaches, RowFault, token_kind, misplaced, Beyond, defined, SameName, Repeats}
 use Rattle.edif_spec.specs.Stands.{AmongAfter}
 use Rattle.edif_spec.specs.declared.keyword.Keyword.{Keyword}
 use Rattle.edif_spec.specs.declared.fault.Kind.{Kind}
 use Rattle.edif_spec.specs.declared.fault.MeaningFault.{MeaningFault}
-use Rattle.edif_spec.specs.declared.fault.MeaningFault.TheVariants.{At}
 use Rattle.edif_spec.specs.declared.fault.Kind.TheVariants.{BadForm}
 use Rattle.edif_spec.proofs.Both.{both}
 use Rattle.edif_spec.proofs.Once.{items_trees}

@@ -1,18 +1,16 @@
 -- No fault stands in a form that means something: from names to interfaces.
-use Rattle.std.proofs.Common.{◌≡◌, ◌≢◌, ℕ, zero, suc, ◌+◌, ◌<◌, ◌≤◌, ℤ, pos, List, [], ◌∷◌, ◌++◌, map, length, refl, ap, sym, ◌∙◌, subst, ◌⊎◌, inl, inr, Bool, true, false, Option, Some, None, arith}
-use Rattle.std.specs.Prelude.{IsTrue, cond, ◌||◌, filter, slice_get, IfSome, sum_by, FitsSigned, unwrap_or}
+use Rattle.std.proofs.Common.{◌≡◌, ℕ, ◌+◌, ◌<◌, ◌≤◌, ℤ, pos, List, [], ◌∷◌, ◌++◌, map, length, refl, ap, sym, ◌∙◌, subst, ◌⊎◌, inl, inr, Bool, true, false, Option, Some, None, arith}
+use Rattle.std.specs.Prelude.{cond, ◌||◌, slice_get, IfSome, sum_by, FitsSigned, unwrap_or}
 use Rattle.std.specs.Int.{w32}
-use Rattle.std.specs.List.{AllZip, AllByRecursion, All, fold}
-use Rattle.std.proofs.lemmas.List.Elements.{recursion_from_All}
+use Rattle.std.specs.List.{AllZip, AllByRecursion, fold}
 use Rattle.netlist_schema.specs.Names.{AreDistinct, HasDistinctKeys}
 use Rattle.netlist_schema.specs.Design.{port_width}
-use Rattle.netlist_schema.specs.Width.{IsWidth}
-use Rattle.spelling_spec.specs.Tree.{Bare, Placed, Trees, Form', Word', Integer', String', End, More, form, word, integer, string, trees, items, bare, bares}
+use Rattle.spelling_spec.specs.Tree.{Bare, Placed, Form', Word', Integer', String', End, More, form, word, integer, string, bare, bares}
 use Rattle.edif_spec.specs.Keyword.{same, spelling_of}
 use Rattle.edif_spec.specs.Rows.{has_keyword, those, IsFormOf, Each, Perhaps}
 use Rattle.edif_spec.specs.Canonical.{direction_word}
-use Rattle.edif_spec.specs.Means.{MeansName, MeansText, MeansBoolean, MeansNumber, MeansValue, MeansProperty, MeansProperties, MeansDirection, MeansPortName, MeansPort, MeansInterface}
-use Rattle.edif_spec.specs.Faults.{AtOne, arguments, those_of, parts, Among, InPart, RowFault, holds_name, name_of, first_name, defined, Repeats, Beyond, BeyondBits, width_with, width_of, first_width, declared_width}
+use Rattle.edif_spec.specs.Means.{MeansName, MeansText, MeansBoolean, MeansNumber, MeansValue, MeansProperty, MeansDirection, MeansPortName, MeansPort, MeansInterface}
+use Rattle.edif_spec.specs.Faults.{arguments, parts, Among, InPart, RowFault, holds_name, name_of, defined, BeyondBits, width_with, width_of, first_width, declared_width}
 use Rattle.edif_spec.specs.Stands.{WordFault, NameFault, ExponentFault, BooleanFault, NumberFault, InValue, PropertyFault, PropertiesFault, is_direction, DirectionFault, SizeFault, PortNameFault, PortFault, ports_in, InterfaceFault}
 use Rattle.edif_spec.specs.Design as design
 use Rattle.edif_spec.specs.declared.keyword.Keyword.{Keyword}
@@ -24,7 +22,6 @@ use Rattle.netlist_schema.specs.declared.property.Num.TheVariants as numbers
 use Rattle.netlist_schema.specs.declared.property.Value.TheVariants as values
 use Rattle.netlist_schema.specs.declared.cell.Direction.TheVariants as directions
 use Rattle.edif_spec.proofs.Groups.{same_left}
-use Rattle.edif_spec.proofs.Once.{word_no_form, other_keyword}
 use Rattle.edif_spec.proofs.FaultForms.{part_is, part_there, parts_are, row_apart, each_apart, perhaps_apart, each_length, map_length, beyond_apart, each_with, IsNamed, repeats_apart}
 
 -- a form that means something has its keyword

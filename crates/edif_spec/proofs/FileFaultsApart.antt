@@ -1,19 +1,19 @@
 -- No fault stands in a tree that means a design: libraries, notes, the design and the file.
-use Rattle.std.proofs.Common.{◌≡◌, ◌≢◌, ℕ, zero, suc, ◌+◌, ◌<◌, ◌≤◌, ℤ, pos, List, [], ◌∷◌, ◌++◌, map, length, refl, ap, sym, ◌∙◌, subst, ◌⊎◌, inl, inr, Bool, true, false, Option, Some, None, arith}
-use Rattle.std.specs.Prelude.{IsTrue, cond, ◌&&◌, ◌||◌, filter, slice_get, IfSome, take, drop}
-use Rattle.std.specs.List.{AllZip, AllByRecursion, All, list_all}
+use Rattle.std.proofs.Common.{◌≡◌, ℕ, ◌<◌, ◌≤◌, ℤ, pos, List, [], ◌∷◌, ◌++◌, map, length, refl, ap, sym, ◌∙◌, subst, ◌⊎◌, inl, inr, Bool, true, false, Option, Some, None, arith}
+use Rattle.std.specs.Prelude.{IsTrue, cond, filter, slice_get, IfSome, take, drop}
+use Rattle.std.specs.List.{AllByRecursion, list_all}
 use Rattle.std.specs.Option.{option_map_or}
 use Rattle.std.proofs.lemmas.List.Elements.{recursion_from_All}
 use Rattle.netlist_schema.specs.Hierarchy.{IsCell}
 use Rattle.netlist_schema.specs.Names.{AreDistinct, HasDistinctKeys, note_key, cell_names}
 use Rattle.netlist_schema.specs.Valid.{IsValid}
-use Rattle.spelling_spec.specs.Tree.{Bare, Placed, Form', Word', Integer', String', form, word, integer, bare}
-use Rattle.edif_spec.specs.Keyword.{same, spelling_of, Choice, identifier, the}
-use Rattle.edif_spec.specs.Rows.{has_keyword, those, is_one_of, is_follower, IsFormOf, Each, EachAfter, Perhaps}
+use Rattle.spelling_spec.specs.Tree.{Bare, Placed, form, word, integer, bare}
+use Rattle.edif_spec.specs.Keyword.{same, spelling_of, the}
+use Rattle.edif_spec.specs.Rows.{has_keyword, those, is_one_of, is_follower, IsFormOf, EachAfter}
 use Rattle.edif_spec.specs.Canonical.{library_keyword}
 use Rattle.edif_spec.specs.Means.{meant, Found, MeansName, MeansProperty, MeansCellRef, MeansCell, IsLevel, MeansLibrary, is_library, is_note, MeansPath, MeansNote, MeansDesign, before_design, libs_before_design, MeansFile}
-use Rattle.edif_spec.specs.Faults.{AtOne, AtTwo, place_of, arguments, followers, those_of, parts, Among, InPart, FixedFault, FollowerFault, RowFault, defined, Repeats, Beyond}
-use Rattle.edif_spec.specs.Stands.{ValueFault, NameFault, PropertyFault, CellFault, LevelFault, AmongAfter, cells_in, CellsFault, LibraryFault, bad_form, note_parts, StepsFault, PathFault, NoteFault, SameNote, notes_in, NotesFault, DesignFault, VersionFault, MapFault, before_the_design, libraries, InDesign, FileFault, Stands}
+use Rattle.edif_spec.specs.Faults.{AtTwo, place_of, arguments, followers, parts, Among, RowFault, Beyond}
+use Rattle.edif_spec.specs.Stands.{ValueFault, CellFault, LevelFault, AmongAfter, cells_in, LibraryFault, bad_form, note_parts, StepsFault, NoteFault, SameNote, notes_in, NotesFault, DesignFault, VersionFault, MapFault, before_the_design, libraries, FileFault, Stands}
 use Rattle.edif_spec.specs.Design as design
 use Rattle.edif_spec.specs.declared.keyword.Keyword.{Keyword}
 use Rattle.edif_spec.specs.declared.keyword.Keyword.TheVariants as keywords

@@ -1,34 +1,32 @@
 -- A form means something, or a fault stands in it: references, instances, nets, contents, views and cells.
-use Rattle.std.proofs.Common.{◌≡◌, ◌≢◌, ℕ, zero, suc, ◌+◌, ◌<◌, ◌≤◌, ℤ, pos, negsuc, List, [], ◌∷◌, ◌++◌, map, length, refl, ap, sym, ◌∙◌, subst, ◌⊎◌, inl, inr, Bool, true, false, Option, Some, None, arith}
-use Rattle.std.specs.Prelude.{IsTrue, cond, ◌&&◌, ◌||◌, filter, slice_get, IfSome, nat_lt}
-use Rattle.std.specs.List.{AllZip, AllByRecursion, All, flat_map, list_all}
+use Rattle.std.proofs.Common.{◌≡◌, ◌≢◌, ℕ, ◌+◌, ◌<◌, ◌≤◌, ℤ, pos, negsuc, List, [], ◌∷◌, map, length, refl, ap, sym, ◌∙◌, subst, ◌⊎◌, inl, inr, Bool, true, false, Option, Some, None, arith}
+use Rattle.std.specs.Prelude.{IsTrue, cond, ◌||◌, IfSome, nat_lt}
+use Rattle.std.specs.List.{AllZip, AllByRecursion, All, flat_map}
 use Rattle.std.proofs.lemmas.List.Elements.{All-from_recursion, recursion_from_All}
 use Rattle.std.proofs.lemmas.Bool.Decides.{nat_tests}
-use Rattle.netlist_schema.specs.Design.{insts_of, nets_of, ends_of, insts_in as insts_inside, nets_in as nets_inside}
-use Rattle.netlist_schema.specs.Limits.{IsCellWithinLimits}
-use Rattle.netlist_schema.specs.Names.{AreDistinct, HasDistinctKeys, HasDistinctNamesInCell}
+use Rattle.netlist_schema.specs.Design.{insts_of, nets_of, insts_in as insts_inside, nets_in as nets_inside}
+use Rattle.netlist_schema.specs.Names.{AreDistinct, HasDistinctKeys}
 use Rattle.netlist_schema.specs.Typed.{IsBytes, IsTypedName, IsTypedProperty, IsTypedPort, IsTypedInst, IsTypedNet, IsTypedContents, IsTypedCell}
 use Rattle.spelling_spec.specs.Tree.{Bare, Placed, Form', Word', Integer', String', word, integer, bare}
 use Rattle.edif_spec.specs.Keyword.{same, Choice, AnIdentifier, AnInteger, AForm, Follower, Many, One, name_definition, identifier, the}
 use Rattle.edif_spec.specs.Keyword as keyword
 use Rattle.edif_spec.specs.Rows.{has_keyword, those, is_one_of, IsFormOf, Each, Perhaps, Just}
 use Rattle.edif_spec.specs.Canonical.{kind_word, ports_of_end}
-use Rattle.edif_spec.specs.Means.{Meant as Meaning, equal, equal_or, only_place, meant, Found, Absent, Several, width_at, MeansName, MeansText, MeansPort, MeansInterface, MeansLibraryRef, MeansCellRef, MeansViewRef, MeansInst, MeansInstRef, MeansBit, MeansEnd, MeansNet, MeansContents, IsNetlist, MeansView, MeansKind, MeansCell}
-use Rattle.edif_spec.specs.Faults.{AtOne, AtTwo, place_of, arguments, followers, those_of, parts, Among, InPart, RowFault, Repeats, Beyond}
-use Rattle.edif_spec.specs.Stands.{WordFault, Dangles, NameFault, PropertiesFault, ports_in, InterfaceFault, LibraryRefFault, CellRefFault, ViewRefFault, InstFault, InstRefFault, WholeFault, IndexFault, BitFault, EndFault, JoinedFault, NetFault, ends_joined, ends_in, insts_in, nets_in, SameEnd, NetsFault, ContentsFault, is_netlist, TypeFault, InContents, ViewFault, is_cell_type, CellTypeFault, CellFault}
+use Rattle.edif_spec.specs.Means.{Meant as Meaning, equal, equal_or, only_place, meant, Found, Absent, Several, width_at, MeansText, MeansPort, MeansLibraryRef, MeansCellRef, MeansViewRef, MeansInst, MeansInstRef, MeansBit, MeansEnd, MeansNet, MeansContents, IsNetlist, MeansView, MeansKind, MeansCell}
+use Rattle.edif_spec.specs.Faults.{AtTwo, place_of, followers, parts, Among, InPart, RowFault}
+use Rattle.edif_spec.specs.Stands.{Dangles, ports_in, LibraryRefFault, CellRefFault, ViewRefFault, InstFault, InstRefFault, IndexFault, BitFault, EndFault, JoinedFault, NetFault, ends_in, insts_in, nets_in, SameEnd, ContentsFault, is_netlist, TypeFault, ViewFault, is_cell_type, CellTypeFault, CellFault}
 use Rattle.edif_spec.specs.Design as design
 use Rattle.edif_spec.specs.declared.keyword.Keyword.{Keyword}
 use Rattle.edif_spec.specs.declared.keyword.Keyword.TheVariants as keywords
 use Rattle.edif_spec.specs.declared.fault.Kind.TheVariants.{BadForm, NotNetlist, Unresolved, Ambiguous, BadIndex, WholeArray}
 use Rattle.edif_spec.specs.declared.fault.ClashKind.TheVariants.{EndTwice}
-use Rattle.edif_spec.specs.declared.fault.MeaningFault.{MeaningFault}
 use Rattle.edif_spec.specs.declared.fault.MeaningFault.TheVariants.{At, Clash}
 use Rattle.netlist_schema.specs.declared.cell.CellKind.TheVariants as kinds
-use Rattle.edif_spec.proofs.FaultForms.{filter_bare, map_length, each_length, each_with, IsNamed}
+use Rattle.edif_spec.proofs.FaultForms.{filter_bare, map_length, each_with, IsNamed}
 use Rattle.edif_spec.proofs.CellFaultsApart.{all_kept, inst_named, net_named, net_ends, zip_flat, zip_length, FineContents, FineCell}
 use Rattle.edif_spec.proofs.FaultsApart.{FineInterface}
-use Rattle.edif_spec.proofs.KnownForms.{Faulty, test, Written, IsOf, Meant, each_known, perhaps_known, beyond_known, names_known, distinct_known, differ_distinct, nat_same, parts_of, word_choice, integer_choice, either, only, form_choice, Fits0, Fits1, Fits2, Fits3, known0, known1, known2, known3}
-use Rattle.edif_spec.proofs.KnownRows.{follow_none, perhaps_in, each_in, name_known, text_known, properties_known, KnownProperties, interface_known, KnownInterface, first_all, second_all, each_count}
+use Rattle.edif_spec.proofs.KnownForms.{Faulty, test, Written, IsOf, Meant, beyond_known, names_known, distinct_known, differ_distinct, nat_same, parts_of, word_choice, integer_choice, either, only, form_choice, known0, known1, known2, known3}
+use Rattle.edif_spec.proofs.KnownRows.{follow_none, perhaps_in, each_in, name_known, text_known, properties_known, interface_known, first_all, second_all, each_count}
 
 -- references
 pub record KnownRef (scope : List (List ℕ)) (u : Placed) : Type 0 where

@@ -1,20 +1,19 @@
 -- A tree of a file means a design, or a fault stands in it.
-use Rattle.std.proofs.Common.{◌≡◌, ◌≢◌, ℕ, zero, suc, ◌<◌, ◌≤◌, List, [], ◌∷◌, ◌++◌, map, length, refl, ap, sym, ◌∙◌, subst, ◌⊎◌, inl, inr, Bool, true, false, Option, Some, None, arith}
-use Rattle.std.specs.Prelude.{IsTrue, filter, slice_get, IfSome, IfNone, IsSome, is_some, take}
+use Rattle.std.proofs.Common.{◌≡◌, ℕ, zero, suc, ◌≤◌, List, [], ◌∷◌, ◌++◌, map, length, refl, ap, sym, ◌∙◌, subst, ◌⊎◌, inl, inr, true, Option, Some, None, arith}
+use Rattle.std.specs.Prelude.{filter, slice_get, IfSome, IfNone, IsSome, is_some, take}
 use Rattle.std.specs.List.{AllZip, AllByRecursion, All}
-use Rattle.std.proofs.lemmas.List.Elements.{All-from_recursion, recursion_from_All}
+use Rattle.std.proofs.lemmas.List.Elements.{All-from_recursion}
 use Rattle.netlist_schema.specs.Hierarchy.{IsCell}
 use Rattle.netlist_schema.specs.Names.{AreDistinct, HasDistinctKeys, note_key, lib_names, cell_names}
-use Rattle.netlist_schema.specs.Typed.{IsTyped, IsTypedName, IsTypedProperty, IsTypedCell, IsTypedNote}
+use Rattle.netlist_schema.specs.Typed.{IsTypedName, IsTypedProperty, IsTypedCell, IsTypedNote}
 use Rattle.netlist_schema.specs.Valid.{IsValid, IsNoteBelow}
 use Rattle.spelling_spec.specs.Tree.{Bare, Placed, bare}
-use Rattle.edif_spec.specs.Keyword.{Choice, Follower, Many, One, name_definition, the}
-use Rattle.edif_spec.specs.Rows.{has_keyword, those, is_one_of, IsFormOf, Each, EachAfter, Perhaps}
-use Rattle.edif_spec.specs.Means.{meant, Found, MeansLibrary, is_library, is_note, MeansDesign, MeansCellRef, before_design, libs_before_design, MeansFile}
-use Rattle.edif_spec.specs.Faults.{place_of, arguments, followers, parts, Among, misplaced, RowFault}
-use Rattle.edif_spec.specs.Stands.{LibraryFault, DesignFault, before_the_design, libraries, InDesign, FileFault, file_row, Stands}
+use Rattle.edif_spec.specs.Keyword.{Choice, Many, One, name_definition, the}
+use Rattle.edif_spec.specs.Rows.{has_keyword, those, is_one_of, IsFormOf, EachAfter, Perhaps}
+use Rattle.edif_spec.specs.Means.{MeansLibrary, is_library, is_note, MeansDesign, MeansCellRef, before_design, libs_before_design, MeansFile}
+use Rattle.edif_spec.specs.Faults.{arguments, followers, parts, Among, misplaced}
+use Rattle.edif_spec.specs.Stands.{LibraryFault, DesignFault, before_the_design, libraries, FileFault, file_row, Stands}
 use Rattle.edif_spec.specs.Design as design
-use Rattle.edif_spec.specs.declared.keyword.Keyword.{Keyword}
 use Rattle.edif_spec.specs.declared.keyword.Keyword.TheVariants as keywords
 use Rattle.edif_spec.specs.declared.fault.Kind.TheVariants.{BadForm}
 use Rattle.edif_spec.specs.declared.fault.MeaningFault.{MeaningFault}
@@ -23,10 +22,10 @@ use Rattle.edif_spec.proofs.FromValid.{weaker}
 use Rattle.edif_spec.proofs.Scopes.{some_of}
 use Rattle.edif_spec.proofs.FaultForms.{filter_bare, map_length, after_length, after_with, IsNamed}
 use Rattle.edif_spec.proofs.FileFaultsApart.{library_named, before_bare, libraries_before, front_after, FineTop}
-use Rattle.edif_spec.proofs.KnownForms.{Faulty, test, Written, IsOf, Meant, after_known, beyond_known, names_known, differ_distinct, kept_of, parts_of, arguments_written, followers_written, form_choice, Fits, row_known}
+use Rattle.edif_spec.proofs.KnownForms.{Faulty, test, Written, IsOf, after_known, beyond_known, names_known, differ_distinct, kept_of, parts_of, arguments_written, followers_written, form_choice, Fits, row_known}
 use Rattle.edif_spec.proofs.KnownRows.{name_known}
 use Rattle.edif_spec.proofs.KnownCells.{parts_bare}
-use Rattle.edif_spec.proofs.KnownFile.{level_known, version_known, map_known, KnownMap, library_known, FineLib, NamesFit, FineNote, design_known, KnownDesign}
+use Rattle.edif_spec.proofs.KnownFile.{level_known, version_known, map_known, library_known, FineLib, NamesFit, FineNote, design_known}
 use Rattle.edif_spec.proofs.KnownValid.{front_cell, cell_form, valid_cell, no_cycle, names_fit, notes_below, KnownCell}
 
 -- the fixed arguments of a file

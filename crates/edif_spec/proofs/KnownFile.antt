@@ -1,27 +1,25 @@
 -- A form means something, or a fault stands in it: levels, libraries, notes and the design.
-use Rattle.std.proofs.Common.{◌≡◌, ◌≢◌, ℕ, zero, suc, ◌+◌, ◌<◌, ◌≤◌, ℤ, pos, negsuc, List, [], ◌∷◌, ◌++◌, map, length, refl, ap, sym, ◌∙◌, subst, ◌⊎◌, inl, inr, Bool, true, false, Option, Some, None, arith}
-use Rattle.std.specs.Prelude.{IsTrue, cond, ◌&&◌, ◌||◌, filter, slice_get, IfSome, IsSome, take, drop, nat_eq}
-use Rattle.std.specs.List.{AllZip, AllByRecursion, All, list_all}
-use Rattle.std.proofs.lemmas.List.Elements.{All-from_recursion, recursion_from_All}
-use Rattle.std.proofs.lemmas.Bool.Decides.{nat_tests}
+use Rattle.std.proofs.Common.{◌≡◌, ◌≢◌, ℕ, suc, ◌<◌, ◌≤◌, ℤ, pos, negsuc, List, [], ◌∷◌, ◌++◌, map, length, refl, ap, sym, ◌∙◌, subst, ◌⊎◌, inl, inr, Bool, true, false, Some, None, arith}
+use Rattle.std.specs.Prelude.{IsTrue, filter, slice_get, take, drop}
+use Rattle.std.specs.List.{AllByRecursion, All, list_all}
+use Rattle.std.proofs.lemmas.List.Elements.{All-from_recursion}
 use Rattle.netlist_schema.specs.Ident.{IsIdentifier}
-use Rattle.netlist_schema.specs.Names.{AreDistinct, HasDistinctKeys, note_key, cell_names}
+use Rattle.netlist_schema.specs.Names.{AreDistinct, note_key, cell_names}
 use Rattle.netlist_schema.specs.Typed.{IsTypedName, IsTypedProperty, IsTypedCell, IsTypedNote}
-use Rattle.spelling_spec.specs.Tree.{Bare, Placed, Form', Word', Integer', String', End, More, form, word, integer, bare, items, trees}
+use Rattle.spelling_spec.specs.Tree.{Bare, Placed, Form', Word', Integer', String', End, More, form, word, integer, bare}
 use Rattle.edif_spec.specs.Keyword.{same, spelling_of, Choice, AnInteger, Follower, Many, One, name_definition, identifier, the}
 use Rattle.edif_spec.specs.Keyword as keyword
-use Rattle.edif_spec.specs.Rows.{has_keyword, those, is_one_of, is_follower, IsFormOf, Each, EachAfter, Perhaps}
+use Rattle.edif_spec.specs.Rows.{has_keyword, those, is_one_of, is_follower, IsFormOf, Each, EachAfter}
 use Rattle.edif_spec.specs.Canonical.{library_keyword}
-use Rattle.edif_spec.specs.Means.{Meant as Meaning, meant, Found, Absent, Several, MeansName, MeansProperty, MeansCellRef, MeansCell, IsLevel, MeansLibrary, is_library, is_note, has_mark, MeansPath, MeansNote, MeansDesign}
-use Rattle.edif_spec.specs.Faults.{AtOne, AtTwo, place_of, arguments, followers, those_of, parts, Among, InPart, FixedFault, FollowerFault, RowFault, defined, Repeats, Beyond}
-use Rattle.edif_spec.specs.Stands.{ValueFault, NameFault, PropertyFault, CellFault, LevelFault, AmongAfter, cells_in, CellsFault, LibraryFault, bad_form, note_parts, StepsFault, PathFault, NoteFault, SameNote, notes_in, NotesFault, DesignFault, VersionFault, MapFault}
+use Rattle.edif_spec.specs.Means.{Meant as Meaning, meant, Found, Absent, Several, MeansCell, IsLevel, MeansLibrary, is_library, is_note, has_mark, MeansPath, MeansNote, MeansDesign}
+use Rattle.edif_spec.specs.Faults.{place_of, arguments, followers, FixedFault, FollowerFault}
+use Rattle.edif_spec.specs.Stands.{ValueFault, CellFault, LevelFault, cells_in, LibraryFault, bad_form, note_parts, StepsFault, PathFault, NoteFault, SameNote, notes_in, DesignFault, VersionFault, MapFault}
 use Rattle.edif_spec.specs.Design as design
 use Rattle.edif_spec.specs.declared.keyword.Keyword.{Keyword}
 use Rattle.edif_spec.specs.declared.keyword.Keyword.TheVariants as keywords
 use Rattle.edif_spec.specs.declared.fault.Kind.{Kind}
 use Rattle.edif_spec.specs.declared.fault.Kind.TheVariants.{BadForm, BadLevel, BadVersion, BadPath}
 use Rattle.edif_spec.specs.declared.fault.ClashKind.TheVariants.{Duplicate}
-use Rattle.edif_spec.specs.declared.fault.MeaningFault.{MeaningFault}
 use Rattle.edif_spec.specs.declared.fault.MeaningFault.TheVariants.{At, Clash}
 use Rattle.edif_spec.proofs.Both.{both}
 use Rattle.edif_spec.proofs.Defined.{meant_there, name_there}
@@ -30,8 +28,8 @@ use Rattle.edif_spec.proofs.FaultForms.{filter_bare, map_length, after_length, a
 use Rattle.edif_spec.proofs.FaultsApart.{property_named}
 use Rattle.edif_spec.proofs.CellFaultsApart.{cell_named, FineCell}
 use Rattle.edif_spec.proofs.FileFaultsApart.{external_is, cells_are, note_path, note_property, note_arguments, HasKey, FineTop}
-use Rattle.edif_spec.proofs.KnownForms.{Faulty, test, Written, IsOf, Meant, each_known, after_known, beyond_known, names_known, distinct_known, bytes_same, list_same, nat_same, kept_of, parts_of, arguments_written, followers_written, followers_known, fixed_known, FixedFit, trees_bares, integer_choice, word_choice, either, only, form_choice, Fits1, Fits2, Fits3, known1, known2, known3}
-use Rattle.edif_spec.proofs.KnownRows.{follow_none, name_known, property_known, properties_known, KnownProperties, first_all, second_all, each_count}
+use Rattle.edif_spec.proofs.KnownForms.{Faulty, Written, IsOf, Meant, each_known, after_known, beyond_known, names_known, distinct_known, bytes_same, list_same, nat_same, kept_of, parts_of, arguments_written, followers_written, followers_known, fixed_known, FixedFit, trees_bares, integer_choice, word_choice, either, form_choice, Fits3, known1, known2, known3}
+use Rattle.edif_spec.proofs.KnownRows.{follow_none, name_known, property_known, properties_known, first_all, second_all, each_count}
 use Rattle.edif_spec.proofs.KnownCells.{cell_ref_known, cell_known}
 
 -- numbers

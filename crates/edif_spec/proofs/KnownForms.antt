@@ -1,26 +1,23 @@
 -- A form fits its row or a breach stands in it; and lists of forms mean something, or a fault is among them.
-use Rattle.std.proofs.Common.{◌≡◌, ◌≢◌, ℕ, zero, suc, ◌+◌, ◌<◌, ◌≤◌, ℤ, pos, List, [], ◌∷◌, ◌++◌, map, length, refl, ap, sym, ◌∙◌, subst, ◌⊎◌, inl, inr, Bool, true, false, Option, Some, None, arith, slice_index_or}
-use Rattle.std.specs.Prelude.{IsTrue, cond, not, ◌&&◌, ◌||◌, filter, drop, take, slice_get, IfSome, nat_eq}
+use Rattle.std.proofs.Common.{◌≡◌, ◌≢◌, ℕ, zero, suc, ◌<◌, ◌≤◌, ℤ, List, [], ◌∷◌, ◌++◌, map, length, refl, ap, sym, ◌∙◌, subst, ◌⊎◌, inl, inr, Bool, true, false, Option, Some, None, arith, slice_index_or}
+use Rattle.std.specs.Prelude.{IsTrue, cond, ◌||◌, filter, drop, take, slice_get, IfSome, nat_eq}
 use Rattle.std.specs.List.{list_all, AllZip, AllByRecursion, All}
-use Rattle.std.proofs.lemmas.List.Elements.{All-from_recursion, recursion_from_All}
+use Rattle.std.proofs.lemmas.List.Elements.{All-from_recursion}
 use Rattle.std.proofs.lemmas.Bool.Decides.{nat_tests}
 use Rattle.netlist_schema.specs.Names.{AreDistinct}
 use Rattle.spelling_spec.specs.Tree.{Bare, Placed, Trees, Form', Word', Integer', String', End, More, form, word, trees, items, bare, bares}
-use Rattle.edif_spec.specs.Keyword.{row, Row, Takes, Skips, Choice, AnIdentifier, AnInteger, AString, AForm, Follower, Many, One, name_definition}
-use Rattle.edif_spec.specs.Rows.{has_keyword, those, is_one_of, is_follower, AtMostOnce, FitsRow, IsFormOf, Each, EachAfter, Perhaps, Just}
-use Rattle.edif_spec.specs.Means.{equal}
+use Rattle.edif_spec.specs.Keyword.{row, Row, Takes, Choice, AnIdentifier, AnInteger, AString, AForm, Follower, Many, One}
+use Rattle.edif_spec.specs.Rows.{has_keyword, those, is_one_of, is_follower, AtMostOnce, FitsRow, IsFormOf, Each, EachAfter, Perhaps}
 use Rattle.edif_spec.specs.Writable.{IsWritable, AreWritable}
-use Rattle.edif_spec.specs.Faults.{AtOne, AtTwo, place_of, arguments, fixed_count, followers, those_of, parts, Among, InPart, FixedFault, FollowerFault, SecondFault, second, Breaches, RowFault, token_kind, misplaced, Beyond, defined, SameName, Repeats}
+use Rattle.edif_spec.specs.Faults.{AtOne, AtTwo, place_of, arguments, fixed_count, followers, those_of, parts, Among, FixedFault, FollowerFault, SecondFault, second, Breaches, RowFault, token_kind, misplaced, Beyond, SameName, Repeats}
 use Rattle.edif_spec.specs.Stands.{AmongAfter}
 use Rattle.edif_spec.specs.declared.keyword.Keyword.{Keyword}
-use Rattle.edif_spec.specs.declared.keyword.Keyword.TheVariants as keywords
-use Rattle.edif_spec.specs.declared.fault.Kind.{Kind}
 use Rattle.edif_spec.specs.declared.fault.MeaningFault.{MeaningFault}
 use Rattle.edif_spec.specs.declared.fault.MeaningFault.TheVariants.{At, Clash, OverLimit}
 use Rattle.edif_spec.specs.declared.fault.ClashKind.TheVariants.{Duplicate}
 use Rattle.edif_spec.specs.declared.fault.Kind.TheVariants.{BadForm}
-use Rattle.edif_spec.proofs.Both.{both, and_true}
-use Rattle.edif_spec.proofs.FaultForms.{items_bares, filter_bare, map_length, map_drop, Differ, IsNamed}
+use Rattle.edif_spec.proofs.Both.{and_true}
+use Rattle.edif_spec.proofs.FaultForms.{filter_bare, map_length, Differ, IsNamed}
 
 -- some fault of these stands
 abbrev pub Faulty : (MeaningFault → Type 0) → Type 0

@@ -1,7 +1,7 @@
 -- A form means something, or a fault stands in it: from names to interfaces.
-use Rattle.std.proofs.Common.{◌≡◌, ◌≢◌, ℕ, zero, suc, ◌+◌, ◌<◌, ◌≤◌, ◌^◌, ℤ, pos, negsuc, List, [], ◌∷◌, ◌++◌, map, length, refl, ap, sym, ◌∙◌, subst, ◌⊎◌, inl, inr, Bool, true, false, Option, Some, None, arith}
-use Rattle.std.specs.Prelude.{IsTrue, cond, ◌&&◌, ◌||◌, filter, slice_get, IfSome, sum_by, FitsSigned, nat_lt, nat_le, unwrap_or}
-use Rattle.std.specs.Int.{w32, w64}
+use Rattle.std.proofs.Common.{◌≡◌, ℕ, ◌+◌, ◌<◌, ◌≤◌, ◌^◌, ℤ, pos, negsuc, List, [], ◌∷◌, map, length, refl, ap, sym, ◌∙◌, subst, ◌⊎◌, inl, inr, true, false, Option, Some, None, arith}
+use Rattle.std.specs.Prelude.{IsTrue, ◌||◌, IfSome, sum_by, FitsSigned, nat_lt, nat_le}
+use Rattle.std.specs.Int.{w32}
 use Rattle.std.specs.List.{AllZip, AllByRecursion, All, list_all, fold}
 use Rattle.std.proofs.lemmas.List.Elements.{All-from_recursion}
 use Rattle.std.proofs.lemmas.Bool.Decides.{nat_tests}
@@ -9,18 +9,17 @@ use Rattle.netlist_schema.specs.Design.{port_width}
 use Rattle.netlist_schema.specs.Names.{AreDistinct, HasDistinctKeys}
 use Rattle.netlist_schema.specs.Typed.{IsBytes, IsTypedName, IsTypedNum, IsTypedValue, IsTypedProperty, IsTypedPort}
 use Rattle.netlist_schema.specs.Width.{IsWidth}
-use Rattle.spelling_spec.specs.Tree.{Bare, Placed, Trees, Form', Word', Integer', String', End, More, form, word, integer, string, bare}
+use Rattle.spelling_spec.specs.Tree.{Bare, Placed, Form', Word', Integer', String', integer, bare}
 use Rattle.edif_spec.specs.Keyword.{same, spelling_of, row, Row, Takes, Choice, AnIdentifier, AnInteger, AString, AForm, Follower, Many, One, name_definition, identifier, the}
 use Rattle.edif_spec.specs.Keyword as keyword
 use Rattle.edif_spec.specs.Rows.{has_keyword, those, is_one_of, is_follower, FitsRow, IsFormOf, Each, Perhaps}
 use Rattle.edif_spec.specs.Canonical.{direction_word}
-use Rattle.edif_spec.specs.Means.{MeansName, MeansText, MeansBoolean, MeansNumber, MeansValue, MeansProperty, MeansProperties, MeansDirection, MeansPortName, MeansPort, MeansInterface}
-use Rattle.edif_spec.specs.Faults.{AtOne, place_of, arguments, followers, those_of, parts, Among, InPart, RowFault, Repeats, Beyond, BeyondBits, declared_width}
-use Rattle.edif_spec.specs.Stands.{WordFault, NameFault, ExponentFault, BooleanFault, NumberFault, InValue, PropertyFault, PropertiesFault, is_direction, DirectionFault, SizeFault, PortNameFault, PortFault, ports_in, InterfaceFault}
+use Rattle.edif_spec.specs.Means.{MeansName, MeansText, MeansBoolean, MeansNumber, MeansValue, MeansProperty, MeansProperties, MeansDirection, MeansPortName, MeansPort}
+use Rattle.edif_spec.specs.Faults.{place_of, followers, parts, Among, InPart, RowFault, BeyondBits, declared_width}
+use Rattle.edif_spec.specs.Stands.{NameFault, BooleanFault, NumberFault, InValue, PropertyFault, PropertiesFault, is_direction, DirectionFault, SizeFault, PortNameFault, PortFault, ports_in, InterfaceFault}
 use Rattle.edif_spec.specs.Design as design
 use Rattle.edif_spec.specs.declared.keyword.Keyword.{Keyword}
 use Rattle.edif_spec.specs.declared.keyword.Keyword.TheVariants as keywords
-use Rattle.edif_spec.specs.declared.fault.Kind.{Kind}
 use Rattle.edif_spec.specs.declared.fault.Kind.TheVariants.{BadForm, BadIndex}
 use Rattle.edif_spec.specs.declared.fault.MeaningFault.{MeaningFault}
 use Rattle.edif_spec.specs.declared.fault.MeaningFault.TheVariants.{At, OverLimit}
@@ -29,7 +28,7 @@ use Rattle.netlist_schema.specs.declared.property.Value.TheVariants as values
 use Rattle.netlist_schema.specs.declared.cell.Direction.TheVariants as directions
 use Rattle.edif_spec.proofs.FaultForms.{each_length, filter_bare, map_length, each_with, IsNamed}
 use Rattle.edif_spec.proofs.FaultsApart.{or_first, property_named, port_named, port_declares}
-use Rattle.edif_spec.proofs.KnownForms.{Faulty, test, Written, IsOf, Meant, each_known, perhaps_known, beyond_known, names_known, parts_of, word_choice, integer_choice, string_choice, either, only, form_choice, Fits0, Fits1, Fits2, known0, known1, known2}
+use Rattle.edif_spec.proofs.KnownForms.{Faulty, test, Written, IsOf, Meant, each_known, perhaps_known, beyond_known, names_known, parts_of, word_choice, integer_choice, string_choice, either, only, known0, known1, known2}
 
 -- no follower stands where none may
 none_follows : (us : List Bare) → IsTrue (list_all (is_follower []) us) → us ≡ []

@@ -1,23 +1,23 @@
 -- What libraries mean, where no limit is passed and names differ, is valid.
-use Rattle.std.proofs.Common.{◌≡◌, ◌≢◌, ℕ, zero, suc, ◌+◌, ◌*◌, ◌<◌, ◌≤◌, List, [], ◌∷◌, ◌++◌, map, length, refl, ap, sym, ◌∙◌, subst, ◌⊎◌, inl, inr, Bool, true, false, Option, Some, None, arith, append-nil, slice_index_or}
-use Rattle.std.specs.Prelude.{IsTrue, slice_get, IfSome, IfNone, IsSome, IsSomeAnd, is_some, take, option_map, unwrap_or}
-use Rattle.std.specs.List.{AllByRecursion, All, Contains, flat_map}
+use Rattle.std.proofs.Common.{◌≡◌, ℕ, zero, suc, ◌+◌, ◌*◌, ◌<◌, ◌≤◌, List, [], ◌∷◌, ◌++◌, length, refl, ap, sym, ◌∙◌, subst, ◌⊎◌, inl, inr, Option, Some, None, arith, append-nil, slice_index_or}
+use Rattle.std.specs.Prelude.{slice_get, IsSome, IsSomeAnd, is_some, take, option_map, unwrap_or}
+use Rattle.std.specs.List.{AllByRecursion, Contains, flat_map}
 use Rattle.std.specs.Option.{option_map_or}
 use Rattle.std.proofs.lemmas.List.Elements.{All-from_recursion, recursion_from_All}
-use Rattle.netlist_schema.specs.Design.{insts_of, nets_of, ends_of, port_width, cell_at, insts_in as insts_inside, nets_in as nets_inside}
+use Rattle.netlist_schema.specs.Design.{insts_of, ends_of, port_width, insts_in as insts_inside, nets_in as nets_inside}
 use Rattle.netlist_schema.specs.Hierarchy.{IsCell, HasInst, insts_at, NoCellIsBelowItself, Resolves}
 use Rattle.netlist_schema.specs.Ident.{IsIdentifier}
-use Rattle.netlist_schema.specs.Typed.{IsTypedName, IsTypedProperty, IsTypedCell, IsTypedInst}
-use Rattle.netlist_schema.specs.Valid.{IsValid, IsValidCell, EachCellIsValid, HasBit, IsEndAt, IsEndOf, IsNoteBelow}
+use Rattle.netlist_schema.specs.Typed.{IsTypedCell, IsTypedInst}
+use Rattle.netlist_schema.specs.Valid.{IsValidCell, HasBit, IsEndAt, IsEndOf, IsNoteBelow}
 use Rattle.netlist_schema.proofs.Cells.{cell_of_inst, ranked_has_no_cycle}
 use Rattle.spelling_spec.specs.Tree.{Bare}
 use Rattle.edif_spec.specs.Rows.{those, Each, EachAfter, Perhaps, Just}
 use Rattle.edif_spec.specs.Canonical.{ports_of_end}
-use Rattle.edif_spec.specs.Means.{meant, Found, width_at, MeansInstRef, MeansBit, MeansEnd, MeansNet, MeansContents, MeansView, MeansCell, MeansLibrary, MeansPath, MeansNote, MeansDesign}
+use Rattle.edif_spec.specs.Means.{width_at, MeansInstRef, MeansBit, MeansEnd, MeansNet, MeansContents, MeansView, MeansCell, MeansLibrary, MeansPath, MeansNote}
 use Rattle.edif_spec.specs.Design as design
 use Rattle.edif_spec.specs.declared.keyword.Keyword.TheVariants as keywords
-use Rattle.edif_spec.proofs.Defined.{meant_there, name_there, cell_there, insts_defined, view_defined}
-use Rattle.edif_spec.proofs.FromValid.{all_at, all_by_place, weaker}
+use Rattle.edif_spec.proofs.Defined.{meant_there, name_there, insts_defined, view_defined}
+use Rattle.edif_spec.proofs.FromValid.{all_at, weaker}
 use Rattle.edif_spec.proofs.Scopes.{some_of, lib_of_cell}
 use Rattle.edif_spec.proofs.FaultForms.{get_below}
 use Rattle.edif_spec.proofs.CellFaultsApart.{FineCell}

@@ -3,13 +3,13 @@
 use Rattle.std.specs.Prelude.{◌≡◌, ◌≢◌, ℕ, ◌<◌, ◌⊎◌, pos, ℤ, FitsSigned, List, [], ◌∷◌, ◌++◌, map, length, filter, drop, Bool, false, ◌||◌, Option, Some, None, IsTrue, slice_get, codes, if◌then◌else◌}
 use Rattle.std.specs.Int.{w32}
 use Rattle.std.specs.List.{flat_map}
-use Rattle.spelling_spec.specs.Tree.{Bare, Placed, Form', Word', Integer', String', bare, word}
+use Rattle.spelling_spec.specs.Tree.{Bare, Placed, Word', Integer', bare, word}
 use Rattle.netlist_schema.specs.Width.{IsWidth}
 use Rattle.edif_spec.specs.Keyword.{same, identifier, the, Choice, Row, Takes}
-use Rattle.edif_spec.specs.Rows.{has_keyword, those, Each, EachAfter, Perhaps}
+use Rattle.edif_spec.specs.Rows.{has_keyword, Each, EachAfter, Perhaps}
 use Rattle.edif_spec.specs.Canonical.{ports_of_end}
 use Rattle.edif_spec.specs.Means.{meant, Found, Absent, Several, width_at, is_library, is_note, MeansName, MeansPort, MeansLibraryRef, MeansCellRef, MeansInst, MeansInstRef, MeansEnd, MeansCell, MeansLibrary, MeansPath}
-use Rattle.edif_spec.specs.Faults.{AtOne, AtTwo, place_of, arguments, followers, those_of, parts, Among, InPart, misplaced, FixedFault, FollowerFault, RowFault, defined, Repeats, Beyond, BeyondBits}
+use Rattle.edif_spec.specs.Faults.{AtTwo, place_of, arguments, followers, parts, Among, InPart, misplaced, FixedFault, FollowerFault, RowFault, defined, Repeats, Beyond, BeyondBits}
 use Rattle.edif_spec.specs.Design as design
 use Rattle.edif_spec.specs.declared.keyword.Keyword.{Keyword}
 use Rattle.edif_spec.specs.declared.keyword.Keyword.TheVariants as keywords
@@ -17,7 +17,7 @@ use Rattle.edif_spec.specs.declared.fault.Kind.{Kind}
 use Rattle.edif_spec.specs.declared.fault.Kind.TheVariants.{BadForm, BadVersion, BadLevel, NotNetlist, Unresolved, Ambiguous, BadIndex, WholeArray, BadPath}
 use Rattle.edif_spec.specs.declared.fault.ClashKind.TheVariants.{Duplicate, EndTwice}
 use Rattle.edif_spec.specs.declared.fault.MeaningFault.{MeaningFault}
-use Rattle.edif_spec.specs.declared.fault.MeaningFault.TheVariants.{NotInProfile, At, Clash}
+use Rattle.edif_spec.specs.declared.fault.MeaningFault.TheVariants.{At, Clash}
 
 -- a word that is none of those that its form has
 abbrev pub WordFault : (List ℕ → Bool) → Kind → Placed → MeaningFault → Type 0
