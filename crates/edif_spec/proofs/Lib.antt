@@ -29,6 +29,7 @@ pub mod PlainMeanings
 pub mod ReadBack
 pub mod Ready
 pub mod Scopes
+pub mod SpelledTrees
 pub mod StringLemmas
 pub mod ValidForms
 pub mod Whole

@@ -9,7 +9,7 @@ pub mod meaning_laws;
 pub mod text_laws;
 
 pub use fault::{ClashKind, Kind, MeaningFault};
-pub use fault_laws::fault_or_meaning;
+pub use fault_laws::{fault_or_meaning, spelled_tree_is_writable};
 pub use keyword::Keyword;
 pub use laws::{meant_is_arranged, plain_text_reads_back, text_reads_back};
 pub use meaning_laws::{
