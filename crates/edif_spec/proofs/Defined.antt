@@ -21,7 +21,7 @@ first_there p (n ∷ ns) i e = go (p n) i e (first_place p ns) refl (λ j f. fir
     go false i e None f more = let w : None ≡ Some i = sym (ap (option_map (λ j. suc j)) f) ∙ e in absurd (cc w)
     go false i e (Some j) f more = let w : Some (suc j) ≡ Some i = sym (ap (option_map (λ k. suc k)) f) ∙ e in let q : suc j ≡ i = cc w in let P : ℕ → Type 0 = λ v. IsSome (slice_get (n ∷ ns) v) in subst P q (more j f)
 
-meant_there : (ns : List (List ℕ)) (n : List ℕ) (i : ℕ) → meant ns n ≡ Found i → IsSome (slice_get ns i)
+pub meant_there : (ns : List (List ℕ)) (n : List ℕ) (i : ℕ) → meant ns n ≡ Found i → IsSome (slice_get ns i)
 meant_there ns n i e = go (first_place (equal n) ns) refl e
   where
     only : (c : ℕ) (o : Option ℕ) → first_place (same n) ns ≡ o → only_place c o ≡ Found i → IsSome (slice_get ns i)
@@ -36,32 +36,32 @@ meant_there ns n i e = go (first_place (equal n) ns) refl e
     go (Some j) f e = let w : j ≡ i = cc e in first_there (equal n) ns i (f ∙ ap Some w)
     go None f e = only (count_by (same n) ns) (first_place (same n) ns) refl e
 
-name_there : {A : Type 0} (f : A → List ℕ) (xs : List A) (i : ℕ) → IsSome (slice_get (map f xs) i) → IsSome (slice_get xs i)
+pub name_there : {A : Type 0} (f : A → List ℕ) (xs : List A) (i : ℕ) → IsSome (slice_get (map f xs) i) → IsSome (slice_get xs i)
 name_there f [] i h = absurd (cc h)
 name_there f (x ∷ xs) zero h = refl
 name_there f (x ∷ xs) (suc i) h = name_there f xs i h
 
-cell_there : (libs : List design.Lib) (id : design.CellId) → IsSome (slice_get (design.cell_ids libs id.lib.0) id.slot) → IsSome (design.cell_at libs id)
+pub cell_there : (libs : List design.Lib) (id : design.CellId) → IsSome (slice_get (design.cell_ids libs id.lib.0) id.slot) → IsSome (design.cell_at libs id)
 cell_there libs id h = go (slice_get libs id.lib.0) h
   where
     go : (o : Option design.Lib) → IsSome (slice_get (unwrap_or (option_map (λ x. map (λ (c : design.CellBody). c.name.id) x.cells) o) []) id.slot) → IsSome (slice_get (option_map_or (λ lib. lib.cells) o []) id.slot)
     go None h = absurd (cc h)
     go (Some l) h = name_there (λ (c : design.CellBody). c.name.id) l.cells id.slot h
 
-insts_defined : (libs : List design.Lib) (own : Option ℕ) (ts : List Bare) (is : List design.Inst) → Each (MeansInst libs own) ts is → AllByRecursion (λ i. IsSome (design.cell_at libs i.of)) is
+pub insts_defined : (libs : List design.Lib) (own : Option ℕ) (ts : List Bare) (is : List design.Inst) → Each (MeansInst libs own) ts is → AllByRecursion (λ i. IsSome (design.cell_at libs i.of)) is
 insts_defined libs own [] [] h = tt
 insts_defined libs own [] (i ∷ is) h = absurd h
 insts_defined libs own (t ∷ ts) [] h = absurd h
 insts_defined libs own (t ∷ ts) (i ∷ is) h = (cell_there libs i.of (meant_there (design.cell_ids libs i.of.lib.0) h.0.of.cell.spelled i.of.slot h.0.of.cell.cell), insts_defined libs own ts is h.1)
 
-contents_defined : (libs : List design.Lib) (own : Option ℕ) (c : design.CellBody) (ts : List Bare) (o : Option design.Contents) → Perhaps (MeansContents libs own c.ports) ts o → AllByRecursion (λ i. IsSome (design.cell_at libs i.of)) (insts_in o)
+pub contents_defined : (libs : List design.Lib) (own : Option ℕ) (c : design.CellBody) (ts : List Bare) (o : Option design.Contents) → Perhaps (MeansContents libs own c.ports) ts o → AllByRecursion (λ i. IsSome (design.cell_at libs i.of)) (insts_in o)
 contents_defined libs own c [] None h = tt
 contents_defined libs own c [] (Some x) h = absurd h
 contents_defined libs own c (t ∷ []) None h = absurd h
 contents_defined libs own c (t ∷ []) (Some x) h = insts_defined libs own (those keywords.Instance h.inner) x.insts h.insts
 contents_defined libs own c (t ∷ u ∷ ts) o h = absurd h
 
-view_defined : (libs : List design.Lib) (own : Option ℕ) (c : design.CellBody) (ts : List Bare) → Just (λ v b. MeansView libs own v b) ts c → AllByRecursion (λ i. IsSome (design.cell_at libs i.of)) (design.insts_of c)
+pub view_defined : (libs : List design.Lib) (own : Option ℕ) (c : design.CellBody) (ts : List Bare) → Just (λ v b. MeansView libs own v b) ts c → AllByRecursion (λ i. IsSome (design.cell_at libs i.of)) (design.insts_of c)
 view_defined libs own c [] h = absurd h
 view_defined libs own c (t ∷ []) h = contents_defined libs own c (those keywords.Contents h.inner) c.contents h.contents
 view_defined libs own c (t ∷ u ∷ ts) h = absurd h

@@ -52,7 +52,7 @@ distinct_names [] h = refl
 distinct_names (n ∷ ns) h = rw (none_equal n ns (recursion_from_All (λ m. n ≢ m) ns (differs_head n ns h))) (distinct_names ns (differs_tail n ns h))
 
 -- Lists by their places.
-all_by_place : {A : Type 0} (P : A → Type 0) (xs : List A) → ((i : ℕ) (x : A) → slice_get xs i ≡ Some x → P x) → AllByRecursion P xs
+pub all_by_place : {A : Type 0} (P : A → Type 0) (xs : List A) → ((i : ℕ) (x : A) → slice_get xs i ≡ Some x → P x) → AllByRecursion P xs
 all_by_place P [] f = tt
 all_by_place P (x ∷ xs) f = (f 0 x refl, all_by_place P xs (λ i y e. f (suc i) y e))
 

@@ -21,7 +21,7 @@ found : (i j : ℕ) → Found i ≡ Found j → i ≡ j
 found i j e = cc e
 
 -- references
-library_ref_once : (libs : List design.Lib) (own : Option ℕ) (ts : List Bare) (l m : ℕ) → MeansLibraryRef libs own ts l → MeansLibraryRef libs own ts m → l ≡ m
+pub library_ref_once : (libs : List design.Lib) (own : Option ℕ) (ts : List Bare) (l m : ℕ) → MeansLibraryRef libs own ts l → MeansLibraryRef libs own ts m → l ≡ m
 library_ref_once libs own [] l m h k = let e : Some l ≡ Some m = sym h ∙ k in cc e
 library_ref_once libs own (t ∷ []) l m h k =
     let e = one_form keywords.LibraryRef t (word h.0 ∷ []) (word k.0 ∷ []) [] [] h.1 k.1 in
@@ -29,7 +29,7 @@ library_ref_once libs own (t ∷ []) l m h k =
     found l m (sym h.2 ∙ (ap (meant (design.lib_ids libs)) a ∙ k.2))
 library_ref_once libs own (t ∷ u ∷ ts) l m h k = absurd h
 
-cell_ref_once : (libs : List design.Lib) (own : Option ℕ) (t : Bare) (x y : design.CellId) → MeansCellRef libs own t x → MeansCellRef libs own t y → x ≡ y
+pub cell_ref_once : (libs : List design.Lib) (own : Option ℕ) (t : Bare) (x y : design.CellId) → MeansCellRef libs own t x → MeansCellRef libs own t y → x ≡ y
 cell_ref_once libs own t x y h k =
     let e = one_form keywords.CellRef t (word h.spelled ∷ []) (word k.spelled ∷ []) h.inner k.inner h.form k.form in
     let w : word h.spelled ∷ [] ≡ word k.spelled ∷ [] = e.0 in let a : h.spelled ≡ k.spelled = cc w in
@@ -37,13 +37,13 @@ cell_ref_once libs own t x y h k =
     let s : x.slot ≡ y.slot = found x.slot y.slot (sym h.cell ∙ (ap (λ n. meant (design.cell_ids libs n) h.spelled) l ∙ (ap (meant (design.cell_ids libs y.lib.0)) a ∙ k.cell))) in
     λ i. record { lib = record { 0 = l i }; slot = s i }
 
-view_ref_once : (libs : List design.Lib) (own : Option ℕ) (t : Bare) (x y : design.CellId) → MeansViewRef libs own t x → MeansViewRef libs own t y → x ≡ y
+pub view_ref_once : (libs : List design.Lib) (own : Option ℕ) (t : Bare) (x y : design.CellId) → MeansViewRef libs own t x → MeansViewRef libs own t y → x ≡ y
 view_ref_once libs own t x y h k =
     let e = one_form keywords.ViewRef t (word h.spelled ∷ h.cell_part ∷ []) (word k.spelled ∷ k.cell_part ∷ []) [] [] h.form k.form in
     let w : word h.spelled ∷ h.cell_part ∷ [] ≡ word k.spelled ∷ k.cell_part ∷ [] = e.0 in let a : h.cell_part ≡ k.cell_part = cc w in
     cell_ref_once libs own h.cell_part x y h.cell (back (λ v. MeansCellRef libs own v y) a k.cell)
 
-inst_once : (libs : List design.Lib) (own : Option ℕ) (t : Bare) (x y : design.Inst) → MeansInst libs own t x → MeansInst libs own t y → x ≡ y
+pub inst_once : (libs : List design.Lib) (own : Option ℕ) (t : Bare) (x y : design.Inst) → MeansInst libs own t x → MeansInst libs own t y → x ≡ y
 inst_once libs own t x y h k =
     let e = one_form keywords.Instance t (h.name_part ∷ h.view_part ∷ []) (k.name_part ∷ k.view_part ∷ []) h.inner k.inner h.form k.form in
     let w : h.name_part ∷ h.view_part ∷ [] ≡ k.name_part ∷ k.view_part ∷ [] = e.0 in
@@ -54,7 +54,7 @@ inst_once libs own t x y h k =
     let ps : x.properties ≡ y.properties = properties_once h.inner k.inner x.properties y.properties e.1 h.properties k.properties in
     λ i. record { name = n i; of = o i; designator = s i; properties = ps i }
 
-inst_ref_once : (insts : List design.Inst) (t : Bare) (i j : ℕ) → MeansInstRef insts t i → MeansInstRef insts t j → i ≡ j
+pub inst_ref_once : (insts : List design.Inst) (t : Bare) (i j : ℕ) → MeansInstRef insts t i → MeansInstRef insts t j → i ≡ j
 inst_ref_once insts t i j h k =
     let e = one_form keywords.InstanceRef t (word h.0 ∷ []) (word k.0 ∷ []) [] [] h.1 k.1 in
     let w : word h.0 ∷ [] ≡ word k.0 ∷ [] = e.0 in let a : h.0 ≡ k.0 = cc w in
@@ -69,7 +69,7 @@ bit_once ports t p q b c (inr h) (inr k) =
     let w : word h.0 ∷ integer (pos b) ∷ [] ≡ word k.0 ∷ integer (pos c) ∷ [] = e.0 in let a : h.0 ≡ k.0 = cc w in let d : b ≡ c = cc w in
     (found p q (sym h.2 ∙ (ap (meant (design.port_ids ports)) a ∙ k.2)), d)
 
-end_once : (libs : List design.Lib) (ports : List design.Port) (insts : List design.Inst) (t : Bare) (x y : design.End) → MeansEnd libs ports insts t x → MeansEnd libs ports insts t y → x ≡ y
+pub end_once : (libs : List design.Lib) (ports : List design.Port) (insts : List design.Inst) (t : Bare) (x y : design.End) → MeansEnd libs ports insts t x → MeansEnd libs ports insts t y → x ≡ y
 end_once libs ports insts t x y h k =
     let e = one_form keywords.PortRef t (h.bit_part ∷ []) (k.bit_part ∷ []) h.inner k.inner h.form k.form in
     let n : x.inst ≡ y.inst = perhaps_same (MeansInstRef insts) (inst_ref_once insts) keywords.InstanceRef h.inner k.inner x.inst y.inst e.1 h.inst k.inst in
@@ -88,7 +88,7 @@ net_once libs ports insts t x y h k =
     let ps : x.properties ≡ y.properties = properties_once h.inner k.inner x.properties y.properties e.1 h.properties k.properties in
     λ i. record { name = n i; ends = es i; properties = ps i }
 
-contents_once : (libs : List design.Lib) (own : Option ℕ) (ports : List design.Port) (t : Bare) (x y : design.Contents) → MeansContents libs own ports t x → MeansContents libs own ports t y → x ≡ y
+pub contents_once : (libs : List design.Lib) (own : Option ℕ) (ports : List design.Port) (t : Bare) (x y : design.Contents) → MeansContents libs own ports t x → MeansContents libs own ports t y → x ≡ y
 contents_once libs own ports t x y h k =
     let e = one_form keywords.Contents t [] [] h.inner k.inner h.form k.form in
     let n : x.insts ≡ y.insts = each_same (MeansInst libs own) (inst_once libs own) keywords.Instance h.inner k.inner x.insts y.insts e.1 h.insts k.insts in
@@ -141,7 +141,7 @@ kind_once t x y h k =
     words kinds.Ripper kinds.Generic b = absurd (cc b)
     words kinds.Ripper kinds.Tie b = absurd (cc b)
 
-cell_once : (libs : List design.Lib) (own : Option ℕ) (t : Bare) (c d : design.CellBody) → MeansCell libs own t c → MeansCell libs own t d → c ≡ d
+pub cell_once : (libs : List design.Lib) (own : Option ℕ) (t : Bare) (c d : design.CellBody) → MeansCell libs own t c → MeansCell libs own t d → c ≡ d
 cell_once libs own t c d h k =
     let e = one_form keywords.Cell t (h.name_part ∷ h.kind_part ∷ []) (k.name_part ∷ k.kind_part ∷ []) h.inner k.inner h.form k.form in
     let w : h.name_part ∷ h.kind_part ∷ [] ≡ k.name_part ∷ k.kind_part ∷ [] = e.0 in
@@ -153,7 +153,7 @@ cell_once libs own t c d h k =
     λ i. record { name = n i; kind = f i; properties = ps i; view = v.view i; view_properties = v.view_properties i; interface_properties = v.interface_properties i; ports = v.ports i; contents = v.contents i }
 
 -- libraries, notes, the design and the file
-library_once : (before : List design.Lib) (t : Bare) (x y : design.Lib) → MeansLibrary before t x → MeansLibrary before t y → x ≡ y
+pub library_once : (before : List design.Lib) (t : Bare) (x y : design.Lib) → MeansLibrary before t x → MeansLibrary before t y → x ≡ y
 library_once before t x y h k = go x.head.external y.head.external refl refl h.form k.form
   where
     same_external : (e f : Bool) → IsFormOf (library_keyword e) t (h.name_part ∷ h.level_part ∷ h.technology_part ∷ []) h.inner → IsFormOf (library_keyword f) t (k.name_part ∷ k.level_part ∷ k.technology_part ∷ []) k.inner → e ≡ f
@@ -177,7 +177,7 @@ library_once before t x y h k = go x.head.external y.head.external refl refl h.f
         (lists_back (λ v. EachAfter (λ cells. MeansCell (before ++ record { head = x.head; cells = cells } ∷ []) (Some (length before))) [] (those keywords.Cell v) y.cells) s.1 kc) in
         λ i. record { head = head i; cells = cells i }
 
-path_once : (libs : List design.Lib) (id : design.CellId) (ts : List Bare) (ns ms : List (List ℕ)) → MeansPath libs id ts ns → MeansPath libs id ts ms → ns ≡ ms
+pub path_once : (libs : List design.Lib) (id : design.CellId) (ts : List Bare) (ns ms : List (List ℕ)) → MeansPath libs id ts ns → MeansPath libs id ts ms → ns ≡ ms
 path_once libs id [] [] [] h k = refl
 path_once libs id [] [] (m ∷ ms) h k = absurd k
 path_once libs id [] (n ∷ ns) ms h k = absurd h

@@ -2,9 +2,11 @@ pub mod Arranged
 pub mod Canonical
 pub mod Defined
 pub mod Design
+pub mod Faults
 pub mod InTime
 pub mod Keyword
 pub mod Means
 pub mod Plain
 pub mod Rows
+pub mod Stands
 pub mod Writable

@@ -1,11 +1,15 @@
 //! What an EDIF file of the profile means, and how a design is written.
 #![tactic(auto)]
 
+pub mod fault;
+pub mod fault_laws;
 pub mod keyword;
 pub mod laws;
 pub mod meaning_laws;
 pub mod text_laws;
 
+pub use fault::{ClashKind, Kind, MeaningFault};
+pub use fault_laws::{fault_or_meaning, spelled_tree_is_writable};
 pub use keyword::Keyword;
 pub use laws::{meant_is_arranged, plain_text_reads_back, text_reads_back};
 pub use meaning_laws::{

@@ -1,0 +1,308 @@
+-- No fault stands in a form that means something: from names to interfaces.
+use Rattle.std.proofs.Common.{◌≡◌, ℕ, ◌+◌, ◌<◌, ◌≤◌, ℤ, pos, List, [], ◌∷◌, ◌++◌, map, length, refl, ap, sym, ◌∙◌, subst, ◌⊎◌, inl, inr, Bool, true, false, Option, Some, None, arith}
+use Rattle.std.specs.Prelude.{cond, ◌||◌, slice_get, IfSome, sum_by, FitsSigned, unwrap_or}
+use Rattle.std.specs.Int.{w32}
+use Rattle.std.specs.List.{AllZip, AllByRecursion, fold}
+use Rattle.netlist_schema.specs.Names.{AreDistinct, HasDistinctKeys}
+use Rattle.netlist_schema.specs.Design.{port_width}
+use Rattle.spelling_spec.specs.Tree.{Bare, Placed, Form', Word', Integer', String', End, More, form, word, integer, string, bare, bares}
+use Rattle.edif_spec.specs.Keyword.{same, spelling_of}
+use Rattle.edif_spec.specs.Rows.{has_keyword, those, IsFormOf, Each, Perhaps}
+use Rattle.edif_spec.specs.Canonical.{direction_word}
+use Rattle.edif_spec.specs.Means.{MeansName, MeansText, MeansBoolean, MeansNumber, MeansValue, MeansProperty, MeansDirection, MeansPortName, MeansPort, MeansInterface}
+use Rattle.edif_spec.specs.Faults.{arguments, parts, Among, InPart, RowFault, holds_name, name_of, defined, BeyondBits, width_with, width_of, first_width, declared_width}
+use Rattle.edif_spec.specs.Stands.{WordFault, NameFault, ExponentFault, BooleanFault, NumberFault, InValue, PropertyFault, PropertiesFault, is_direction, DirectionFault, SizeFault, PortNameFault, PortFault, ports_in, InterfaceFault}
+use Rattle.edif_spec.specs.Design as design
+use Rattle.edif_spec.specs.declared.keyword.Keyword.{Keyword}
+use Rattle.edif_spec.specs.declared.keyword.Keyword.TheVariants as keywords
+use Rattle.edif_spec.specs.declared.fault.Kind.{Kind}
+use Rattle.edif_spec.specs.declared.fault.Kind.TheVariants.{BadForm}
+use Rattle.edif_spec.specs.declared.fault.MeaningFault.{MeaningFault}
+use Rattle.netlist_schema.specs.declared.property.Num.TheVariants as numbers
+use Rattle.netlist_schema.specs.declared.property.Value.TheVariants as values
+use Rattle.netlist_schema.specs.declared.cell.Direction.TheVariants as directions
+use Rattle.edif_spec.proofs.Groups.{same_left}
+use Rattle.edif_spec.proofs.FaultForms.{part_is, part_there, parts_are, row_apart, each_apart, perhaps_apart, each_length, map_length, beyond_apart, each_with, IsNamed, repeats_apart}
+
+-- a form that means something has its keyword
+pub keyword_of : (k : Keyword) (t : Bare) (fixed inner : List Bare) → IsFormOf k t fixed inner → has_keyword k t ≡ true
+keyword_of k t fixed inner h = ap (has_keyword k) h.is ∙ h.keyword
+
+-- two keywords in one form agree
+pub other_form : (k j : Keyword) (t : Bare) (fixed inner : List Bare) → same (spelling_of j) (spelling_of k) ≡ false → IsFormOf j t fixed inner → has_keyword k t ≡ true → ⊥
+other_form k j t fixed inner d h e = absurd (differs h.spelled (spelling_of j) (spelling_of k) h.keyword d (sym (ap (has_keyword k) h.is) ∙ e))
+  where
+    differs : (a b c : List ℕ) → same a b ≡ true → same b c ≡ false → same a c ≡ true → ⊥
+    differs a b c h d e = let s : same a c ≡ same b c = same_left a b c h in absurd (cc)
+
+pub word_no_keyword : (k : Keyword) (t : Bare) (w : List ℕ) → t ≡ word w → has_keyword k t ≡ true → ⊥
+word_no_keyword k t w e h = let f : has_keyword k (word w) ≡ true = sym (ap (has_keyword k) e) ∙ h in absurd (cc f)
+
+integer_no_keyword : (k : Keyword) (t : Bare) (z : ℤ) → t ≡ integer z → has_keyword k t ≡ true → ⊥
+integer_no_keyword k t z e h = let f : has_keyword k (integer z) ≡ true = sym (ap (has_keyword k) e) ∙ h in absurd (cc f)
+
+-- names
+pub name_apart : (t : Placed) (n : design.Name) (f : MeaningFault) → MeansName (bare t) n → NameFault t f → ⊥
+name_apart t n f (inl h) b = word_no_keyword keywords.Rename (bare t) n.id h.0 b.0
+name_apart t n f (inr h) b = row_apart keywords.Rename t (word n.id ∷ string h.0 ∷ []) [] f h.1 b.1
+
+-- the identifier of a name definition that means a name
+word_named : (t : Placed) (w : List ℕ) → bare t ≡ word w → (p : ℕ) × (name_of t ≡ Some (w, p))
+word_named (Word' p n) w e = let f : n ≡ w = cc e in (p, ap (λ v. Some (v, p)) f)
+word_named (Form' p ts) w e = absurd (cc e)
+word_named (Integer' p z) w e = absurd (cc e)
+word_named (String' p s) w e = absurd (cc e)
+
+-- a rename or an array has the name of its first argument
+inner_named : (k : Keyword) (t u : Placed) (n : List ℕ) (fixed inner : List Bare) → holds_name (spelling_of k) ≡ true → IsFormOf k (bare t) fixed inner → slice_get (arguments t) 0 ≡ Some u → (p : ℕ) × (name_of u ≡ Some (n, p)) → (p : ℕ) × (name_of t ≡ Some (n, p))
+inner_named k (Form' p (More (Word' q s) (More v vs))) u n fixed inner g h e r =
+    let w : v ≡ u = cc e in
+    let c : Form' tt (More (Word' tt s) (More (bare v) (bares vs))) ≡ form (word h.spelled ∷ (fixed ++ inner)) = h.is in
+    let d : s ≡ h.spelled = cc c in
+    let a : same s (spelling_of k) ≡ true = ap (λ x. same x (spelling_of k)) d ∙ h.keyword in
+    let b : holds_name s ≡ true = holds s (spelling_of k) a ∙ g in
+    (r.0, ap (λ x. cond x (name_of v) None) b ∙ (ap name_of w ∙ r.1))
+  where
+    holds : (a b : List ℕ) → same a b ≡ true → holds_name a ≡ holds_name b
+    holds a b e = ap (λ x. x || same a (spelling_of keywords.Array)) (same_left a b (spelling_of keywords.Rename) e) ∙ ap (λ x. same b (spelling_of keywords.Rename) || x) (same_left a b (spelling_of keywords.Array) e)
+inner_named k (Form' p (More (Word' q s) End)) u n fixed inner g h e r = absurd (cc e)
+inner_named k (Form' p (More (Form' q us) ts)) u n fixed inner g h e r = let c : form (word h.spelled ∷ (fixed ++ inner)) ≡ bare (Form' p (More (Form' q us) ts)) = sym h.is in absurd (cc c)
+inner_named k (Form' p (More (Integer' q z) ts)) u n fixed inner g h e r = let c : form (word h.spelled ∷ (fixed ++ inner)) ≡ bare (Form' p (More (Integer' q z) ts)) = sym h.is in absurd (cc c)
+inner_named k (Form' p (More (String' q z) ts)) u n fixed inner g h e r = let c : form (word h.spelled ∷ (fixed ++ inner)) ≡ bare (Form' p (More (String' q z) ts)) = sym h.is in absurd (cc c)
+inner_named k (Form' p End) u n fixed inner g h e r = absurd (cc e)
+inner_named k (Word' p w) u n fixed inner g h e r = absurd (cc e)
+inner_named k (Integer' p z) u n fixed inner g h e r = absurd (cc e)
+inner_named k (String' p s) u n fixed inner g h e r = absurd (cc e)
+
+pub name_named : (t : Placed) (n : design.Name) → MeansName (bare t) n → (p : ℕ) × (name_of t ≡ Some (n.id, p))
+name_named t n (inl h) = word_named t n.id h.0
+name_named t n (inr h) =
+    let u = part_there keywords.Rename t (word n.id ∷ string h.0 ∷ []) [] 0 (word n.id) h.1 refl in
+    inner_named keywords.Rename t u.0 n.id (word n.id ∷ string h.0 ∷ []) [] refl h.1 u.1 (word_named u.0 n.id u.2)
+
+pub port_name_named : (t : Placed) (n : design.Name) (o : Option ℕ) → MeansPortName (bare t) n o → (p : ℕ) × (name_of t ≡ Some (n.id, p))
+port_name_named t n None h = name_named t n h
+port_name_named t n (Some w) h =
+    let u = part_there keywords.Array t (h.0 ∷ integer (pos w) ∷ []) [] 0 h.0 h.1 refl in
+    inner_named keywords.Array t u.0 n.id (h.0 ∷ integer (pos w) ∷ []) [] refl h.1 u.1 (name_named u.0 n (subst (λ v. MeansName v n) (sym u.2) h.2))
+
+defined_first : (t u : Placed) → slice_get (arguments t) 0 ≡ Some u → defined t ≡ name_of u
+defined_first (Form' p (More k (More v vs))) u e = let w : v ≡ u = cc e in ap name_of w
+defined_first (Form' p (More k End)) u e = absurd (cc e)
+defined_first (Form' p End) u e = absurd (cc e)
+defined_first (Word' p w) u e = absurd (cc e)
+defined_first (Integer' p z) u e = absurd (cc e)
+defined_first (String' p s) u e = absurd (cc e)
+
+-- a form whose first argument means a name defines its identifier
+pub form_named : (k : Keyword) (t : Placed) (part : Bare) (fixed inner : List Bare) (n : design.Name) → IsFormOf k (bare t) (part ∷ fixed) inner → MeansName part n → IsNamed t n.id
+form_named k t part fixed inner n h m =
+    let u = part_there k t (part ∷ fixed) inner 0 part h refl in
+    let r = name_named u.0 n (subst (λ v. MeansName v n) (sym u.2) m) in
+    (r.0, defined_first t u.0 u.1 ∙ r.1)
+
+pub port_named : (t : Placed) (p : design.Port) → MeansPort (bare t) p → IsNamed t p.name.id
+port_named t p h =
+    let u = part_there keywords.Port t (h.name_part ∷ []) h.inner 0 h.name_part h.form refl in
+    let r = port_name_named u.0 p.name p.array (subst (λ v. MeansPortName v p.name p.array) (sym u.2) h.name) in
+    (r.0, defined_first t u.0 u.1 ∙ r.1)
+
+-- properties
+boolean_apart : (t : Placed) (b : Bool) (f : MeaningFault) → MeansBoolean (bare t) b → BooleanFault t f → ⊥
+boolean_apart t true f h (inl b) = row_apart keywords.True t [] [] f h b.1
+boolean_apart t true f h (inr b) = other_form keywords.False keywords.True (bare t) [] [] refl h b.0
+boolean_apart t false f h (inl b) = other_form keywords.True keywords.False (bare t) [] [] refl h b.0
+boolean_apart t false f h (inr b) = row_apart keywords.False t [] [] f h b.1
+
+number_apart : (t : Placed) (n : design.Num) (f : MeaningFault) → MeansNumber (bare t) n → NumberFault t f → ⊥
+number_apart t (numbers.Int z) f h b = integer_no_keyword keywords.E (bare t) z h b.0
+number_apart t (numbers.Scaled m x) f h b = go b.1
+  where
+    go : RowFault keywords.E t f ⊎ InPart 1 ExponentFault t f → ⊥
+    go (inl c) = row_apart keywords.E t (integer m ∷ integer x ∷ []) [] f h.0 c
+    go (inr c) =
+        let e : bare c.0 ≡ integer x = part_is keywords.E t (integer m ∷ integer x ∷ []) [] 1 c.0 (integer x) h.0 c.1 refl in
+        let d : integer c.2.0 ≡ integer x = sym (ap bare c.2.2) ∙ e in
+        let w : c.2.0 ≡ x = cc d in
+        let P : ℤ → Type 0 = λ v. FitsSigned w32 v in
+        c.2.3 (subst P (sym w) h.1)
+
+value_apart : (t : Placed) (v : design.Value) (f : MeaningFault) → MeansValue (bare t) v → InValue t f → ⊥
+value_apart t (values.Boolean x) f h (inl b) = go b.1
+  where
+    go : RowFault keywords.Boolean t f ⊎ InPart 0 BooleanFault t f → ⊥
+    go (inl c) = row_apart keywords.Boolean t (h.0 ∷ []) [] f h.1 c
+    go (inr c) = boolean_apart c.0 x f (subst (λ y. MeansBoolean y x) (sym (part_is keywords.Boolean t (h.0 ∷ []) [] 0 c.0 h.0 h.1 c.1 refl)) h.2) c.2
+value_apart t (values.Boolean x) f h (inr (inl b)) = other_form keywords.Integer keywords.Boolean (bare t) (h.0 ∷ []) [] refl h.1 b.0
+value_apart t (values.Boolean x) f h (inr (inr (inl b))) = other_form keywords.Number keywords.Boolean (bare t) (h.0 ∷ []) [] refl h.1 b.0
+value_apart t (values.Boolean x) f h (inr (inr (inr b))) = other_form keywords.String keywords.Boolean (bare t) (h.0 ∷ []) [] refl h.1 b.0
+value_apart t (values.Integer z) f h (inl b) = other_form keywords.Boolean keywords.Integer (bare t) (integer z ∷ []) [] refl h b.0
+value_apart t (values.Integer z) f h (inr (inl b)) = row_apart keywords.Integer t (integer z ∷ []) [] f h b.1
+value_apart t (values.Integer z) f h (inr (inr (inl b))) = other_form keywords.Number keywords.Integer (bare t) (integer z ∷ []) [] refl h b.0
+value_apart t (values.Integer z) f h (inr (inr (inr b))) = other_form keywords.String keywords.Integer (bare t) (integer z ∷ []) [] refl h b.0
+value_apart t (values.Number n) f h (inl b) = other_form keywords.Boolean keywords.Number (bare t) (h.0 ∷ []) [] refl h.1 b.0
+value_apart t (values.Number n) f h (inr (inl b)) = other_form keywords.Integer keywords.Number (bare t) (h.0 ∷ []) [] refl h.1 b.0
+value_apart t (values.Number n) f h (inr (inr (inl b))) = go b.1
+  where
+    go : RowFault keywords.Number t f ⊎ InPart 0 NumberFault t f → ⊥
+    go (inl c) = row_apart keywords.Number t (h.0 ∷ []) [] f h.1 c
+    go (inr c) = number_apart c.0 n f (subst (λ y. MeansNumber y n) (sym (part_is keywords.Number t (h.0 ∷ []) [] 0 c.0 h.0 h.1 c.1 refl)) h.2) c.2
+value_apart t (values.Number n) f h (inr (inr (inr b))) = other_form keywords.String keywords.Number (bare t) (h.0 ∷ []) [] refl h.1 b.0
+value_apart t (values.Text s) f h (inl b) = other_form keywords.Boolean keywords.String (bare t) (string s ∷ []) [] refl h b.0
+value_apart t (values.Text s) f h (inr (inl b)) = other_form keywords.Integer keywords.String (bare t) (string s ∷ []) [] refl h b.0
+value_apart t (values.Text s) f h (inr (inr (inl b))) = other_form keywords.Number keywords.String (bare t) (string s ∷ []) [] refl h b.0
+value_apart t (values.Text s) f h (inr (inr (inr b))) = row_apart keywords.String t (string s ∷ []) [] f h b.1
+
+-- designator and owner
+pub text_apart : (k : Keyword) (t : Placed) (s : List ℕ) (f : MeaningFault) → MeansText k (bare t) s → RowFault k t f → ⊥
+text_apart k t s f h b = row_apart k t (string s ∷ []) [] f h b
+
+pub texts_apart : (k : Keyword) (ts : List Placed) (bs : List Bare) (o : Option (List ℕ)) (f : MeaningFault) → map bare ts ≡ bs → Perhaps (MeansText k) bs o → Among (RowFault k) ts f → ⊥
+texts_apart k ts bs o f e h b = perhaps_apart (MeansText k) (λ s. Unit {0}) (RowFault k) f (λ t s m v c. text_apart k t s f m c) ts bs o e h (free o) b
+  where
+    free : (o : Option (List ℕ)) → IfSome o (λ s. Unit {0})
+    free None = tt
+    free (Some s) = tt
+
+pub property_apart : (t : Placed) (p : design.Property) (f : MeaningFault) → MeansProperty (bare t) p → PropertyFault t f → ⊥
+property_apart t p f h (inl b) = row_apart keywords.Property t (h.key_part ∷ h.value_part ∷ []) h.inner f h.form b
+property_apart t p f h (inr (inl b)) = name_apart b.0 p.key f (subst (λ v. MeansName v p.key) (sym (part_is keywords.Property t (h.key_part ∷ h.value_part ∷ []) h.inner 0 b.0 h.key_part h.form b.1 refl)) h.key) b.2
+property_apart t p f h (inr (inr (inl b))) = value_apart b.0 p.value f (subst (λ v. MeansValue v p.value) (sym (part_is keywords.Property t (h.key_part ∷ h.value_part ∷ []) h.inner 1 b.0 h.value_part h.form b.1 refl)) h.value) b.2
+property_apart t p f h (inr (inr (inr b))) = texts_apart keywords.Owner (parts keywords.Property keywords.Owner t) (those keywords.Owner h.inner) p.owner f (parts_are keywords.Property keywords.Owner t (h.key_part ∷ h.value_part ∷ []) h.inner h.form) h.owner b
+
+pub free_all : {A : Type 0} (xs : List A) → AllByRecursion (λ x. Unit {0}) xs
+free_all [] = tt
+free_all (x ∷ xs) = (tt, free_all xs)
+
+pub property_named : (t : Placed) (p : design.Property) → MeansProperty (bare t) p → IsNamed t p.key.id
+property_named t p h = form_named keywords.Property t h.key_part (h.value_part ∷ []) h.inner p.key h.form h.key
+
+pub properties_apart : (ts : List Placed) (bs : List Bare) (ps : List design.Property) (f : MeaningFault) → map bare ts ≡ bs → Each MeansProperty bs ps → HasDistinctKeys ps → PropertiesFault ts f → ⊥
+properties_apart ts bs ps f e h d (inl b) = each_apart MeansProperty (λ p. Unit {0}) PropertyFault f (λ t p m v c. property_apart t p f m c) ts bs ps e h (free_all ps) b
+properties_apart ts bs ps f e h d (inr b) = repeats_apart (λ (p : design.Property). p.key.id) f ts ps (each_with MeansProperty (λ u p. IsNamed u p.key.id) property_named ts bs ps e h) d b
+
+-- a word that the test takes is none of the others
+pub word_apart : (fine : List ℕ → Bool) (kind : Kind) (u : Placed) (w : List ℕ) (f : MeaningFault) → bare u ≡ word w → fine w ≡ true → WordFault fine kind u f → ⊥
+word_apart fine kind u w f e h b =
+    let d : word b.0 ≡ word w = sym (ap bare b.2) ∙ e in let c : b.0 ≡ w = cc d in
+    let yes' : fine b.0 ≡ true = ap fine c ∙ h in let no' : fine b.0 ≡ false = b.3 in absurd (cc)
+
+pub or_second : (a b : Bool) → b ≡ true → (a || b) ≡ true
+or_second true b e = refl
+or_second false b e = e
+
+pub or_first : (a b : Bool) → a ≡ true → (a || b) ≡ true
+or_first true b e = refl
+or_first false b e = absurd (cc e)
+
+one_of_three : (a b c : Bool) → (a ≡ true) ⊎ ((b ≡ true) ⊎ (c ≡ true)) → (a || (b || c)) ≡ true
+one_of_three a b c (inl e) = or_first a (b || c) e
+one_of_three a b c (inr (inl e)) = or_second a (b || c) (or_first b c e)
+one_of_three a b c (inr (inr e)) = or_second a (b || c) (or_second b c e)
+
+pub three : (w : List ℕ) (x y z : List ℕ) → (same w x ≡ true) ⊎ ((same w y ≡ true) ⊎ (same w z ≡ true)) → (same w x || (same w y || same w z)) ≡ true
+three w x y z h = one_of_three (same w x) (same w y) (same w z) h
+
+direction_fine : (w : List ℕ) (d : design.Direction) → same w (direction_word d) ≡ true → is_direction w ≡ true
+direction_fine w directions.Input e = three w (direction_word directions.Input) (direction_word directions.Output) (direction_word directions.Inout) (inl e)
+direction_fine w directions.Output e = three w (direction_word directions.Input) (direction_word directions.Output) (direction_word directions.Inout) (inr (inl e))
+direction_fine w directions.Inout e = three w (direction_word directions.Input) (direction_word directions.Output) (direction_word directions.Inout) (inr (inr e))
+
+direction_apart : (t : Placed) (d : design.Direction) (f : MeaningFault) → MeansDirection (bare t) d → DirectionFault t f → ⊥
+direction_apart t d f h (inl b) = row_apart keywords.Direction t (word h.0 ∷ []) [] f h.1 b
+direction_apart t d f h (inr b) = word_apart is_direction BadForm b.0 h.0 f (part_is keywords.Direction t (word h.0 ∷ []) [] 0 b.0 (word h.0) h.1 b.1 refl) (direction_fine h.0 d h.2) b.2
+
+-- ports
+port_name_apart : (t : Placed) (n : design.Name) (o : Option ℕ) (f : MeaningFault) → MeansPortName (bare t) n o → PortNameFault t f → ⊥
+port_name_apart t n None f h (inl b) = name_apart t n f h b
+port_name_apart t n None f (inl h) (inr b) = word_no_keyword keywords.Array (bare t) n.id h.0 b.0
+port_name_apart t n None f (inr h) (inr b) = other_form keywords.Array keywords.Rename (bare t) (word n.id ∷ string h.0 ∷ []) [] refl h.1 b.0
+port_name_apart t n (Some w) f h (inl b) = other_form keywords.Rename keywords.Array (bare t) (h.0 ∷ integer (pos w) ∷ []) [] refl h.1 b.0
+port_name_apart t n (Some w) f h (inr b) = go b.1
+  where
+    go : RowFault keywords.Array t f ⊎ (InPart 0 NameFault t f ⊎ InPart 1 SizeFault t f) → ⊥
+    go (inl c) = row_apart keywords.Array t (h.0 ∷ integer (pos w) ∷ []) [] f h.1 c
+    go (inr (inl c)) = name_apart c.0 n f (subst (λ v. MeansName v n) (sym (part_is keywords.Array t (h.0 ∷ integer (pos w) ∷ []) [] 0 c.0 h.0 h.1 c.1 refl)) h.2) c.2
+    go (inr (inr c)) =
+        let e : bare c.0 ≡ integer (pos w) = part_is keywords.Array t (h.0 ∷ integer (pos w) ∷ []) [] 1 c.0 (integer (pos w)) h.1 c.1 refl in
+        let d : integer c.2.0 ≡ integer (pos w) = sym (ap bare c.2.2) ∙ e in
+        let x : c.2.0 ≡ pos w = cc d in
+        let l : 0 < w = h.3 in
+        c.2.3 w x ((omega (arith, l)), h.4)
+
+pub port_apart : (t : Placed) (p : design.Port) (f : MeaningFault) → MeansPort (bare t) p → HasDistinctKeys p.properties → PortFault t f → ⊥
+port_apart t p f h d (inl b) = row_apart keywords.Port t (h.name_part ∷ []) h.inner f h.form b
+port_apart t p f h d (inr (inl b)) = port_name_apart b.0 p.name p.array f (subst (λ v. MeansPortName v p.name p.array) (sym (part_is keywords.Port t (h.name_part ∷ []) h.inner 0 b.0 h.name_part h.form b.1 refl)) h.name) b.2
+port_apart t p f h d (inr (inr (inl b))) = perhaps_apart MeansDirection (λ x. Unit {0}) DirectionFault f (λ u x m v c. direction_apart u x f m c) (parts keywords.Port keywords.Direction t) (those keywords.Direction h.inner) p.direction
+    (parts_are keywords.Port keywords.Direction t (h.name_part ∷ []) h.inner h.form) h.direction (free p.direction) b
+  where
+    free : (o : Option design.Direction) → IfSome o (λ s. Unit {0})
+    free None = tt
+    free (Some s) = tt
+port_apart t p f h d (inr (inr (inr (inl b)))) = texts_apart keywords.Designator (parts keywords.Port keywords.Designator t) (those keywords.Designator h.inner) p.designator f (parts_are keywords.Port keywords.Designator t (h.name_part ∷ []) h.inner h.form) h.designator b
+port_apart t p f h d (inr (inr (inr (inr b)))) = properties_apart (parts keywords.Port keywords.Property t) (those keywords.Property h.inner) p.properties f (parts_are keywords.Port keywords.Property t (h.name_part ∷ []) h.inner h.form) h.properties d b
+
+-- the width of a port as it is written
+no_array : (t : Placed) (n : design.Name) (b : Bool) → has_keyword keywords.Array (bare t) ≡ b → MeansName (bare t) n → b ≡ false
+no_array t n false e h = refl
+no_array t n true e (inl h) = absurd (word_no_keyword keywords.Array (bare t) n.id h.0 e)
+no_array t n true e (inr h) = absurd (other_form keywords.Array keywords.Rename (bare t) (word n.id ∷ string h.0 ∷ []) [] refl h.1 e)
+
+integer_width : (u : Placed) (w : ℕ) → bare u ≡ integer (pos w) → width_with true (Some u) ≡ w
+integer_width (Integer' p z) w e = let x : z ≡ pos w = cc e in let P : ℤ → Type 0 = λ y. width_with true (Some (Integer' p y)) ≡ w in subst P (sym x) refl
+integer_width (Form' p ts) w e = absurd (cc e)
+integer_width (Word' p n) w e = absurd (cc e)
+integer_width (String' p s) w e = absurd (cc e)
+
+plain_width : (o : Option Placed) → width_with false o ≡ 1
+plain_width None = refl
+plain_width (Some u) = refl
+
+name_width : (t : Placed) (n : design.Name) (o : Option ℕ) → MeansPortName (bare t) n o → width_of t ≡ unwrap_or o 1
+name_width t n None h = ap (λ b. width_with b (slice_get (arguments t) 1)) (no_array t n (has_keyword keywords.Array (bare t)) refl h) ∙ plain_width (slice_get (arguments t) 1)
+name_width t n (Some w) h =
+    let u = part_there keywords.Array t (h.0 ∷ integer (pos w) ∷ []) [] 1 (integer (pos w)) h.1 refl in
+    ap (λ b. width_with b (slice_get (arguments t) 1)) (keyword_of keywords.Array (bare t) (h.0 ∷ integer (pos w) ∷ []) [] h.1) ∙ (ap (width_with true) u.1 ∙ integer_width u.0 w u.2)
+
+pub port_declares : (t : Placed) (p : design.Port) → MeansPort (bare t) p → declared_width t ≡ port_width p
+port_declares t p h =
+    let u = part_there keywords.Port t (h.name_part ∷ []) h.inner 0 h.name_part h.form refl in
+    ap first_width u.1 ∙ name_width u.0 p.name p.array (subst (λ v. MeansPortName v p.name p.array) (sym u.2) h.name)
+
+-- a sum is not less than where it began
+sum_grows : (a : ℕ) (ps : List design.Port) → a ≤ fold (λ s p. s + port_width p) a ps
+sum_grows a [] = omega arith
+sum_grows a (p ∷ ps) = let l : a + port_width p ≤ fold (λ s p. s + port_width p) (a + port_width p) ps = sum_grows (a + port_width p) ps in omega (arith, l)
+
+bits_apart : (limit before : ℕ) (ts : List Placed) (ps : List design.Port) (f : MeaningFault) → AllZip (λ t p. declared_width t ≡ port_width p) ts ps → fold (λ s p. s + port_width p) before ps ≤ limit → BeyondBits limit before ts f → ⊥
+bits_apart limit before [] ps f e l b = b
+bits_apart limit before (t ∷ ts) [] f e l b = absurd e
+bits_apart limit before (t ∷ ts) (p ∷ ps) f e l (inl b) =
+    let w : declared_width t ≡ port_width p = e.0 in
+    let m : before + port_width p ≤ fold (λ s p. s + port_width p) (before + port_width p) ps = sum_grows (before + port_width p) ps in
+    let n : fold (λ s p. s + port_width p) (before + port_width p) ps ≤ limit = l in
+    let k : limit < before + declared_width t = b.1 in
+    omega (arith, w, m, n, k)
+bits_apart limit before (t ∷ ts) (p ∷ ps) f e l (inr b) = let P : ℕ → Type 0 = λ v. BeyondBits limit (before + v) ts f in bits_apart limit (before + port_width p) ts ps f e.1 l (subst P e.0 b)
+
+-- what an interface owes to the validity of its cell
+pub record FineInterface (c : design.CellBody) : Type 0 where
+  pub ports : length c.ports ≤ 65536
+  pub bits : sum_by port_width c.ports ≤ 1048576
+  pub names : AreDistinct (map (λ (p : design.Port). p.name.id) c.ports)
+  pub keys : HasDistinctKeys c.interface_properties
+  pub port_keys : AllByRecursion (λ (p : design.Port). HasDistinctKeys p.properties) c.ports
+
+pub interface_apart : (t : Placed) (c : design.CellBody) (f : MeaningFault) → MeansInterface (bare t) c → FineInterface c → InterfaceFault t f → ⊥
+interface_apart t c f h v b =
+    let e : map bare (ports_in t) ≡ those keywords.Port h.inner = parts_are keywords.Interface keywords.Port t [] h.inner h.form in
+    let l : length (ports_in t) ≡ length c.ports = sym (map_length bare (ports_in t)) ∙ (ap length e ∙ each_length MeansPort (those keywords.Port h.inner) c.ports h.ports) in
+    go e l b
+  where
+    go : map bare (ports_in t) ≡ those keywords.Port h.inner → length (ports_in t) ≡ length c.ports → InterfaceFault t f → ⊥
+    go e l (inl b) = row_apart keywords.Interface t [] h.inner f h.form b
+    go e l (inr (inl b)) = each_apart MeansPort (λ (p : design.Port). HasDistinctKeys p.properties) PortFault f (λ t p m d k. port_apart t p f m d k) (ports_in t) (those keywords.Port h.inner) c.ports e h.ports v.port_keys b
+    go e l (inr (inr (inl b))) = repeats_apart (λ (p : design.Port). p.name.id) f (ports_in t) c.ports (each_with MeansPort (λ u p. IsNamed u p.name.id) port_named (ports_in t) (those keywords.Port h.inner) c.ports e h.ports) v.names b
+    go e l (inr (inr (inr (inl b)))) = let m : length c.ports ≤ 65536 = v.ports in beyond_apart 65536 (ports_in t) f (omega (arith, l, m)) b
+    go e l (inr (inr (inr (inr (inl b))))) = bits_apart 1048576 0 (ports_in t) c.ports f (each_with MeansPort (λ u p. declared_width u ≡ port_width p) port_declares (ports_in t) (those keywords.Port h.inner) c.ports e h.ports) v.bits b
+    go e l (inr (inr (inr (inr (inr b))))) = properties_apart (parts keywords.Interface keywords.Property t) (those keywords.Property h.inner) c.interface_properties f (parts_are keywords.Interface keywords.Property t [] h.inner h.form) h.properties v.keys b
