@@ -1,0 +1,4 @@
+pub mod Appending
+pub mod Distinct
+pub mod FileNames
+pub mod Takings

@@ -1,0 +1,33 @@
+-- What reading a file within a limit gives.
+use Rattle.std.specs.Prelude.{◌≡◌, ℕ, ◌+◌, ◌<◌, ◌≤◌, List, [], length, drop, Option, Some, None, IfSome, IsSomeAnd}
+use Rattle.netdb_outside.specs.Outside.{Shelf, Takes, NothingLeft, file_named}
+use Rattle.netdb_outside.specs.declared.contents.Contents.{Contents}
+use Rattle.netdb_outside.specs.declared.contents.Contents.TheVariants.{Bytes, TooLarge, Missing, Failed, NoMemory}
+
+-- the file of this name has just these bytes, and all of them were read
+abbrev pub IsReadWhole : Shelf → List ℕ → List ℕ → Type 0
+IsReadWhole shelf name bytes = (file_named shelf.files name ≡ Some bytes) × (shelf.rest ≡ [])
+
+-- the file of this name has more bytes than the limit, and just those up to one past the limit were read
+abbrev pub IsReadPast : Shelf → List ℕ → ℕ → Type 0
+IsReadPast shelf name limit = IsSomeAnd (file_named shelf.files name) (λ bytes. (limit < length bytes) × (shelf.rest ≡ drop (limit + 1) bytes))
+
+-- there is no file of this name, and none is being read
+abbrev pub IsMissing : Shelf → List ℕ → Type 0
+IsMissing shelf name = (file_named shelf.files name ≡ None) × (shelf.rest ≡ [])
+
+-- what reading the file of this name gives: bytes within the limit, and, where files are told, only what is so of the file
+abbrev pub FileGives : Option Shelf → List ℕ → ℕ → Contents → Type 0
+FileGives told name limit (Bytes bytes) = (length bytes ≤ limit) × IfSome told (λ shelf. IsReadWhole shelf name bytes)
+FileGives told name limit TooLarge = IfSome told (λ shelf. IsReadPast shelf name limit)
+FileGives told name limit Missing = IfSome told (λ shelf. IsMissing shelf name)
+FileGives told name limit Failed = Unit {0}
+FileGives told name limit NoMemory = Unit {0}
+
+-- what reading on gives: all of the rest, within the limit; or more, of which the bytes up to one past the limit were taken
+abbrev pub RestGives : Option Shelf → Option Shelf → ℕ → Contents → Type 0
+RestGives old new limit (Bytes bytes) = (length bytes ≤ limit) × Takes old new bytes × NothingLeft new
+RestGives old new limit TooLarge = (bytes : List ℕ) × (length bytes ≡ limit + 1) × Takes old new bytes
+RestGives old new limit Missing = ⊥
+RestGives old new limit Failed = Unit {0}
+RestGives old new limit NoMemory = Unit {0}

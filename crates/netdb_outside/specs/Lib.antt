@@ -1,0 +1,5 @@
+pub mod Contents
+pub mod MemFiles
+pub mod MemSink
+pub mod Outside
+pub mod Reading

@@ -1,0 +1,59 @@
+//! `Files`: files that can be read.
+ghost use Rattle.std.specs.Prelude.{◌≡◌, ◌≢◌, ℕ, ◌<◌, ◌≤◌, length, Option, Some, None, IfSome};
+ghost use Rattle.netdb_outside.specs.Outside.{Shelf, SameFiles, NothingLeft, Rose, file_named};
+ghost use Rattle.netdb_outside.specs.Reading.{ReadGives};
+
+/// What opening a file answers.
+#[derive(Clone, Copy, Debug, PartialEq, Eq)]
+pub enum Opened {
+    /// The file is the one that is read, from its first byte.
+    Ready,
+    /// There is no file of this name.
+    Missing,
+    /// There was a fault.
+    Failed,
+    /// There was no memory.
+    NoMemory,
+}
+
+/// What reading answers.
+#[derive(Clone, Copy, Debug, PartialEq, Eq)]
+pub enum Got {
+    /// So many bytes, at least one, stand at the front of the buffer.
+    Bytes(usize),
+    /// Nothing is left.
+    End,
+    /// There was a fault.
+    Failed,
+    /// There was no memory.
+    NoMemory,
+}
+
+/// An outside with files, of which one at a time is read.
+///
+/// It may tell its files, by name with their bytes, and with them the rest of the one that is being read. No call changes
+/// the files, or whether they are told. What a failed read does to the rest is left open.
+pub trait Files {
+    /// The files, and the rest of the one that is being read, where they are told.
+    ghost told: { Self → Option Shelf };
+
+    /// How many faults there were. The count stands still at its type's end.
+    ghost faults: { Self → ℕ };
+
+    /// Makes the named file the one that is read, from its first byte. After each answer but `Ready` none is read.
+    fn open_file(&mut self, name: &str) -> Opened
+        ensures files { SameFiles (told self.old) (told self.new) }
+        ensures ready { result ≡ Opened.Ready → IfSome (told self.new) (λ shelf. file_named shelf.files name.now ≡ Some shelf.rest) }
+        ensures missing { result ≡ Opened.Missing → IfSome (told self.new) (λ shelf. file_named shelf.files name.now ≡ None) }
+        ensures others { result ≢ Opened.Ready → NothingLeft (told self.new) }
+        ensures failed { result ≡ Opened.Failed → Rose (faults self.old) (faults self.new) }
+        ensures never_falls { faults self.old ≤ faults self.new };
+
+    /// Reads the next bytes into the front of a buffer.
+    fn read(&mut self, buf: &mut [u8]) -> Got
+        requires { 0 < length buf.old }
+        ensures files { SameFiles (told self.old) (told self.new) }
+        ensures gives { ReadGives (told self.old) (told self.new) buf.new result }
+        ensures failed { result ≡ Got.Failed → Rose (faults self.old) (faults self.new) }
+        ensures never_falls { faults self.old ≤ faults self.new };
+}

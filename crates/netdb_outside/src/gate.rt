@@ -1,0 +1,17 @@
+//! `Gate`: what is told how far a script has come.
+
+/// What a script calls before each line that is neither blank nor a comment, again when a block is run again, and once at
+/// its end with the number of its last line plus one. Lines count from 1 and callers from 0. It promises nothing: it may
+/// wait, and it decides nothing.
+pub trait Gate {
+    /// The caller is at this line.
+    fn reached(&self, caller: u32, line: u32);
+}
+
+/// A gate that is always open, and does nothing.
+#[derive(Clone, Copy, Debug, PartialEq, Eq)]
+pub struct FreeGate;
+
+impl Gate for FreeGate {
+    fn reached(&self, _caller: u32, _line: u32) {}
+}

@@ -1,0 +1,23 @@
+//! The outside of a program, as traits: files to be read, a sink to be written, and a gate that is told how far a script has
+//! come. Each has a form in memory, and files and sink have one over the system's.
+#![tactic(auto)]
+
+pub mod contents;
+pub mod files;
+pub mod gate;
+pub mod host_files;
+pub mod host_out;
+pub mod mem_files;
+pub mod mem_sink;
+pub mod sink;
+#[cfg(test)]
+mod tests;
+
+pub use contents::{Contents, read_file};
+pub use files::{Files, Got, Opened};
+pub use gate::{FreeGate, Gate};
+pub use host_files::HostFiles;
+pub use host_out::HostOut;
+pub use mem_files::{MemFiles, NamedFile, names_differ};
+pub use mem_sink::MemSink;
+pub use sink::{Put, Sink};
