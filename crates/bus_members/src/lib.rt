@@ -1,0 +1,34 @@
+//! The bits of a cell's ports.
+#![tactic(auto)]
+
+ghost use Rattle.std.specs.Prelude.{◌≡◌, ◌≤◌, length};
+ghost use Rattle.netlist_schema.specs.Design.{bit_count, port_width};
+
+use netlist_schema::{CellBody, Port};
+
+/// The number of bits of a port: the width of an array, from 1 to 65,536, and 1 for a scalar.
+pub fn width(port: &Port) -> u32
+    ensures width { result ≡ port_width port.now }
+    ensures least { 1 ≤ result }
+    ensures most { result ≤ 65536 }
+{
+    match &port.array {
+        Some(width) => width.get(),
+        None => 1,
+    }
+}
+
+/// The number of bits of all ports of a cell that has at most 65,536 ports.
+pub fn bit_count(body: &CellBody) -> u64
+    requires { length body.now.ports ≤ 65536 }
+    ensures { result ≡ bit_count body.now }
+{
+    let mut bits = 0;
+    for port in body.ports.as_slice() {
+        bits += u64::from(width(port));
+    }
+    bits
+}
+
+#[cfg(test)]
+mod tests;
