@@ -1,0 +1,12 @@
+pub mod Changes
+pub mod Closed
+pub mod Edits
+pub mod Framed
+pub mod Growing
+pub mod JoinValid
+pub mod Joined
+pub mod Reached
+pub mod Same
+pub mod Shown
+pub mod StepValid
+pub mod Valid

@@ -1,0 +1,5 @@
+use Rattle.edit_spec.proofs.Growing as lemma
+use Rattle.edit_spec.proofs.laws.step_is_grown.Goals as goal
+
+pub returns : goal.returns
+returns c = lemma.step_is_grown

@@ -1,0 +1,39 @@
+//! Laws of the operations.
+ghost use Rattle.std.specs.Prelude.{List};
+ghost use Rattle.netlist_schema.specs.Design.{Design};
+ghost use Rattle.netlist_schema.specs.Valid.{IsValid};
+ghost use Rattle.edit_spec.specs.Frame.{ChangesNothing, IsFramed, IsReplayed};
+ghost use Rattle.edit_spec.specs.Needs.{Needs, Reads};
+ghost use Rattle.edit_spec.specs.Objects.{AgreesOn, Grown, IsClosed};
+ghost use Rattle.edit_spec.specs.Step.{step, IsRefusal};
+ghost use Rattle.edit_spec.specs.declared.ops.Op.{Op};
+
+/// In a valid design each instance is of a cell of the design.
+pub fn valid_is_closed()
+    ensures { (d : Design) → IsValid d → IsClosed d }
+{}
+
+/// An operation keeps that each instance is of a cell of the design.
+pub fn step_keeps_closed()
+    ensures { (d : Design) (op : Op) → IsClosed d → IsClosed (step d op).design }
+{}
+
+/// An operation does the same to two designs that agree on what it needs.
+pub fn frame()
+    ensures { (d e : Design) (op : Op) → IsClosed d → Grown d e → AgreesOn d e (Needs d op) → IsFramed d e op }
+{}
+
+/// Operations do the same to two designs that agree on what they read.
+pub fn replay()
+    ensures { (d e : Design) (ops : List Op) → IsClosed d → Grown d e → AgreesOn d e (Reads d ops) → IsReplayed d e ops }
+{}
+
+/// The design after an operation is grown.
+pub fn step_is_grown()
+    ensures { (d : Design) (op : Op) → Grown d (step d op).design }
+{}
+
+/// An operation that is refused changes nothing and writes nothing.
+pub fn refused_changes_nothing()
+    ensures { (d : Design) (op : Op) → IsRefusal (step d op).reply → ChangesNothing d op }
+{}
