@@ -5,6 +5,7 @@ pub mod CellFaultsApart
 pub mod CellPlaces
 pub mod ContentsMeanings
 pub mod Defined
+pub mod FaultExamples
 pub mod FaultForms
 pub mod FaultsApart
 pub mod FileFaultsApart

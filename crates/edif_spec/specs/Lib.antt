@@ -2,6 +2,7 @@ pub mod Arranged
 pub mod Canonical
 pub mod Defined
 pub mod Design
+pub mod Examples
 pub mod Faults
 pub mod InTime
 pub mod Keyword

@@ -2,6 +2,7 @@
 #![tactic(auto)]
 
 pub mod fault;
+pub mod fault_examples;
 pub mod fault_laws;
 pub mod keyword;
 pub mod laws;
@@ -9,6 +10,7 @@ pub mod meaning_laws;
 pub mod text_laws;
 
 pub use fault::{ClashKind, Kind, MeaningFault};
+pub use fault_examples::faults_of_small_files;
 pub use fault_laws::{fault_or_meaning, spelled_tree_is_writable};
 pub use keyword::Keyword;
 pub use laws::{meant_is_arranged, plain_text_reads_back, text_reads_back};

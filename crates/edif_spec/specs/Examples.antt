@@ -1,0 +1,284 @@
+-- Small files as trees with places. A part of a file is named by the file in which it stands first, and its place.
+use Rattle.std.specs.Prelude.{pos, codes}
+use Rattle.spelling_spec.specs.Tree.{Placed, Form', Word', Integer', String', End, More}
+
+-- (edif e (edifVersion 2 0 1) (edifLevel 0) (keywordMap (keywordLevel 0)))
+abbrev pub bad_version_8 : Placed
+bad_version_8 = Form' 8 (More (Word' 9 (codes "edifVersion")) (More (Integer' 21 (pos 2)) (More (Integer' 23 (pos 0)) (More (Integer' 25 (pos 1)) End))))
+
+abbrev pub bad_version_28 : Placed
+bad_version_28 = Form' 28 (More (Word' 29 (codes "edifLevel")) (More (Integer' 39 (pos 0)) End))
+
+abbrev pub bad_version_54 : Placed
+bad_version_54 = Form' 54 (More (Word' 55 (codes "keywordLevel")) (More (Integer' 68 (pos 0)) End))
+
+abbrev pub bad_version_42 : Placed
+bad_version_42 = Form' 42 (More (Word' 43 (codes "keywordMap")) (More bad_version_54 End))
+
+abbrev pub bad_version : Placed
+bad_version = Form' 0 (More (Word' 1 (codes "edif")) (More (Word' 6 (codes "e")) (More bad_version_8 (More bad_version_28 (More bad_version_42 End)))))
+
+-- (edif e (edifVersion 2 0 0) (edifLevel 1) (keywordMap (keywordLevel 0)))
+abbrev pub bad_level_8 : Placed
+bad_level_8 = Form' 8 (More (Word' 9 (codes "edifVersion")) (More (Integer' 21 (pos 2)) (More (Integer' 23 (pos 0)) (More (Integer' 25 (pos 0)) End))))
+
+abbrev pub bad_level_28 : Placed
+bad_level_28 = Form' 28 (More (Word' 29 (codes "edifLevel")) (More (Integer' 39 (pos 1)) End))
+
+abbrev pub bad_level : Placed
+bad_level = Form' 0 (More (Word' 1 (codes "edif")) (More (Word' 6 (codes "e")) (More bad_level_8 (More bad_level_28 (More bad_version_42 End)))))
+
+-- (edif e (edifVersion 2 0 0) (edifLevel 0) (keywordMap (keywordLevel 0)) (library w (edifLevel 0) (technology)) (library w (edifLevel 0) (technology)))
+abbrev pub two_libraries_83 : Placed
+two_libraries_83 = Form' 83 (More (Word' 84 (codes "edifLevel")) (More (Integer' 94 (pos 0)) End))
+
+abbrev pub two_libraries_97 : Placed
+two_libraries_97 = Form' 97 (More (Word' 98 (codes "technology")) End)
+
+abbrev pub two_libraries_72 : Placed
+two_libraries_72 = Form' 72 (More (Word' 73 (codes "library")) (More (Word' 81 (codes "w")) (More two_libraries_83 (More two_libraries_97 End))))
+
+abbrev pub two_libraries_122 : Placed
+two_libraries_122 = Form' 122 (More (Word' 123 (codes "edifLevel")) (More (Integer' 133 (pos 0)) End))
+
+abbrev pub two_libraries_136 : Placed
+two_libraries_136 = Form' 136 (More (Word' 137 (codes "technology")) End)
+
+abbrev pub two_libraries_111 : Placed
+two_libraries_111 = Form' 111 (More (Word' 112 (codes "library")) (More (Word' 120 (codes "w")) (More two_libraries_122 (More two_libraries_136 End))))
+
+abbrev pub two_libraries : Placed
+two_libraries = Form' 0 (More (Word' 1 (codes "edif")) (More (Word' 6 (codes "e")) (More bad_level_8 (More bad_version_28 (More bad_version_42 (More two_libraries_72 (More two_libraries_111 End)))))))
+
+-- (edif e (edifVersion 2 0 0) (edifLevel 0) (keywordMap (keywordLevel 0)) (library w (edifLevel 0) (technology) (cell c (cellType GENERIC) (view v (viewType BEHAVIOR) (interface)))))
+abbrev pub other_view_type_118 : Placed
+other_view_type_118 = Form' 118 (More (Word' 119 (codes "cellType")) (More (Word' 128 (codes "GENERIC")) End))
+
+abbrev pub other_view_type_145 : Placed
+other_view_type_145 = Form' 145 (More (Word' 146 (codes "viewType")) (More (Word' 155 (codes "BEHAVIOR")) End))
+
+abbrev pub other_view_type_165 : Placed
+other_view_type_165 = Form' 165 (More (Word' 166 (codes "interface")) End)
+
+abbrev pub other_view_type_137 : Placed
+other_view_type_137 = Form' 137 (More (Word' 138 (codes "view")) (More (Word' 143 (codes "v")) (More other_view_type_145 (More other_view_type_165 End))))
+
+abbrev pub other_view_type_110 : Placed
+other_view_type_110 = Form' 110 (More (Word' 111 (codes "cell")) (More (Word' 116 (codes "c")) (More other_view_type_118 (More other_view_type_137 End))))
+
+abbrev pub other_view_type_72 : Placed
+other_view_type_72 = Form' 72 (More (Word' 73 (codes "library")) (More (Word' 81 (codes "w")) (More two_libraries_83 (More two_libraries_97 (More other_view_type_110 End)))))
+
+abbrev pub other_view_type : Placed
+other_view_type = Form' 0 (More (Word' 1 (codes "edif")) (More (Word' 6 (codes "e")) (More bad_level_8 (More bad_version_28 (More bad_version_42 (More other_view_type_72 End))))))
+
+-- (edif e (edifVersion 2 0 0) (edifLevel 0) (keywordMap (keywordLevel 0)) (library w (edifLevel 0) (technology) (cell c (cellType GENERIC) (view v (viewType NETLIST) (interface)) (view v (viewType NETLIST) (interface)))))
+abbrev pub two_views_145 : Placed
+two_views_145 = Form' 145 (More (Word' 146 (codes "viewType")) (More (Word' 155 (codes "NETLIST")) End))
+
+abbrev pub two_views_164 : Placed
+two_views_164 = Form' 164 (More (Word' 165 (codes "interface")) End)
+
+abbrev pub two_views_137 : Placed
+two_views_137 = Form' 137 (More (Word' 138 (codes "view")) (More (Word' 143 (codes "v")) (More two_views_145 (More two_views_164 End))))
+
+abbrev pub two_views_185 : Placed
+two_views_185 = Form' 185 (More (Word' 186 (codes "viewType")) (More (Word' 195 (codes "NETLIST")) End))
+
+abbrev pub two_views_204 : Placed
+two_views_204 = Form' 204 (More (Word' 205 (codes "interface")) End)
+
+abbrev pub two_views_177 : Placed
+two_views_177 = Form' 177 (More (Word' 178 (codes "view")) (More (Word' 183 (codes "v")) (More two_views_185 (More two_views_204 End))))
+
+abbrev pub two_views_110 : Placed
+two_views_110 = Form' 110 (More (Word' 111 (codes "cell")) (More (Word' 116 (codes "c")) (More other_view_type_118 (More two_views_137 (More two_views_177 End)))))
+
+abbrev pub two_views_72 : Placed
+two_views_72 = Form' 72 (More (Word' 73 (codes "library")) (More (Word' 81 (codes "w")) (More two_libraries_83 (More two_libraries_97 (More two_views_110 End)))))
+
+abbrev pub two_views : Placed
+two_views = Form' 0 (More (Word' 1 (codes "edif")) (More (Word' 6 (codes "e")) (More bad_level_8 (More bad_version_28 (More bad_version_42 (More two_views_72 End))))))
+
+-- (edif e (edifVersion 2 0 0) (edifLevel 0) (keywordMap (keywordLevel 0)) (library w (edifLevel 0) (technology) (cell c (cellType GENERIC) (view v (viewType NETLIST) (interface (portBundle b))))))
+abbrev pub port_bundle_175 : Placed
+port_bundle_175 = Form' 175 (More (Word' 176 (codes "portBundle")) (More (Word' 187 (codes "b")) End))
+
+abbrev pub port_bundle_164 : Placed
+port_bundle_164 = Form' 164 (More (Word' 165 (codes "interface")) (More port_bundle_175 End))
+
+abbrev pub port_bundle_137 : Placed
+port_bundle_137 = Form' 137 (More (Word' 138 (codes "view")) (More (Word' 143 (codes "v")) (More two_views_145 (More port_bundle_164 End))))
+
+abbrev pub port_bundle_110 : Placed
+port_bundle_110 = Form' 110 (More (Word' 111 (codes "cell")) (More (Word' 116 (codes "c")) (More other_view_type_118 (More port_bundle_137 End))))
+
+abbrev pub port_bundle_72 : Placed
+port_bundle_72 = Form' 72 (More (Word' 73 (codes "library")) (More (Word' 81 (codes "w")) (More two_libraries_83 (More two_libraries_97 (More port_bundle_110 End)))))
+
+abbrev pub port_bundle : Placed
+port_bundle = Form' 0 (More (Word' 1 (codes "edif")) (More (Word' 6 (codes "e")) (More bad_level_8 (More bad_version_28 (More bad_version_42 (More port_bundle_72 End))))))
+
+-- (edif e (edifVersion 2 0 0) (edifLevel 0) (keywordMap (keywordLevel 0)) (library w (edifLevel 0) (technology) (cell c (cellType GENERIC) (view v (viewType NETLIST) (interface) (property K (number (e 1 2147483648)))))))
+abbrev pub large_exponent_196 : Placed
+large_exponent_196 = Form' 196 (More (Word' 197 (codes "e")) (More (Integer' 199 (pos 1)) (More (Integer' 201 (pos 2147483648)) End)))
+
+abbrev pub large_exponent_188 : Placed
+large_exponent_188 = Form' 188 (More (Word' 189 (codes "number")) (More large_exponent_196 End))
+
+abbrev pub large_exponent_176 : Placed
+large_exponent_176 = Form' 176 (More (Word' 177 (codes "property")) (More (Word' 186 (codes "K")) (More large_exponent_188 End)))
+
+abbrev pub large_exponent_137 : Placed
+large_exponent_137 = Form' 137 (More (Word' 138 (codes "view")) (More (Word' 143 (codes "v")) (More two_views_145 (More two_views_164 (More large_exponent_176 End)))))
+
+abbrev pub large_exponent_110 : Placed
+large_exponent_110 = Form' 110 (More (Word' 111 (codes "cell")) (More (Word' 116 (codes "c")) (More other_view_type_118 (More large_exponent_137 End))))
+
+abbrev pub large_exponent_72 : Placed
+large_exponent_72 = Form' 72 (More (Word' 73 (codes "library")) (More (Word' 81 (codes "w")) (More two_libraries_83 (More two_libraries_97 (More large_exponent_110 End)))))
+
+abbrev pub large_exponent : Placed
+large_exponent = Form' 0 (More (Word' 1 (codes "edif")) (More (Word' 6 (codes "e")) (More bad_level_8 (More bad_version_28 (More bad_version_42 (More large_exponent_72 End))))))
+
+-- (edif e (edifVersion 2 0 0) (edifLevel 0) (keywordMap (keywordLevel 0)) (library w (edifLevel 0) (technology) (cell c (cellType GENERIC) (view v (viewType NETLIST) (interface (port p)) (contents (net n (joined (portRef p) (portRef p))))))))
+abbrev pub joined_twice_175 : Placed
+joined_twice_175 = Form' 175 (More (Word' 176 (codes "port")) (More (Word' 181 (codes "p")) End))
+
+abbrev pub joined_twice_164 : Placed
+joined_twice_164 = Form' 164 (More (Word' 165 (codes "interface")) (More joined_twice_175 End))
+
+abbrev pub joined_twice_210 : Placed
+joined_twice_210 = Form' 210 (More (Word' 211 (codes "portRef")) (More (Word' 219 (codes "p")) End))
+
+abbrev pub joined_twice_222 : Placed
+joined_twice_222 = Form' 222 (More (Word' 223 (codes "portRef")) (More (Word' 231 (codes "p")) End))
+
+abbrev pub joined_twice_202 : Placed
+joined_twice_202 = Form' 202 (More (Word' 203 (codes "joined")) (More joined_twice_210 (More joined_twice_222 End)))
+
+abbrev pub joined_twice_195 : Placed
+joined_twice_195 = Form' 195 (More (Word' 196 (codes "net")) (More (Word' 200 (codes "n")) (More joined_twice_202 End)))
+
+abbrev pub joined_twice_185 : Placed
+joined_twice_185 = Form' 185 (More (Word' 186 (codes "contents")) (More joined_twice_195 End))
+
+abbrev pub joined_twice_137 : Placed
+joined_twice_137 = Form' 137 (More (Word' 138 (codes "view")) (More (Word' 143 (codes "v")) (More two_views_145 (More joined_twice_164 (More joined_twice_185 End)))))
+
+abbrev pub joined_twice_110 : Placed
+joined_twice_110 = Form' 110 (More (Word' 111 (codes "cell")) (More (Word' 116 (codes "c")) (More other_view_type_118 (More joined_twice_137 End))))
+
+abbrev pub joined_twice_72 : Placed
+joined_twice_72 = Form' 72 (More (Word' 73 (codes "library")) (More (Word' 81 (codes "w")) (More two_libraries_83 (More two_libraries_97 (More joined_twice_110 End)))))
+
+abbrev pub joined_twice : Placed
+joined_twice = Form' 0 (More (Word' 1 (codes "edif")) (More (Word' 6 (codes "e")) (More bad_level_8 (More bad_version_28 (More bad_version_42 (More joined_twice_72 End))))))
+
+-- (edif e (edifVersion 2 0 0) (edifLevel 0) (keywordMap (keywordLevel 0)) (library w (edifLevel 0) (technology) (cell t (cellType GENERIC) (view v (viewType NETLIST) (interface) (contents (instance i (viewRef v (cellRef z)))))) (cell z (cellType GENERIC) (view v (viewType NETLIST) (interface)))))
+abbrev pub later_cell_209 : Placed
+later_cell_209 = Form' 209 (More (Word' 210 (codes "cellRef")) (More (Word' 218 (codes "z")) End))
+
+abbrev pub later_cell_198 : Placed
+later_cell_198 = Form' 198 (More (Word' 199 (codes "viewRef")) (More (Word' 207 (codes "v")) (More later_cell_209 End)))
+
+abbrev pub later_cell_186 : Placed
+later_cell_186 = Form' 186 (More (Word' 187 (codes "instance")) (More (Word' 196 (codes "i")) (More later_cell_198 End)))
+
+abbrev pub later_cell_176 : Placed
+later_cell_176 = Form' 176 (More (Word' 177 (codes "contents")) (More later_cell_186 End))
+
+abbrev pub later_cell_137 : Placed
+later_cell_137 = Form' 137 (More (Word' 138 (codes "view")) (More (Word' 143 (codes "v")) (More two_views_145 (More two_views_164 (More later_cell_176 End)))))
+
+abbrev pub later_cell_110 : Placed
+later_cell_110 = Form' 110 (More (Word' 111 (codes "cell")) (More (Word' 116 (codes "t")) (More other_view_type_118 (More later_cell_137 End))))
+
+abbrev pub later_cell_234 : Placed
+later_cell_234 = Form' 234 (More (Word' 235 (codes "cellType")) (More (Word' 244 (codes "GENERIC")) End))
+
+abbrev pub later_cell_261 : Placed
+later_cell_261 = Form' 261 (More (Word' 262 (codes "viewType")) (More (Word' 271 (codes "NETLIST")) End))
+
+abbrev pub later_cell_280 : Placed
+later_cell_280 = Form' 280 (More (Word' 281 (codes "interface")) End)
+
+abbrev pub later_cell_253 : Placed
+later_cell_253 = Form' 253 (More (Word' 254 (codes "view")) (More (Word' 259 (codes "v")) (More later_cell_261 (More later_cell_280 End))))
+
+abbrev pub later_cell_226 : Placed
+later_cell_226 = Form' 226 (More (Word' 227 (codes "cell")) (More (Word' 232 (codes "z")) (More later_cell_234 (More later_cell_253 End))))
+
+abbrev pub later_cell_72 : Placed
+later_cell_72 = Form' 72 (More (Word' 73 (codes "library")) (More (Word' 81 (codes "w")) (More two_libraries_83 (More two_libraries_97 (More later_cell_110 (More later_cell_226 End))))))
+
+abbrev pub later_cell : Placed
+later_cell = Form' 0 (More (Word' 1 (codes "edif")) (More (Word' 6 (codes "e")) (More bad_level_8 (More bad_version_28 (More bad_version_42 (More later_cell_72 End))))))
+
+-- (edif e (edifVersion 2 0 0) (edifLevel 0) (keywordMap (keywordLevel 0)) (library w (edifLevel 0) (technology) (cell c (cellType GENERIC) (view v (viewType NETLIST) (interface (port (array (rename d "d[3:0]") 4) (direction OUTPUT))) (contents (net n (joined (portRef d))))))))
+abbrev pub whole_array_188 : Placed
+whole_array_188 = Form' 188 (More (Word' 189 (codes "rename")) (More (Word' 196 (codes "d")) (More (String' 198 (codes "d[3:0]")) End)))
+
+abbrev pub whole_array_181 : Placed
+whole_array_181 = Form' 181 (More (Word' 182 (codes "array")) (More whole_array_188 (More (Integer' 208 (pos 4)) End)))
+
+abbrev pub whole_array_211 : Placed
+whole_array_211 = Form' 211 (More (Word' 212 (codes "direction")) (More (Word' 222 (codes "OUTPUT")) End))
+
+abbrev pub whole_array_175 : Placed
+whole_array_175 = Form' 175 (More (Word' 176 (codes "port")) (More whole_array_181 (More whole_array_211 End)))
+
+abbrev pub whole_array_164 : Placed
+whole_array_164 = Form' 164 (More (Word' 165 (codes "interface")) (More whole_array_175 End))
+
+abbrev pub whole_array_257 : Placed
+whole_array_257 = Form' 257 (More (Word' 258 (codes "portRef")) (More (Word' 266 (codes "d")) End))
+
+abbrev pub whole_array_249 : Placed
+whole_array_249 = Form' 249 (More (Word' 250 (codes "joined")) (More whole_array_257 End))
+
+abbrev pub whole_array_242 : Placed
+whole_array_242 = Form' 242 (More (Word' 243 (codes "net")) (More (Word' 247 (codes "n")) (More whole_array_249 End)))
+
+abbrev pub whole_array_232 : Placed
+whole_array_232 = Form' 232 (More (Word' 233 (codes "contents")) (More whole_array_242 End))
+
+abbrev pub whole_array_137 : Placed
+whole_array_137 = Form' 137 (More (Word' 138 (codes "view")) (More (Word' 143 (codes "v")) (More two_views_145 (More whole_array_164 (More whole_array_232 End)))))
+
+abbrev pub whole_array_110 : Placed
+whole_array_110 = Form' 110 (More (Word' 111 (codes "cell")) (More (Word' 116 (codes "c")) (More other_view_type_118 (More whole_array_137 End))))
+
+abbrev pub whole_array_72 : Placed
+whole_array_72 = Form' 72 (More (Word' 73 (codes "library")) (More (Word' 81 (codes "w")) (More two_libraries_83 (More two_libraries_97 (More whole_array_110 End)))))
+
+abbrev pub whole_array : Placed
+whole_array = Form' 0 (More (Word' 1 (codes "edif")) (More (Word' 6 (codes "e")) (More bad_level_8 (More bad_version_28 (More bad_version_42 (More whole_array_72 End))))))
+
+-- (edif e (edifVersion 2 0 0) (edifLevel 0) (keywordMap (keywordLevel 0)) (library w (edifLevel 0) (technology) (cell c (cellType GENERIC) (view v (viewType NETLIST) (interface (port (array (rename d "d[3:0]") 4) (direction OUTPUT))) (contents (net n (joined (portRef (member d 4)))))))))
+abbrev pub high_index_266 : Placed
+high_index_266 = Form' 266 (More (Word' 267 (codes "member")) (More (Word' 274 (codes "d")) (More (Integer' 276 (pos 4)) End)))
+
+abbrev pub high_index_257 : Placed
+high_index_257 = Form' 257 (More (Word' 258 (codes "portRef")) (More high_index_266 End))
+
+abbrev pub high_index_249 : Placed
+high_index_249 = Form' 249 (More (Word' 250 (codes "joined")) (More high_index_257 End))
+
+abbrev pub high_index_242 : Placed
+high_index_242 = Form' 242 (More (Word' 243 (codes "net")) (More (Word' 247 (codes "n")) (More high_index_249 End)))
+
+abbrev pub high_index_232 : Placed
+high_index_232 = Form' 232 (More (Word' 233 (codes "contents")) (More high_index_242 End))
+
+abbrev pub high_index_137 : Placed
+high_index_137 = Form' 137 (More (Word' 138 (codes "view")) (More (Word' 143 (codes "v")) (More two_views_145 (More whole_array_164 (More high_index_232 End)))))
+
+abbrev pub high_index_110 : Placed
+high_index_110 = Form' 110 (More (Word' 111 (codes "cell")) (More (Word' 116 (codes "c")) (More other_view_type_118 (More high_index_137 End))))
+
+abbrev pub high_index_72 : Placed
+high_index_72 = Form' 72 (More (Word' 73 (codes "library")) (More (Word' 81 (codes "w")) (More two_libraries_83 (More two_libraries_97 (More high_index_110 End)))))
+
+abbrev pub high_index : Placed
+high_index = Form' 0 (More (Word' 1 (codes "edif")) (More (Word' 6 (codes "e")) (More bad_level_8 (More bad_version_28 (More bad_version_42 (More high_index_72 End))))))

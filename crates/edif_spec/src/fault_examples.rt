@@ -1,0 +1,23 @@
+//! Small files, and the fault that stands in each.
+ghost use Rattle.std.specs.Prelude.{codes};
+ghost use Rattle.edif_spec.specs.Examples.{bad_version, bad_level, two_libraries, other_view_type, two_views, port_bundle, large_exponent, joined_twice, later_cell, whole_array, high_index};
+ghost use Rattle.edif_spec.specs.Stands.{Stands};
+ghost use Rattle.edif_spec.specs.declared.fault.ClashKind.TheVariants.{Duplicate, EndTwice, SecondView};
+ghost use Rattle.edif_spec.specs.declared.fault.Kind.TheVariants.{BadForm, BadIndex, BadLevel, BadVersion, NotNetlist, Unresolved, WholeArray};
+ghost use Rattle.edif_spec.specs.declared.fault.MeaningFault.TheVariants.{At, Clash, NotInProfile};
+
+/// In each of the small files of `specs/Examples.antt` the fault stands that its writer meant, at the byte that was counted in
+/// its text.
+pub fn faults_of_small_files()
+    ensures version { Stands bad_version (At BadVersion 25) }
+    ensures level { Stands bad_level (At BadLevel 39) }
+    ensures libraries { Stands two_libraries (Clash Duplicate 120 81) }
+    ensures view_type { Stands other_view_type (At NotNetlist 155) }
+    ensures views { Stands two_views (Clash SecondView 177 137) }
+    ensures bundle { Stands port_bundle (NotInProfile (codes "portBundle") 175) }
+    ensures exponent { Stands large_exponent (At BadForm 201) }
+    ensures ends { Stands joined_twice (Clash EndTwice 222 210) }
+    ensures cell { Stands later_cell (At Unresolved 218) }
+    ensures array { Stands whole_array (At WholeArray 266) }
+    ensures index { Stands high_index (At BadIndex 276) }
+{}
