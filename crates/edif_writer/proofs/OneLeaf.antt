@@ -1,16 +1,15 @@
 -- A design of one leaf cell with two ports is valid and plain.
-use Rattle.std.proofs.Common.{◌≡◌, ◌≢◌, ◌≤◌, ◌<◌, ◌+◌, ℕ, false, List, [], ◌∷◌, length, map, Option, Some, None, refl, ap, sym, ◌∙◌, subst, arith, lit≤}
-use Rattle.std.specs.List.{All, AllPairs}
+use Rattle.std.proofs.Common.{◌≡◌, ◌≢◌, ◌≤◌, false, List, [], ◌∷◌, length, map, Option, None, refl, ap, sym, ◌∙◌, subst, arith, lit≤}
+use Rattle.std.specs.List.{All}
 use Rattle.std.proofs.lemmas.List.Elements.{All-cons, All-nil}
 use Rattle.std.proofs.lemmas.List.Kept.{AllPairs-cons}
 use Rattle.netlist_schema.proofs.LeafDesigns.{leaf_design_is_valid}
 use Rattle.netlist_schema.specs.Design.{Design}
 use Rattle.netlist_schema.specs.Ident.{IsIdentifier}
-use Rattle.netlist_schema.specs.Limits.{IsCellWithinLimits}
-use Rattle.netlist_schema.specs.Names.{AreDistinct, HasDistinctKeys, HasDistinctNamesInCell}
-use Rattle.netlist_schema.specs.Plain.{IsLeafDesign, IsValidLeaf}
+use Rattle.netlist_schema.specs.Names.{AreDistinct, HasDistinctKeys}
+use Rattle.netlist_schema.specs.Plain.{IsValidLeaf}
 use Rattle.netlist_schema.specs.Typed.{IsTypedName, IsTypedPort, IsTypedProperty, IsTypedInst, IsTypedNet, IsTypedCell, IsTypedNote}
-use Rattle.netlist_schema.specs.Types.{CellBody, Direction, Inst, Lib, Name, Net, Note, Port, Property}
+use Rattle.netlist_schema.specs.Types.{CellBody, Direction, Inst, Lib, Name, Net, Note, Port}
 use Rattle.netlist_schema.specs.Valid.{IsValid}
 use Rattle.netlist_schema.specs.declared.cell.CellKind.TheVariants.{Generic}
 use Rattle.edif_spec.specs.Plain.{IsPlainCell, IsPlainDesign, IsPlainLib, IsPlainPort}

@@ -20,10 +20,10 @@ pub scaled_text : (level : ℕ) (n : design.Num) (m x : ℤ) → n ≡ numbers.S
 scaled_text level n m x e = rw e (simp (append_assoc, append-nil))
 
 pub integer_text : (level : ℕ) (v : design.Value) (z : ℤ) → v ≡ values.Integer z → codes "(integer " ++ (signed_decimal z ++ codes ")") ≡ layout level (value_tree v)
-integer_text level v z e = rw e (simp (append_assoc, append-nil))
+integer_text level v z e = rw e (simp append-nil)
 
 pub number_text : (level : ℕ) (v : design.Value) (n : design.Num) → v ≡ values.Number n → codes "(number " ++ (layout (suc level) (number_tree n) ++ codes ")") ≡ layout level (value_tree v)
-number_text level v n e = rw e (simp (append_assoc, append-nil))
+number_text level v n e = rw e (simp append-nil)
 
 pub text_text : (level : ℕ) (v : design.Value) (text : List ℕ) → v ≡ values.Text text → codes "(string " ++ (string_text text ++ codes ")") ≡ layout level (value_tree v)
 text_text level v text e = rw e (simp (append_assoc, append-nil))

@@ -1,15 +1,17 @@
 -- The texts of libraries and of whole designs.
-use Rattle.std.proofs.Common.{◌≡◌, ◌<◌, ◌+◌, ℕ, pos, Bool, true, false, List, [], ◌∷◌, ◌++◌, length, map, take, Some, None, refl, ap, sym, ◌∙◌, append_assoc, append-nil, lit<, inl, inr, arith}
+use Rattle.std.proofs.Common.{Option, ◌≡◌, ◌<◌, ◌+◌, ℕ, suc, pos, Bool, true, false, List, [], ◌∷◌, ◌++◌, length, map, take, Some, None, refl, ap, sym, ◌∙◌, append_assoc, append-nil, lit<, inl, inr, arith}
 use Rattle.std.specs.Prelude.{codes, slice_get}
-use Rattle.std.specs.List.{flat_map}
 use Rattle.std.proofs.lemmas.Fmt.{decimal_digit}
 use Rattle.std.proofs.lemmas.Option.{slice_get_cases}
-use Rattle.spelling_spec.specs.Tree.{word, integer, form}
+use Rattle.spelling_spec.specs.Tree.{Bare, word, integer, form}
 use Rattle.edif_spec.specs.Canonical.{layout, make, new_line, name_text, name_tree, zero_tree, library_keyword, library_tree, cell_tree, design_tree, perhaps, text, head_of, large_forms}
 use Rattle.edif_spec.specs.Design as design
 use Rattle.edif_spec.specs.Keyword.{spelling_of}
 use Rattle.edif_spec.specs.declared.keyword.Keyword.TheVariants as keywords
 use Rattle.edif_writer.specs.Lines.{lined}
+use Rattle.edif_writer.specs.Written.{Writes}
+use Rattle.edif_writer.specs.declared.page.Page.{Page}
+use Rattle.edif_writer.proofs.WrittenLemmas.{writes_then, writes_same}
 use Rattle.edif_writer.proofs.FormTexts.{large_form, one_more, lined-append}
 
 zero_level : layout 3 (zero_tree keywords.EdifLevel) ≡ codes "(edifLevel 0)"
@@ -75,10 +77,12 @@ topless_text d none =
     (sym (ap (λ o. lined 1 (perhaps (design_tree d.libs d.notes) o)) none))
     ∙ design_text d
 
--- of the parts of a list, the one at a place more
-pub one_more_at : {X Y : Type 0} (f : Y → List ℕ) (h : X → Y) (xs : List X) (i : ℕ) → i < length xs
-    → (x : X) × (slice_get xs i ≡ Some x) × (flat_map f (map h (take i xs)) ++ f (h x) ≡ flat_map f (map h (take (i + 1) xs)))
-one_more_at f h xs i l = elim (slice_get_cases xs i).1 [
-  | inl r ↦ (r.0, r.2, one_more f h xs i r.0 r.1 (sym r.3))
+-- of a list, one more line
+pub writes_line : {X K : Type 0} {written : K → Option (List ℕ)} {faults : K → ℕ} {j k l : K} {before page after : Page} (level : ℕ) (h : X → Bare) (xs : List X) (i : ℕ) → i < length xs
+    → Writes written faults j before k page (lined level (map h (take i xs)))
+    → ((x : X) → slice_get xs i ≡ Some x → Writes written faults k page l after (new_line level ++ layout (suc level) (h x)))
+    → Writes written faults j before l after (lined level (map h (take (i + 1) xs)))
+writes_line level h xs i below so_far next = elim (slice_get_cases xs i).1 [
+  | inl r ↦ writes_same (one_more (λ t. new_line level ++ layout (suc level) t) h xs i r.0 r.1 (sym r.3)) (writes_then so_far (next r.0 r.2))
   | inr r ↦ absurd (omega (arith, r.0))
 ]

@@ -1,8 +1,8 @@
 use Rattle.std.proofs.Common.{◌≡◌, ◌≢◌, ◌<◌, ◌∙◌, [], ◌∷◌, ℕ, List, Some, None, false, ap, sym, subst, arith, lit<}
 use Rattle.edif_spec.specs.Plain.{IsPlainDesign}
 use Rattle.netlist_schema.specs.declared.cell.Direction.TheVariants.{Input}
-use Rattle.netlist_schema.specs.Types.{CellBody, Lib, Port}
-use Rattle.edif_writer.proofs.OneLeaf.{lib_of, parts_are_valid, parts_are_plain}
+use Rattle.netlist_schema.specs.Types.{CellBody}
+use Rattle.edif_writer.proofs.OneLeaf.{parts_are_valid, parts_are_plain}
 use Rattle.edif_writer.proofs.tests.inverter_design.Goals as goal
 
 heads_differ : (m n : ℕ) → m < n → m ∷ [] ≢ n ∷ []
