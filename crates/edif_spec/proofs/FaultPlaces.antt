@@ -1,5 +1,5 @@
 -- A fault at a place of a list is among the list: for those who go over the list from its front.
-use Rattle.std.proofs.Common.{◌≡◌, ℕ, zero, suc, ◌+◌, ◌<◌, ◌≤◌, List, [], ◌∷◌, ◌++◌, map, length, refl, ap, sym, ◌∙◌, subst, ◌⊎◌, inl, inr, Option, Some, None, arith, append-nil}
+use Rattle.std.proofs.Common.{◌≡◌, ℕ, zero, suc, ◌+◌, ◌<◌, List, [], ◌∷◌, ◌++◌, map, refl, ap, sym, subst, inl, inr, Some, arith, append-nil}
 use Rattle.std.specs.Prelude.{slice_get}
 use Rattle.spelling_spec.specs.Tree.{Bare, Placed, bare}
 use Rattle.edif_spec.specs.Rows.{EachAfter}
