@@ -3,13 +3,14 @@ use Rattle.std.proofs.Common.{◌≡◌, ℕ, ◌<◌, pos, List, [], ◌∷◌,
 use Rattle.std.specs.Prelude.{codes, FitsSigned}
 use Rattle.std.specs.Int.{w32}
 use Rattle.spelling_spec.specs.Tree.{Word', Integer', bare, word, form}
-use Rattle.edif_spec.specs.Means.{MeansPort, MeansEnd}
+use Rattle.edif_spec.specs.Means.{MeansPort, MeansEnd, MeansCell, MeansCellRef, MeansLibrary}
 use Rattle.edif_spec.specs.Stands.{Stands}
 use Rattle.edif_spec.specs.Examples
 use Rattle.edif_spec.specs.Design as design
+use Rattle.netlist_schema.specs.declared.cell.CellKind.TheVariants as kinds
 use Rattle.netlist_schema.specs.declared.cell.Direction.TheVariants as directions
-use Rattle.edif_spec.specs.declared.fault.Kind.TheVariants.{BadForm, BadVersion, BadLevel, NotNetlist, Unresolved, BadIndex, WholeArray}
-use Rattle.edif_spec.specs.declared.fault.ClashKind.TheVariants.{SecondView, Duplicate, EndTwice}
+use Rattle.edif_spec.specs.declared.fault.Kind.TheVariants.{BadForm, BadVersion, BadLevel, NotNetlist, Unresolved, Ambiguous, BadIndex, WholeArray, BadPath}
+use Rattle.edif_spec.specs.declared.fault.ClashKind.TheVariants.{SecondView, SecondDesign, Duplicate, EndTwice}
 use Rattle.edif_spec.specs.declared.fault.MeaningFault.TheVariants.{NotInProfile, At, Clash}
 
 pub bad_version_stands : Stands Examples.bad_version (At BadVersion 25)
@@ -85,3 +86,76 @@ whole_array_stands = inr (inr (inr (inr (inr (inr (inl (inl (inr (inr (inr (inr 
 
 pub high_index_stands : Stands Examples.high_index (At BadIndex 276)
 high_index_stands = inr (inr (inr (inr (inr (inr (inl (inl (inr (inr (inr (inr (inl (Word' 81 (codes "w"), head, refl, inl (refl, refl), refl, inl (inr (inr (inr (inl (inl (inr (inr (inr (inr (inl (Examples.whole_array_164, wide ∷ [], refl, (wide_means, tt), inl (inr (inr (inl (inr ([], tt, inl (inl (inr (inr (inl (Examples.high_index_249, refl, inr (inl (inr (inr (None, tt, (Examples.high_index_266, refl, inr (inr (refl, inr (inr (codes "d", 274, 0, pos 4, 276, refl, refl, refl, not_below, refl)))))))))))))))))))))))))))))))))))))))))))
+
+-- a scalar port by its name
+abbrev scalar : List ℕ → design.Port
+scalar name = record { name = record { id = name; shown = None }; array = None; direction = None; designator = None; properties = [] }
+
+scalar_means : (name : List ℕ) → MeansPort (form (word (codes "port") ∷ word name ∷ [])) (scalar name)
+scalar_means name = record { name_part = word name; inner = []; form = record { spelled = codes "port"; is = refl; keyword = refl; fits = ((refl, tt), refl, (omega arith, (omega arith, tt))) }; name = inl (refl, refl); direction = tt; designator = tt; properties = tt }
+
+pub two_alike_stands : Stands Examples.two_alike (At Ambiguous 230)
+two_alike_stands = inr (inr (inr (inr (inr (inr (inl (inl (inr (inr (inr (inr (inl (Word' 81 (codes "w"), head, refl, inl (refl, refl), refl, inl (inr (inr (inr (inl (inl (inr (inr (inr (inr (inl (Examples.two_alike_164, scalar (codes "Ab") ∷ scalar (codes "aB") ∷ [], refl, (scalar_means (codes "Ab"), (scalar_means (codes "aB"), tt)), inl (inr (inr (inl (inr ([], tt, inl (inl (inr (inr (inl (Examples.two_alike_213, refl, inr (inl (inr (inr (None, tt, (Word' 230 (codes "AB"), refl, inl (codes "AB", 230, refl, inr (refl, refl)))))))))))))))))))))))))))))))))))))))))
+
+pub two_designs_stands : Stands Examples.two_designs (Clash SecondDesign 110 72)
+two_designs_stands = inr (inl (inr (inr (inl (inl (inl refl))))))
+
+pub no_view_stands : Stands Examples.no_view (At BadForm 110)
+no_view_stands = inr (inr (inr (inr (inr (inr (inl (inl (inr (inr (inr (inr (inl (Word' 81 (codes "w"), head, refl, inl (refl, refl), refl, inl (inr (inr (inr (inr (inl (refl, refl)))))))))))))))))))
+
+-- a library `w` with the leaf cell `t`
+abbrev leaf : design.CellBody
+leaf = record { name = record { id = codes "t"; shown = None }; kind = kinds.Generic; properties = []; view = record { id = codes "v"; shown = None }; view_properties = []; interface_properties = []; ports = []; contents = None }
+
+abbrev with_leaf : List design.Lib
+with_leaf = record { head = head; cells = leaf ∷ [] } ∷ []
+
+leaf_means : MeansCell scope (Some 0) (bare Examples.empty_path_110) leaf
+leaf_means = record {
+  name_part = word (codes "t");
+  kind_part = bare Examples.other_view_type_118;
+  inner = bare Examples.two_views_137 ∷ [];
+  form = record { spelled = codes "cell"; is = refl; keyword = refl; fits = ((refl, (refl, tt)), refl, (omega arith, tt)) };
+  name = inl (refl, refl);
+  kind = (codes "GENERIC", record { spelled = codes "cellType"; is = refl; keyword = refl; fits = ((refl, tt), refl, tt) }, refl);
+  view = record {
+    name_part = word (codes "v");
+    type_part = bare Examples.two_views_145;
+    interface_part = bare Examples.two_views_164;
+    inner = [];
+    form = record { spelled = codes "view"; is = refl; keyword = refl; fits = ((refl, (refl, (refl, tt))), refl, (omega arith, tt)) };
+    name = inl (refl, refl);
+    netlist = (codes "NETLIST", record { spelled = codes "viewType"; is = refl; keyword = refl; fits = ((refl, tt), refl, tt) }, refl);
+    interface = record { inner = []; form = record { spelled = codes "interface"; is = refl; keyword = refl; fits = (tt, refl, tt) }; ports = tt; properties = tt };
+    contents = tt;
+    properties = tt;
+  };
+  properties = tt;
+}
+
+library_means : MeansLibrary [] (bare Examples.empty_path_72) (record { head = head; cells = leaf ∷ [] })
+library_means = record {
+  name_part = word (codes "w");
+  level_part = bare Examples.two_libraries_83;
+  technology_part = bare Examples.two_libraries_97;
+  inner = bare Examples.empty_path_110 ∷ [];
+  form = record { spelled = codes "library"; is = refl; keyword = refl; fits = ((refl, (refl, (refl, tt))), refl, tt) };
+  name = inl (refl, refl);
+  level = record { spelled = codes "edifLevel"; is = refl; keyword = refl; fits = ((refl, tt), refl, tt) };
+  cells = (leaf_means, tt);
+}
+
+abbrev top : design.CellId
+top = record { lib = record { 0 = 0 }; slot = 0 }
+
+top_means : MeansCellRef with_leaf None (bare Examples.empty_path_189) top
+top_means = record {
+  spelled = codes "t";
+  inner = bare Examples.empty_path_200 ∷ [];
+  form = record { spelled = codes "cellRef"; is = refl; keyword = refl; fits = ((refl, tt), refl, (omega arith, tt)) };
+  lib = (codes "w", record { spelled = codes "libraryRef"; is = refl; keyword = refl; fits = ((refl, tt), refl, tt) }, refl);
+  cell = refl;
+}
+
+pub empty_path_stands : Stands Examples.empty_path (At BadPath 237)
+empty_path_stands = inr (inr (inr (inr (inr (inr (inr (inr (inr (with_leaf, (library_means, tt), inl (inr (inr (inr (inr (inl (Examples.empty_path_189, top, refl, top_means, inl (inl (inr (inr (inl (Examples.empty_path_237, refl, refl, inl (refl, refl)))))))))))))))))))))

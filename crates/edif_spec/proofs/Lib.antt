@@ -7,6 +7,7 @@ pub mod ContentsMeanings
 pub mod Defined
 pub mod FaultExamples
 pub mod FaultForms
+pub mod FaultPlaces
 pub mod FaultsApart
 pub mod FileFaultsApart
 pub mod Files

@@ -255,6 +255,103 @@ whole_array_72 = Form' 72 (More (Word' 73 (codes "library")) (More (Word' 81 (co
 abbrev pub whole_array : Placed
 whole_array = Form' 0 (More (Word' 1 (codes "edif")) (More (Word' 6 (codes "e")) (More bad_level_8 (More bad_version_28 (More bad_version_42 (More whole_array_72 End))))))
 
+-- (edif e (edifVersion 2 0 0) (edifLevel 0) (keywordMap (keywordLevel 0)) (library w (edifLevel 0) (technology) (cell c (cellType GENERIC) (view v (viewType NETLIST) (interface (port Ab) (port aB)) (contents (net n (joined (portRef AB))))))))
+abbrev pub two_alike_175 : Placed
+two_alike_175 = Form' 175 (More (Word' 176 (codes "port")) (More (Word' 181 (codes "Ab")) End))
+
+abbrev pub two_alike_185 : Placed
+two_alike_185 = Form' 185 (More (Word' 186 (codes "port")) (More (Word' 191 (codes "aB")) End))
+
+abbrev pub two_alike_164 : Placed
+two_alike_164 = Form' 164 (More (Word' 165 (codes "interface")) (More two_alike_175 (More two_alike_185 End)))
+
+abbrev pub two_alike_221 : Placed
+two_alike_221 = Form' 221 (More (Word' 222 (codes "portRef")) (More (Word' 230 (codes "AB")) End))
+
+abbrev pub two_alike_213 : Placed
+two_alike_213 = Form' 213 (More (Word' 214 (codes "joined")) (More two_alike_221 End))
+
+abbrev pub two_alike_206 : Placed
+two_alike_206 = Form' 206 (More (Word' 207 (codes "net")) (More (Word' 211 (codes "n")) (More two_alike_213 End)))
+
+abbrev pub two_alike_196 : Placed
+two_alike_196 = Form' 196 (More (Word' 197 (codes "contents")) (More two_alike_206 End))
+
+abbrev pub two_alike_137 : Placed
+two_alike_137 = Form' 137 (More (Word' 138 (codes "view")) (More (Word' 143 (codes "v")) (More two_views_145 (More two_alike_164 (More two_alike_196 End)))))
+
+abbrev pub two_alike_110 : Placed
+two_alike_110 = Form' 110 (More (Word' 111 (codes "cell")) (More (Word' 116 (codes "c")) (More other_view_type_118 (More two_alike_137 End))))
+
+abbrev pub two_alike_72 : Placed
+two_alike_72 = Form' 72 (More (Word' 73 (codes "library")) (More (Word' 81 (codes "w")) (More two_libraries_83 (More two_libraries_97 (More two_alike_110 End)))))
+
+abbrev pub two_alike : Placed
+two_alike = Form' 0 (More (Word' 1 (codes "edif")) (More (Word' 6 (codes "e")) (More bad_level_8 (More bad_version_28 (More bad_version_42 (More two_alike_72 End))))))
+
+-- (edif e (edifVersion 2 0 0) (edifLevel 0) (keywordMap (keywordLevel 0)) (design a (cellRef t (libraryRef w))) (design b (cellRef t (libraryRef w))))
+abbrev pub two_designs_93 : Placed
+two_designs_93 = Form' 93 (More (Word' 94 (codes "libraryRef")) (More (Word' 105 (codes "w")) End))
+
+abbrev pub two_designs_82 : Placed
+two_designs_82 = Form' 82 (More (Word' 83 (codes "cellRef")) (More (Word' 91 (codes "t")) (More two_designs_93 End)))
+
+abbrev pub two_designs_72 : Placed
+two_designs_72 = Form' 72 (More (Word' 73 (codes "design")) (More (Word' 80 (codes "a")) (More two_designs_82 End)))
+
+abbrev pub two_designs_131 : Placed
+two_designs_131 = Form' 131 (More (Word' 132 (codes "libraryRef")) (More (Word' 143 (codes "w")) End))
+
+abbrev pub two_designs_120 : Placed
+two_designs_120 = Form' 120 (More (Word' 121 (codes "cellRef")) (More (Word' 129 (codes "t")) (More two_designs_131 End)))
+
+abbrev pub two_designs_110 : Placed
+two_designs_110 = Form' 110 (More (Word' 111 (codes "design")) (More (Word' 118 (codes "b")) (More two_designs_120 End)))
+
+abbrev pub two_designs : Placed
+two_designs = Form' 0 (More (Word' 1 (codes "edif")) (More (Word' 6 (codes "e")) (More bad_level_8 (More bad_version_28 (More bad_version_42 (More two_designs_72 (More two_designs_110 End)))))))
+
+-- (edif e (edifVersion 2 0 0) (edifLevel 0) (keywordMap (keywordLevel 0)) (library w (edifLevel 0) (technology) (cell t (cellType GENERIC) (view v (viewType NETLIST) (interface)))) (design d (cellRef t (libraryRef w)) (userData netdb_note (path) (property K (integer 1)))))
+abbrev pub empty_path_110 : Placed
+empty_path_110 = Form' 110 (More (Word' 111 (codes "cell")) (More (Word' 116 (codes "t")) (More other_view_type_118 (More two_views_137 End))))
+
+abbrev pub empty_path_72 : Placed
+empty_path_72 = Form' 72 (More (Word' 73 (codes "library")) (More (Word' 81 (codes "w")) (More two_libraries_83 (More two_libraries_97 (More empty_path_110 End)))))
+
+abbrev pub empty_path_200 : Placed
+empty_path_200 = Form' 200 (More (Word' 201 (codes "libraryRef")) (More (Word' 212 (codes "w")) End))
+
+abbrev pub empty_path_189 : Placed
+empty_path_189 = Form' 189 (More (Word' 190 (codes "cellRef")) (More (Word' 198 (codes "t")) (More empty_path_200 End)))
+
+abbrev pub empty_path_237 : Placed
+empty_path_237 = Form' 237 (More (Word' 238 (codes "path")) End)
+
+abbrev pub empty_path_256 : Placed
+empty_path_256 = Form' 256 (More (Word' 257 (codes "integer")) (More (Integer' 265 (pos 1)) End))
+
+abbrev pub empty_path_244 : Placed
+empty_path_244 = Form' 244 (More (Word' 245 (codes "property")) (More (Word' 254 (codes "K")) (More empty_path_256 End)))
+
+abbrev pub empty_path_216 : Placed
+empty_path_216 = Form' 216 (More (Word' 217 (codes "userData")) (More (Word' 226 (codes "netdb_note")) (More empty_path_237 (More empty_path_244 End))))
+
+abbrev pub empty_path_179 : Placed
+empty_path_179 = Form' 179 (More (Word' 180 (codes "design")) (More (Word' 187 (codes "d")) (More empty_path_189 (More empty_path_216 End))))
+
+abbrev pub empty_path : Placed
+empty_path = Form' 0 (More (Word' 1 (codes "edif")) (More (Word' 6 (codes "e")) (More bad_level_8 (More bad_version_28 (More bad_version_42 (More empty_path_72 (More empty_path_179 End)))))))
+
+-- (edif e (edifVersion 2 0 0) (edifLevel 0) (keywordMap (keywordLevel 0)) (library w (edifLevel 0) (technology) (cell c (cellType GENERIC))))
+abbrev pub no_view_110 : Placed
+no_view_110 = Form' 110 (More (Word' 111 (codes "cell")) (More (Word' 116 (codes "c")) (More other_view_type_118 End)))
+
+abbrev pub no_view_72 : Placed
+no_view_72 = Form' 72 (More (Word' 73 (codes "library")) (More (Word' 81 (codes "w")) (More two_libraries_83 (More two_libraries_97 (More no_view_110 End)))))
+
+abbrev pub no_view : Placed
+no_view = Form' 0 (More (Word' 1 (codes "edif")) (More (Word' 6 (codes "e")) (More bad_level_8 (More bad_version_28 (More bad_version_42 (More no_view_72 End))))))
+
 -- (edif e (edifVersion 2 0 0) (edifLevel 0) (keywordMap (keywordLevel 0)) (library w (edifLevel 0) (technology) (cell c (cellType GENERIC) (view v (viewType NETLIST) (interface (port (array (rename d "d[3:0]") 4) (direction OUTPUT))) (contents (net n (joined (portRef (member d 4)))))))))
 abbrev pub high_index_266 : Placed
 high_index_266 = Form' 266 (More (Word' 267 (codes "member")) (More (Word' 274 (codes "d")) (More (Integer' 276 (pos 4)) End)))

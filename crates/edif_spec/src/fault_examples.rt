@@ -1,9 +1,9 @@
 //! Small files, and the fault that stands in each.
 ghost use Rattle.std.specs.Prelude.{codes};
-ghost use Rattle.edif_spec.specs.Examples.{bad_version, bad_level, two_libraries, other_view_type, two_views, port_bundle, large_exponent, joined_twice, later_cell, whole_array, high_index};
+ghost use Rattle.edif_spec.specs.Examples.{bad_version, bad_level, two_libraries, other_view_type, two_views, port_bundle, large_exponent, joined_twice, later_cell, whole_array, high_index, two_alike, two_designs, no_view, empty_path};
 ghost use Rattle.edif_spec.specs.Stands.{Stands};
-ghost use Rattle.edif_spec.specs.declared.fault.ClashKind.TheVariants.{Duplicate, EndTwice, SecondView};
-ghost use Rattle.edif_spec.specs.declared.fault.Kind.TheVariants.{BadForm, BadIndex, BadLevel, BadVersion, NotNetlist, Unresolved, WholeArray};
+ghost use Rattle.edif_spec.specs.declared.fault.ClashKind.TheVariants.{Duplicate, EndTwice, SecondDesign, SecondView};
+ghost use Rattle.edif_spec.specs.declared.fault.Kind.TheVariants.{Ambiguous, BadForm, BadIndex, BadLevel, BadPath, BadVersion, NotNetlist, Unresolved, WholeArray};
 ghost use Rattle.edif_spec.specs.declared.fault.MeaningFault.TheVariants.{At, Clash, NotInProfile};
 
 /// In each of the small files of `specs/Examples.antt` the fault stands that its writer meant, at the byte that was counted in
@@ -20,4 +20,8 @@ pub fn faults_of_small_files()
     ensures cell { Stands later_cell (At Unresolved 218) }
     ensures array { Stands whole_array (At WholeArray 266) }
     ensures index { Stands high_index (At BadIndex 276) }
+    ensures alike { Stands two_alike (At Ambiguous 230) }
+    ensures designs { Stands two_designs (Clash SecondDesign 110 72) }
+    ensures leaf { Stands no_view (At BadForm 110) }
+    ensures path { Stands empty_path (At BadPath 237) }
 {}

@@ -33,3 +33,15 @@ returns-clause-array c = FaultExamples.whole_array_stands
 
 pub returns-clause-index : goal.returns-clause-index
 returns-clause-index c = FaultExamples.high_index_stands
+
+pub returns-clause-alike : goal.returns-clause-alike
+returns-clause-alike c = FaultExamples.two_alike_stands
+
+pub returns-clause-designs : goal.returns-clause-designs
+returns-clause-designs c = FaultExamples.two_designs_stands
+
+pub returns-clause-leaf : goal.returns-clause-leaf
+returns-clause-leaf c = FaultExamples.no_view_stands
+
+pub returns-clause-path : goal.returns-clause-path
+returns-clause-path c = FaultExamples.empty_path_stands
