@@ -3,8 +3,14 @@ pub mod Closed
 pub mod Edits
 pub mod Framed
 pub mod Growing
+pub mod InnerValid
+pub mod InstStep
+pub mod InstValid
 pub mod JoinValid
 pub mod Joined
+pub mod Levels
+pub mod NewCellValid
+pub mod NotesValid
 pub mod Reached
 pub mod Same
 pub mod Shown

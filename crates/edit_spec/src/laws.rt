@@ -1,10 +1,13 @@
 //! Laws of the operations.
-ghost use Rattle.std.specs.Prelude.{List};
+ghost use Rattle.std.specs.Prelude.{◌↔◌, IsTrue, List};
 ghost use Rattle.netlist_schema.specs.Design.{Design};
+ghost use Rattle.netlist_schema.specs.Hierarchy.{IsBelow};
+ghost use Rattle.netlist_schema.specs.Types.{CellId};
 ghost use Rattle.netlist_schema.specs.Valid.{IsValid};
 ghost use Rattle.edit_spec.specs.Frame.{ChangesNothing, IsFramed, IsReplayed};
 ghost use Rattle.edit_spec.specs.Needs.{Needs, Reads};
 ghost use Rattle.edit_spec.specs.Objects.{AgreesOn, Grown, IsClosed};
+ghost use Rattle.edit_spec.specs.Paths.{is_below};
 ghost use Rattle.edit_spec.specs.Step.{step, IsRefusal};
 ghost use Rattle.edit_spec.specs.declared.ops.Op.{Op};
 
@@ -36,4 +39,9 @@ pub fn step_is_grown()
 /// An operation that is refused changes nothing and writes nothing.
 pub fn refused_changes_nothing()
     ensures { (d : Design) (op : Op) → IsRefusal (step d op).reply → ChangesNothing d op }
+{}
+
+/// In a valid design the test whether a cell is below another is right.
+pub fn below_test()
+    ensures { (d : Design) (inner outer : CellId) → IsValid d → IsTrue (is_below d inner outer) ↔ IsBelow d inner outer }
 {}
