@@ -168,19 +168,19 @@ more_valid d id of old name good apart not valid found =
     let f = with_both d id contents d.notes in
     let has_old : (other : CellId) (inst : Inst) → (other ≡ id) → HasInst d other inst → Contains (insts_of old) inst = λ other inst at has. subst (λ (o : Option CellBody). Contains (option_map_or insts_of o []) inst) (ap (cell_at d) at ∙ found) has in
     let more : (other : CellId) (inst : Inst) → HasInst d other inst → HasInst f other inst = λ other inst has. ⊎_elim
-        (λ (at : other ≡ id).
-        let had = has_old other inst at has in
-        subst (λ (c : CellId). HasInst e c inst) (sym at) (inst_here d id old contents inst found (kept_added (insts_of old) new inst had.0 had.1 had.2)))
-        (λ (away : other ≢ id). inst_elsewhere d id contents other inst away has)
-        (cases_cell other id) in
+    (λ (at : other ≡ id).
+    let had = has_old other inst at has in
+    subst (λ (c : CellId). HasInst e c inst) (sym at) (inst_here d id old contents inst found (kept_added (insts_of old) new inst had.0 had.1 had.2)))
+    (λ (away : other ≢ id). inst_elsewhere d id contents other inst away has)
+    (cases_cell other id) in
     let split : (other : CellId) (inst : Inst) → HasInst f other inst → HasInst d other inst ⊎ ((other ≡ id) × (inst.of ≡ of)) = λ other inst has. ⊎_elim
-        (λ (here : (other ≡ id) × Contains contents.insts inst).
-        ⊎_elim
-        (λ (had : Contains (insts_of old) inst). inl (subst (λ (o : Option CellBody). Contains (option_map_or insts_of o []) inst) (sym (ap (cell_at d) here.0 ∙ found)) had))
-        (λ (is_new : inst ≡ new). inr (here.0, ap (λ (i : Inst). i.of) is_new))
-        (old_or_added (insts_of old) new inst here.1))
-        (λ (away : (other ≢ id) × HasInst d other inst). inl away.1)
-        (inst_after d id contents other inst has) in
+    (λ (here : (other ≡ id) × Contains contents.insts inst).
+    ⊎_elim
+    (λ (had : Contains (insts_of old) inst). inl (subst (λ (o : Option CellBody). Contains (option_map_or insts_of o []) inst) (sym (ap (cell_at d) here.0 ∙ found)) had))
+    (λ (is_new : inst ≡ new). inr (here.0, ap (λ (i : Inst). i.of) is_new))
+    (old_or_added (insts_of old) new inst here.1))
+    (λ (away : (other ≢ id) × HasInst d other inst). inl away.1)
+    (inst_after d id contents other inst has) in
     let was = good_notes_before d valid in
     inner_valid d id old contents d.notes valid found good
     (record {

@@ -1,5 +1,7 @@
+pub mod AllValid
 pub mod Changes
 pub mod Closed
+pub mod DropValid
 pub mod Edits
 pub mod Framed
 pub mod Growing

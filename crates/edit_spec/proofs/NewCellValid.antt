@@ -71,8 +71,8 @@ more_cell_valid d id body valid good =
     let change : Lib → Lib = lib_with_more body in
     let cell_after : (c : CellId) → IsCell d c → IsCell f c = λ c is. is_cell_after (fresh id body) d c is in
     let more : (other : CellId) (inst : Inst) → HasInst d other inst → HasInst f other inst = λ other inst has.
-        let found = cell_of_inst d other inst has in
-        has_inst f other found.0 inst (kept_with_more d id.lib body other found.0 found.1) found.2 in
+    let found = cell_of_inst d other inst has in
+    has_inst f other found.0 inst (kept_with_more d id.lib body other found.0 found.1) found.2 in
     record {
       typed = record {
         title = valid.typed.title;

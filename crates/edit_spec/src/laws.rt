@@ -9,6 +9,7 @@ ghost use Rattle.edit_spec.specs.Needs.{Needs, Reads};
 ghost use Rattle.edit_spec.specs.Objects.{AgreesOn, Grown, IsClosed};
 ghost use Rattle.edit_spec.specs.Paths.{is_below};
 ghost use Rattle.edit_spec.specs.Step.{step, IsRefusal};
+ghost use Rattle.edit_spec.specs.Typed.{IsTypedOp};
 ghost use Rattle.edit_spec.specs.declared.ops.Op.{Op};
 
 /// In a valid design each instance is of a cell of the design.
@@ -44,4 +45,9 @@ pub fn refused_changes_nothing()
 /// In a valid design the test whether a cell is below another is right.
 pub fn below_test()
     ensures { (d : Design) (inner outer : CellId) → IsValid d → IsTrue (is_below d inner outer) ↔ IsBelow d inner outer }
+{}
+
+/// An operation keeps a valid design valid.
+pub fn step_is_valid()
+    ensures { (d : Design) (op : Op) → IsTypedOp op → IsValid d → IsValid (step d op).design }
 {}
