@@ -3,6 +3,7 @@ pub mod Changes
 pub mod Closed
 pub mod DropValid
 pub mod Edits
+pub mod Example
 pub mod Framed
 pub mod Growing
 pub mod InnerValid

@@ -1,5 +1,5 @@
 //! Laws of the operations.
-ghost use Rattle.std.specs.Prelude.{◌↔◌, IsTrue, List};
+ghost use Rattle.std.specs.Prelude.{◌≡◌, ◌↔◌, IsTrue, List, map};
 ghost use Rattle.netlist_schema.specs.Design.{Design};
 ghost use Rattle.netlist_schema.specs.Hierarchy.{IsBelow};
 ghost use Rattle.netlist_schema.specs.Types.{CellId};
@@ -8,8 +8,9 @@ ghost use Rattle.edit_spec.specs.Frame.{ChangesNothing, IsFramed, IsReplayed};
 ghost use Rattle.edit_spec.specs.Needs.{Needs, Reads};
 ghost use Rattle.edit_spec.specs.Objects.{AgreesOn, Grown, IsClosed};
 ghost use Rattle.edit_spec.specs.Paths.{is_below};
-ghost use Rattle.edit_spec.specs.Step.{step, IsRefusal};
+ghost use Rattle.edit_spec.specs.Step.{step, run, IsRefusal};
 ghost use Rattle.edit_spec.specs.Typed.{IsTypedOp};
+ghost use Rattle.edit_spec.specs.Worked.{worked_design, worked_replies};
 ghost use Rattle.edit_spec.specs.declared.ops.Op.{Op};
 
 /// In a valid design each instance is of a cell of the design.
@@ -50,4 +51,9 @@ pub fn below_test()
 /// An operation keeps a valid design valid.
 pub fn step_is_valid()
     ensures { (d : Design) (op : Op) → IsTypedOp op → IsValid d → IsValid (step d op).design }
+{}
+
+/// The operations of the worked example, one after the other, reply as it says.
+pub fn worked_example()
+    ensures { (run worked_design (map (λ line. line.0) worked_replies)).replies ≡ map (λ line. line.1) worked_replies }
 {}
