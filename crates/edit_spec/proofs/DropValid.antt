@@ -254,7 +254,7 @@ found_named insts inst name has distinct same =
     let zero_more : 0 + has.0 ≡ has.0 = omega arith in
     ap (option_and_then (slice_get insts)) (place ∙ ap (λ (m : ℕ). Some m) zero_more) ∙ get_at insts inst has.0 has.1 has.2
 
-named_at : (d : Design) (at : CellId) (inst : Inst) (name : List ℕ) → IsValid d → HasInst d at inst → inst.name.id ≡ name → inst_named name (insts_at d at) ≡ Some inst
+pub named_at : (d : Design) (at : CellId) (inst : Inst) (name : List ℕ) → IsValid d → HasInst d at inst → inst.name.id ≡ name → inst_named name (insts_at d at) ≡ Some inst
 named_at d at inst name valid has same =
     let found = cell_of_inst d at inst has in
     let insts : insts_at d at ≡ insts_of found.0 = ap (λ (o : Option CellBody). option_map_or insts_of o []) found.1 in

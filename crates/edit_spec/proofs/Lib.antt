@@ -19,3 +19,4 @@ pub mod Same
 pub mod Shown
 pub mod StepValid
 pub mod Valid
+pub mod Values

@@ -1,17 +1,23 @@
 //! Laws of the operations.
-ghost use Rattle.std.specs.Prelude.{◌≡◌, ◌↔◌, IsTrue, List, map};
+ghost use Rattle.std.specs.Prelude.{◌≡◌, ◌↔◌, IsTrue, List, ℕ, map};
+ghost use Rattle.std.specs.List.{All};
 ghost use Rattle.netlist_schema.specs.Design.{Design};
-ghost use Rattle.netlist_schema.specs.Hierarchy.{IsBelow};
-ghost use Rattle.netlist_schema.specs.Types.{CellId};
+ghost use Rattle.netlist_schema.specs.Hierarchy.{IsBelow, Resolves};
+ghost use Rattle.netlist_schema.specs.Types.{CellId, Object};
 ghost use Rattle.netlist_schema.specs.Valid.{IsValid};
 ghost use Rattle.edit_spec.specs.Frame.{ChangesNothing, IsFramed, IsReplayed};
 ghost use Rattle.edit_spec.specs.Needs.{Needs, Reads};
-ghost use Rattle.edit_spec.specs.Objects.{AgreesOn, Grown, IsClosed};
-ghost use Rattle.edit_spec.specs.Paths.{is_below};
+ghost use Rattle.edit_spec.specs.Objects.{Agrees, AgreesOn, Grown, IsClosed, value_of};
+ghost use Rattle.edit_spec.specs.Paths.{is_below, resolves};
 ghost use Rattle.edit_spec.specs.Step.{step, run, IsRefusal};
 ghost use Rattle.edit_spec.specs.Typed.{IsTypedOp};
 ghost use Rattle.edit_spec.specs.Worked.{worked_design, worked_replies};
 ghost use Rattle.edit_spec.specs.declared.ops.Op.{Op};
+
+/// Two designs agree on an object exactly where it has one value in both, or is absent in both.
+pub fn agree_is_same_value()
+    ensures { (d e : Design) (o : Object) → Agrees d e o ↔ (value_of d o ≡ value_of e o) }
+{}
 
 /// In a valid design each instance is of a cell of the design.
 pub fn valid_is_closed()
@@ -36,6 +42,21 @@ pub fn replay()
 /// The design after an operation is grown.
 pub fn step_is_grown()
     ensures { (d : Design) (op : Op) → Grown d (step d op).design }
+{}
+
+/// The design after several operations is grown.
+pub fn run_is_grown()
+    ensures { (d : Design) (ops : List Op) → Grown d (run d ops).design }
+{}
+
+/// Several operations keep a valid design valid.
+pub fn run_is_valid()
+    ensures { (d : Design) (ops : List Op) → All IsTypedOp ops → IsValid d → IsValid (run d ops).design }
+{}
+
+/// In a valid design the test whether a path leads somewhere is right.
+pub fn path_test()
+    ensures { (d : Design) (at : CellId) (path : List (List ℕ)) → IsValid d → IsTrue (resolves d at path) ↔ Resolves d at path }
 {}
 
 /// An operation that is refused changes nothing and writes nothing.
