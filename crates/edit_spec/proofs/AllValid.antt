@@ -2,7 +2,6 @@
 use Rattle.netlist_schema.specs.Design.{Design}
 use Rattle.netlist_schema.specs.Valid.{IsValid}
 use Rattle.edit_spec.specs.Step.{step}
-use Rattle.edit_spec.specs.Rows.{row_of}
 use Rattle.edit_spec.specs.Typed.{IsTypedOp}
 use Rattle.edit_spec.specs.declared.ops.Op.{Op}
 use Rattle.edit_spec.specs.declared.ops.Op.TheVariants.{ShowCell, ShowNet, ShowInst, AddCell, AddNet, DropNet, AddInst, DropInst, Join, Cut, SetProp, SetNote, DropNote}

@@ -1,28 +1,26 @@
 -- Removing an instance, with its ends and the notes whose paths go through it, keeps a design valid.
-use Rattle.std.proofs.Common.{◌≡◌, ◌≢◌, ◌⊎◌, inl, inr, ⊎_elim, ℕ, zero, suc, ◌+◌, ◌-◌, ◌<◌, ◌≤◌, Bool, true, false, cond, not, arith, List, [], ◌∷◌, ◌++◌, map, length, Option, Some, None, refl, sym, ap, subst, ◌∙◌, length-append, slice_get, slice_index_or, eq-eqb}
-use Rattle.std.specs.Prelude.{IfSome, IfNone, IsSomeAnd, filter, remove, flat_map, nat_lt, nat_eq, ◌==◌, ◌&&◌, ◌||◌, is_none}
+use Rattle.std.proofs.Common.{◌≡◌, ◌≢◌, ⊎_elim, ℕ, zero, suc, ◌+◌, ◌-◌, ◌<◌, ◌≤◌, Bool, true, false, cond, not, arith, List, [], ◌∷◌, ◌++◌, map, length, Option, Some, None, refl, sym, ap, subst, ◌∙◌, length-append, slice_get, slice_index_or, eq-eqb}
+use Rattle.std.specs.Prelude.{IsSomeAnd, filter, remove, flat_map, nat_lt, ◌==◌, ◌&&◌}
 use Rattle.std.specs.List.{All, AllByRecursion, Contains, position_from}
 use Rattle.std.specs.Option.{option_map, option_map_or, option_and_then, option_to_list}
 use Rattle.std.proofs.lemmas.Bool.{ltb-true, ltb-false, eqb-true}
 use Rattle.std.proofs.lemmas.List.{length-map}
 use Rattle.std.proofs.lemmas.List.Concat.{flat_map-append}
 use Rattle.std.proofs.lemmas.List.Elements.{recursion_from_All, All-from_recursion}
-use Rattle.std.proofs.lemmas.Option.{slice_get_within, get_or_from_slice_get}
-use Rattle.netlist_schema.specs.Design.{Design, cell_at, insts_of, nets_of, ends_of, insts_in, nets_in}
-use Rattle.netlist_schema.specs.Hierarchy.{IsCell, HasInst, IsBelow, Resolves, insts_at}
+use Rattle.netlist_schema.specs.Design.{Design, cell_at, insts_of, nets_of}
+use Rattle.netlist_schema.specs.Hierarchy.{IsCell, HasInst, Resolves, insts_at}
 use Rattle.netlist_schema.specs.Names.{AreDistinct, HasDistinctKeys, note_key}
 use Rattle.netlist_schema.specs.Typed.{IsTypedInst, IsTypedNet, IsTypedNote}
 use Rattle.netlist_schema.specs.Types.{CellBody, CellId, Contents, End, Inst, Net, Note, TopHead}
 use Rattle.netlist_schema.specs.Valid.{IsValid, IsValidCell, IsEndAt, IsEndOf, HasBit, IsNoteBelow}
 use Rattle.netlist_schema.proofs.Cells.{cell_of_inst}
-use Rattle.edit_spec.specs.Edit.{Edit, inner, noted, edited, edited_once, with_contents}
+use Rattle.edit_spec.specs.Edit.{inner, noted, edited, with_contents}
 use Rattle.edit_spec.specs.Find.{is_name, inst_named, inst_place, cell_named}
 use Rattle.edit_spec.specs.Paths.{same_cell, goes_through}
-use Rattle.edit_spec.specs.Rows.{Named, named, inside, row_of, first, no_lib, no_cell, no_inst, end_moved, end_without_inst, net_without_inst, without_inst, goes_on, other_notes, seen_if, set_notes}
+use Rattle.edit_spec.specs.Rows.{named, inside, no_lib, no_cell, no_inst, end_moved, end_without_inst, net_without_inst, without_inst, goes_on, other_notes, seen_if, set_notes}
 use Rattle.edit_spec.specs.Step.{step}
 use Rattle.edit_spec.specs.declared.ops.CellName.{CellName}
 use Rattle.edit_spec.specs.declared.ops.Op.TheVariants.{DropInst}
-use Rattle.edit_spec.specs.declared.ops.Reply.{Reply}
 use Rattle.edit_spec.specs.declared.ops.Reply.TheVariants.{NoInst}
 use Rattle.edit_spec.proofs.Changes.{All-drop, length_drop, map_drop, apart_drop, length_filter, same_name}
 use Rattle.edit_spec.proofs.Edits.{cases_cell}
@@ -32,7 +30,7 @@ use Rattle.edit_spec.proofs.JoinValid.{there}
 use Rattle.edit_spec.proofs.Joined.{Apart, apart_of, distinct_of, each_append, ends_of_nets}
 use Rattle.edit_spec.proofs.Levels.{same_cell-refl}
 use Rattle.edit_spec.proofs.NotesValid.{inst_at_place}
-use Rattle.edit_spec.proofs.Reached.{Contains-head, Contains-tail}
+use Rattle.edit_spec.proofs.Reached.{Contains-tail}
 use Rattle.edit_spec.proofs.StepValid.{row_valid, cell_there, inside_of}
 use Rattle.edit_spec.proofs.Valid.{first_none, neither, is_name-refl}
 

@@ -1,13 +1,13 @@
 -- A change of a cell's contents and of the notes keeps a design valid, where the new contents and notes are good.
-use Rattle.std.proofs.Common.{◌≡◌, ◌≢◌, ◌⊎◌, inl, inr, ⊎_elim, ℕ, zero, suc, ◌<◌, ◌≤◌, arith, List, [], ◌∷◌, map, length, Option, Some, None, refl, sym, ap, subst, ◌∙◌, slice_get}
+use Rattle.std.proofs.Common.{◌≡◌, ◌≢◌, ◌⊎◌, inl, inr, ⊎_elim, ℕ, ◌≤◌, List, [], ◌∷◌, map, length, Option, Some, None, refl, sym, ap, subst, ◌∙◌, slice_get}
 use Rattle.std.specs.Prelude.{IfSome, IfNone, IsSomeAnd, flat_map}
 use Rattle.std.specs.List.{All, Contains}
-use Rattle.std.specs.Option.{option_map, option_map_or}
-use Rattle.netlist_schema.specs.Design.{Design, cell_at, insts_of, nets_of, ends_of}
+use Rattle.std.specs.Option.{option_map}
+use Rattle.netlist_schema.specs.Design.{Design, cell_at, insts_of, ends_of}
 use Rattle.netlist_schema.specs.Hierarchy.{IsCell, HasInst, IsBelow, placed, deeper, NoCellIsBelowItself, Resolves}
-use Rattle.netlist_schema.specs.Names.{AreDistinct, HasDistinctKeys, HasDistinctNamesInCell, cell_names, note_key}
+use Rattle.netlist_schema.specs.Names.{AreDistinct, HasDistinctKeys, cell_names, note_key}
 use Rattle.netlist_schema.specs.Typed.{IsTypedCell, IsTypedName, IsTypedInst, IsTypedNet, IsTypedNote}
-use Rattle.netlist_schema.specs.Types.{CellBody, CellId, Contents, End, Inst, Lib, Net, Note, Port, TopHead}
+use Rattle.netlist_schema.specs.Types.{CellBody, CellId, Contents, End, Inst, Lib, Note, Port, TopHead}
 use Rattle.netlist_schema.specs.Valid.{IsValid, IsValidCell, IsEndAt, IsEndOf, HasBit, IsNoteBelow}
 use Rattle.netlist_schema.proofs.Cells.{cell_of_inst}
 use Rattle.netlist_schema.proofs.WithCell.{All-weaker}

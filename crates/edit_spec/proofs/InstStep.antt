@@ -1,5 +1,5 @@
 -- The operations on instances other than their removal keep a design valid.
-use Rattle.std.proofs.Common.{◌≡◌, ◌≢◌, ℕ, zero, suc, ◌<◌, ◌≤◌, Bool, true, false, arith, List, [], ◌∷◌, ◌++◌, length, Option, Some, None, refl, sym, ap, subst, ◌∙◌}
+use Rattle.std.proofs.Common.{◌≡◌, ◌≢◌, ℕ, zero, suc, ◌<◌, ◌≤◌, Bool, true, false, arith, List, [], ◌∷◌, length, Option, Some, None, refl, sym, ap, subst, ◌∙◌}
 use Rattle.std.specs.Prelude.{nat_le, nat_lt, ◌||◌, is_none}
 use Rattle.std.specs.List.{list_any}
 use Rattle.std.specs.Option.{option_map, option_map_or, option_and_then, option_to_list}
@@ -9,12 +9,12 @@ use Rattle.netlist_schema.specs.Hierarchy.{IsBelow}
 use Rattle.netlist_schema.specs.Ident.{IsIdentifier}
 use Rattle.netlist_schema.specs.Names.{cell_names}
 use Rattle.netlist_schema.specs.Typed.{IsTypedProperty}
-use Rattle.netlist_schema.specs.Types.{CellBody, CellId, Contents, Inst, LibId, Net, Property}
+use Rattle.netlist_schema.specs.Types.{CellBody, CellId, Contents, Inst, LibId, Property}
 use Rattle.netlist_schema.specs.Valid.{IsValid}
-use Rattle.edit_spec.specs.Edit.{Edit, inner, edited, edited_once, changed_at}
+use Rattle.edit_spec.specs.Edit.{inner, edited, edited_once, changed_at}
 use Rattle.edit_spec.specs.Find.{is_same, place_of, cell_named, cell_in, lib_named, inst_place}
 use Rattle.edit_spec.specs.Paths.{same_cell, is_below}
-use Rattle.edit_spec.specs.Rows.{Named, named, inside, row_of, first, refuse, no_lib, no_cell, is_leaf, taken_inst, is_later, is_cyclic, too_many, new_inst, with_inst, set_property, insts_with_property}
+use Rattle.edit_spec.specs.Rows.{Named, named, inside, row_of, first, refuse, no_lib, no_cell, is_leaf, taken_inst, is_later, is_cyclic, too_many, with_inst, set_property, insts_with_property}
 use Rattle.edit_spec.specs.Step.{step}
 use Rattle.edit_spec.specs.declared.ops.CellName.{CellName}
 use Rattle.edit_spec.specs.declared.ops.Op.TheVariants.{AddInst, SetProp}
@@ -79,19 +79,19 @@ added d cell of inst id body identifier valid is found contents allowed =
     let to : Named = named d of in
     let inner_of : Option Contents = inside d cell in
     let cyclic : Bool = is_cyclic d (cell_named d cell) (cell_named d of) in
-    let r9 : Option Reply = too_many (length (insts_in inner_of)) 1048576 in
-    let r8 : Option Reply = refuse cyclic IsCyclic in
-    let r7 : Option Reply = refuse (is_later at.lib to.lib) LaterLibrary in
-    let r6 : Option Reply = taken_inst inner_of inst in
-    let n1 = first_none (no_lib at) (no_cell at ∷ no_lib to ∷ no_cell to ∷ is_leaf inner_of ∷ r6 ∷ r7 ∷ r8 ∷ r9 ∷ []) allowed in
-    let n2 = first_none (no_cell at) (no_lib to ∷ no_cell to ∷ is_leaf inner_of ∷ r6 ∷ r7 ∷ r8 ∷ r9 ∷ []) n1.1 in
-    let n3 = first_none (no_lib to) (no_cell to ∷ is_leaf inner_of ∷ r6 ∷ r7 ∷ r8 ∷ r9 ∷ []) n2.1 in
-    let n4 = first_none (no_cell to) (is_leaf inner_of ∷ r6 ∷ r7 ∷ r8 ∷ r9 ∷ []) n3.1 in
-    let n5 = first_none (is_leaf inner_of) (r6 ∷ r7 ∷ r8 ∷ r9 ∷ []) n4.1 in
-    let n6 = first_none r6 (r7 ∷ r8 ∷ r9 ∷ []) n5.1 in
-    let n7 = first_none r7 (r8 ∷ r9 ∷ []) n6.1 in
-    let n8 = first_none r8 (r9 ∷ []) n7.1 in
-    let n9 = first_none r9 [] n8.1 in
+    let refusal9 : Option Reply = too_many (length (insts_in inner_of)) 1048576 in
+    let refusal8 : Option Reply = refuse cyclic IsCyclic in
+    let refusal7 : Option Reply = refuse (is_later at.lib to.lib) LaterLibrary in
+    let refusal6 : Option Reply = taken_inst inner_of inst in
+    let n1 = first_none (no_lib at) (no_cell at ∷ no_lib to ∷ no_cell to ∷ is_leaf inner_of ∷ refusal6 ∷ refusal7 ∷ refusal8 ∷ refusal9 ∷ []) allowed in
+    let n2 = first_none (no_cell at) (no_lib to ∷ no_cell to ∷ is_leaf inner_of ∷ refusal6 ∷ refusal7 ∷ refusal8 ∷ refusal9 ∷ []) n1.1 in
+    let n3 = first_none (no_lib to) (no_cell to ∷ is_leaf inner_of ∷ refusal6 ∷ refusal7 ∷ refusal8 ∷ refusal9 ∷ []) n2.1 in
+    let n4 = first_none (no_cell to) (is_leaf inner_of ∷ refusal6 ∷ refusal7 ∷ refusal8 ∷ refusal9 ∷ []) n3.1 in
+    let n5 = first_none (is_leaf inner_of) (refusal6 ∷ refusal7 ∷ refusal8 ∷ refusal9 ∷ []) n4.1 in
+    let n6 = first_none refusal6 (refusal7 ∷ refusal8 ∷ refusal9 ∷ []) n5.1 in
+    let n7 = first_none refusal7 (refusal8 ∷ refusal9 ∷ []) n6.1 in
+    let n8 = first_none refusal8 (refusal9 ∷ []) n7.1 in
+    let n9 = first_none refusal9 [] n8.1 in
     let target = some_there (cell_named d of) NoCell n4.0 in
     let c : CellId = target.0 in
     let target_body = cell_there d of c target.1 in

@@ -1,34 +1,29 @@
 -- Adding an instance, and setting a property of one, keep a design valid.
-use Rattle.std.proofs.Common.{◌≡◌, ◌≢◌, ◌⊎◌, inl, inr, ⊎_elim, ℕ, zero, suc, ◌+◌, ◌<◌, ◌≤◌, Bool, true, false, arith, List, [], ◌∷◌, ◌++◌, map, length, Option, Some, None, refl, sym, ap, subst, ◌∙◌, slice_get, slice_index_or, length-append}
-use Rattle.std.specs.Prelude.{IfSome, IsSomeAnd, IsTrue, flat_map, nat_le, nat_lt, ◌||◌, is_none}
+use Rattle.std.proofs.Common.{◌≡◌, ◌≢◌, ◌⊎◌, inl, inr, ⊎_elim, ℕ, zero, suc, ◌+◌, ◌<◌, ◌≤◌, true, false, arith, List, [], ◌∷◌, ◌++◌, map, length, Option, Some, None, refl, sym, ap, subst, ◌∙◌, slice_get, slice_index_or, length-append}
+use Rattle.std.specs.Prelude.{IsSomeAnd}
 use Rattle.std.specs.List.{All, Contains, list_any}
-use Rattle.std.specs.Option.{option_map, option_map_or, option_and_then, option_to_list}
-use Rattle.std.proofs.lemmas.Bool.{leb-false}
+use Rattle.std.specs.Option.{option_map_or}
 use Rattle.std.proofs.lemmas.List.{map-append}
 use Rattle.std.proofs.lemmas.List.Elements.{All-push}
 use Rattle.std.proofs.lemmas.List.Quantifiers.{all_pairs_push}
-use Rattle.netlist_schema.specs.Change.{shape_of, Shape}
-use Rattle.netlist_schema.specs.Design.{Design, cell_at, cells_in, insts_in, nets_in, insts_of, nets_of, ends_of}
+use Rattle.netlist_schema.specs.Change.{shape_of}
+use Rattle.netlist_schema.specs.Design.{Design, cell_at, insts_of, nets_of, ends_of}
 use Rattle.netlist_schema.specs.Hierarchy.{IsCell, HasInst, IsBelow, placed, deeper, NoCellIsBelowItself}
 use Rattle.netlist_schema.specs.Ident.{IsIdentifier}
 use Rattle.netlist_schema.specs.Names.{AreDistinct, HasDistinctKeys}
 use Rattle.netlist_schema.specs.Typed.{IsTypedCell, IsTypedInst, IsTypedProperty}
-use Rattle.netlist_schema.specs.Types.{CellBody, CellId, Contents, End, Inst, LibId, Note, Property, TopHead}
+use Rattle.netlist_schema.specs.Types.{CellBody, CellId, Contents, Inst, Property}
 use Rattle.netlist_schema.specs.Valid.{IsValid, IsValidCell, IsEndAt, IsEndOf, HasBit, IsNoteBelow}
 use Rattle.netlist_schema.proofs.Cells.{All-cell_at}
 use Rattle.netlist_schema.proofs.WithCell.{All-weaker, with_cell_is_valid}
-use Rattle.edit_spec.specs.Edit.{inner, noted, edited_once, with_contents, changed_at}
-use Rattle.edit_spec.specs.Find.{is_same, cell_named, lib_named, cell_in, inst_place}
-use Rattle.edit_spec.specs.Paths.{same_cell, is_below}
+use Rattle.edit_spec.specs.Edit.{inner, edited_once, with_contents, changed_at}
+use Rattle.edit_spec.specs.Find.{is_same}
 use Rattle.edit_spec.specs.Rows.{new_inst, set_property}
-use Rattle.edit_spec.specs.declared.ops.CellName.{CellName}
 use Rattle.edit_spec.proofs.Changes.{set_property_typed, set_property_distinct}
-use Rattle.edit_spec.proofs.Closed.{All-contained}
 use Rattle.edit_spec.proofs.Edits.{map-changed_at}
-use Rattle.edit_spec.proofs.InnerValid.{AreGoodContents, AreGoodNotes, good_notes_before, weaker_top, with_both, inner_valid, inst_after, inst_here, inst_elsewhere, below_with_more, resolves_with_more}
+use Rattle.edit_spec.proofs.InnerValid.{AreGoodContents, good_notes_before, weaker_top, with_both, inner_valid, inst_after, inst_here, inst_elsewhere, resolves_with_more}
 use Rattle.edit_spec.proofs.Joined.{All-changed_at, length-changed_at}
-use Rattle.edit_spec.proofs.Levels.{below_is_found}
-use Rattle.edit_spec.proofs.Reached.{Contains-head, Contains-tail}
+use Rattle.edit_spec.proofs.Reached.{Contains-tail}
 use Rattle.edit_spec.proofs.Valid.{neither, is_same-refl, with_changed_is}
 use Rattle.edit_spec.proofs.Edits.{cases_cell}
 

@@ -17,6 +17,7 @@ pub mod NotesValid
 pub mod Reached
 pub mod Same
 pub mod Shown
+pub mod ShownWhole
 pub mod StepValid
 pub mod Valid
 pub mod Values

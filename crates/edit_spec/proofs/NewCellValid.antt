@@ -1,23 +1,23 @@
 -- Adding a cell keeps a design valid.
-use Rattle.std.proofs.Common.{◌≡◌, ◌≢◌, ◌⊎◌, inl, inr, ⊎_elim, ℕ, zero, suc, ◌+◌, ◌<◌, ◌≤◌, Bool, true, false, arith, List, [], ◌∷◌, ◌++◌, map, length, Option, Some, None, refl, sym, ap, subst, ◌∙◌, length-append, slice_get}
-use Rattle.std.specs.Prelude.{IfSome, IsSomeAnd, nat_le, nat_lt, ◌||◌, is_none, sum_by, codes, flat_map}
-use Rattle.std.specs.List.{All, AllByRecursion, Contains, list_any}
+use Rattle.std.proofs.Common.{◌≡◌, ◌≢◌, ⊎_elim, ℕ, zero, suc, ◌+◌, ◌<◌, ◌≤◌, Bool, true, false, arith, List, [], ◌∷◌, ◌++◌, map, length, Option, Some, None, refl, sym, ap, subst, ◌∙◌, length-append, slice_get}
+use Rattle.std.specs.Prelude.{IsSomeAnd, nat_le, nat_lt, ◌||◌, is_none, sum_by, codes, flat_map}
+use Rattle.std.specs.List.{All, AllByRecursion, list_any}
 use Rattle.std.specs.Option.{option_map, option_map_or, option_to_list}
 use Rattle.std.proofs.lemmas.Bool.{leb-false, ltb-false}
 use Rattle.std.proofs.lemmas.List.{map-append, length-map}
 use Rattle.std.proofs.lemmas.List.Elements.{All-push, recursion_from_All, All-from_recursion}
-use Rattle.netlist_schema.specs.Design.{Design, cell_at, cells_in, lib_at, insts_of, nets_of, ends_of, port_width}
+use Rattle.netlist_schema.specs.Design.{Design, cell_at, lib_at, insts_of, nets_of, ends_of, port_width}
 use Rattle.netlist_schema.specs.Hierarchy.{IsCell, HasInst}
 use Rattle.netlist_schema.specs.Ident.{IsIdentifier, is_identifier_byte}
 use Rattle.netlist_schema.specs.Names.{AreDistinct, HasDistinctKeys, cell_names}
 use Rattle.netlist_schema.specs.Typed.{IsTypedCell, IsTypedInst, IsTypedName, IsTypedNet, IsTypedPort}
-use Rattle.netlist_schema.specs.Types.{CellBody, CellId, End, Inst, Lib, LibId, Net, Note, Port, TopHead}
+use Rattle.netlist_schema.specs.Types.{CellBody, CellId, End, Inst, Lib, LibId, Net, Port}
 use Rattle.netlist_schema.specs.Valid.{IsValid, IsValidCell, IsEndAt, IsEndOf, HasBit, IsNoteBelow}
 use Rattle.netlist_schema.proofs.Cells.{cell_of_inst}
 use Rattle.netlist_schema.proofs.WithCell.{All-weaker}
-use Rattle.edit_spec.specs.Edit.{Edit, fresh, edited, edited_once, changed_at, lib_with_more, with_more_cell}
+use Rattle.edit_spec.specs.Edit.{fresh, edited, edited_once, changed_at, lib_with_more, with_more_cell}
 use Rattle.edit_spec.specs.Find.{is_same, lib_named}
-use Rattle.edit_spec.specs.Rows.{row_of, first, refuse, too_many, names_in, new_port, new_cell, has_twice}
+use Rattle.edit_spec.specs.Rows.{refuse, too_many, names_in, new_port, new_cell, has_twice}
 use Rattle.edit_spec.specs.Step.{step}
 use Rattle.edit_spec.specs.Typed.{IsTypedPortDecl}
 use Rattle.edit_spec.specs.declared.ops.CellName.{CellName}
@@ -225,15 +225,15 @@ add_cell_step d cell leaf ports identifier typed valid =
     let names = names_in d lib in
     let taken : Bool = list_any (λ other. is_same other cell.cell) names in
     let twice : Bool = has_twice (map (λ (port : PortDecl). port.name) ports) in
-    let r2 : Option Reply = refuse (taken || twice) Taken in
-    let r3 : Option Reply = too_many (length names) 65536 in
-    let r4 : Option Reply = refuse (nat_lt 65536 (length ports)) (TooMany 65536) in
-    let r5 : Option Reply = refuse (nat_lt 1048576 (sum_by port_width (map new_port ports))) (TooMany 1048576) in
-    let n1 = first_none (refuse (is_none lib) NoLib) (r2 ∷ r3 ∷ r4 ∷ r5 ∷ []) allowed in
-    let n2 = first_none r2 (r3 ∷ r4 ∷ r5 ∷ []) n1.1 in
-    let n3 = first_none r3 (r4 ∷ r5 ∷ []) n2.1 in
-    let n4 = first_none r4 (r5 ∷ []) n3.1 in
-    let n5 = first_none r5 [] n4.1 in
+    let refusal2 : Option Reply = refuse (taken || twice) Taken in
+    let refusal3 : Option Reply = too_many (length names) 65536 in
+    let refusal4 : Option Reply = refuse (nat_lt 65536 (length ports)) (TooMany 65536) in
+    let refusal5 : Option Reply = refuse (nat_lt 1048576 (sum_by port_width (map new_port ports))) (TooMany 1048576) in
+    let n1 = first_none (refuse (is_none lib) NoLib) (refusal2 ∷ refusal3 ∷ refusal4 ∷ refusal5 ∷ []) allowed in
+    let n2 = first_none refusal2 (refusal3 ∷ refusal4 ∷ refusal5 ∷ []) n1.1 in
+    let n3 = first_none refusal3 (refusal4 ∷ refusal5 ∷ []) n2.1 in
+    let n4 = first_none refusal4 (refusal5 ∷ []) n3.1 in
+    let n5 = first_none refusal5 [] n4.1 in
     let both = neither taken twice (not_refused (taken || twice) Taken n2.0) in
     let room : length names < 65536 = leb-false 65536 (length names) (not_refused (nat_le 65536 (length names)) (TooMany 65536) n3.0) in
     let few : length ports ≤ 65536 = ltb-false 65536 (length ports) (not_refused (nat_lt 65536 (length ports)) (TooMany 65536) n4.0) in

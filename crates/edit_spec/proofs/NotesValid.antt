@@ -1,30 +1,30 @@
 -- Setting and dropping a note keep a design valid.
-use Rattle.std.proofs.Common.{◌≡◌, ◌≢◌, ℕ, zero, suc, ◌+◌, ◌<◌, ◌≤◌, Bool, true, false, cond, not, arith, List, [], ◌∷◌, ◌++◌, map, length, Option, Some, None, refl, sym, ap, subst, ◌∙◌, length-append, slice_get, slice_index_or}
-use Rattle.std.specs.Prelude.{IfSome, IfNone, slice_set, remove, nat_eq, nat_le, ◌==◌, ◌&&◌, ◌||◌, is_none}
-use Rattle.std.specs.List.{All, AllByRecursion, Contains, position_from}
+use Rattle.std.proofs.Common.{◌≡◌, ◌≢◌, ℕ, suc, ◌+◌, ◌<◌, ◌≤◌, Bool, true, false, not, arith, List, [], ◌∷◌, ◌++◌, map, length, Option, Some, None, refl, sym, ap, subst, ◌∙◌, length-append, slice_get}
+use Rattle.std.specs.Prelude.{slice_set, remove, nat_eq, nat_le, ◌==◌, ◌&&◌, is_none}
+use Rattle.std.specs.List.{All, AllByRecursion, position_from}
 use Rattle.std.specs.Option.{option_map_or}
 use Rattle.std.specs.Cmp.Lexicographic.{pointwise}
 use Rattle.std.proofs.lemmas.Bool.{leb-false}
 use Rattle.std.proofs.lemmas.List.{length-set}
 use Rattle.std.proofs.lemmas.List.Elements.{All-push, All-set}
 use Rattle.netlist_schema.specs.Design.{Design}
-use Rattle.netlist_schema.specs.Hierarchy.{HasInst, Resolves, insts_at}
+use Rattle.netlist_schema.specs.Hierarchy.{Resolves, insts_at}
 use Rattle.netlist_schema.specs.Ident.{IsIdentifier}
 use Rattle.netlist_schema.specs.Names.{AreDistinct, note_key}
 use Rattle.netlist_schema.specs.Typed.{IsTypedProperty, IsTypedNote}
 use Rattle.netlist_schema.specs.Types.{CellId, Inst, Note, Property, TopHead}
 use Rattle.netlist_schema.specs.Valid.{IsValid, IsNoteBelow}
-use Rattle.edit_spec.specs.Edit.{Edit, noted, edited, edited_once}
-use Rattle.edit_spec.specs.Find.{is_name, inst_named, inst_place, place_of}
+use Rattle.edit_spec.specs.Edit.{edited}
+use Rattle.edit_spec.specs.Find.{is_name, inst_named, inst_place}
 use Rattle.edit_spec.specs.Paths.{resolves}
-use Rattle.edit_spec.specs.Rows.{row_of, first, refuse, note_place, is_path, put_notes, notes_seen}
+use Rattle.edit_spec.specs.Rows.{refuse, note_place, is_path, put_notes, notes_seen}
 use Rattle.edit_spec.specs.Step.{step}
 use Rattle.edit_spec.specs.declared.ops.Op.TheVariants.{SetNote, DropNote}
 use Rattle.edit_spec.specs.declared.ops.Reply.{Reply}
 use Rattle.edit_spec.specs.declared.ops.Reply.TheVariants.{NoTop, NoPath, TooMany}
 use Rattle.edit_spec.proofs.Changes.{All-drop, length_drop, map_drop, apart_drop, apart_more, missing_key, found_key, same_name}
 use Rattle.edit_spec.proofs.InnerValid.{AreGoodNotes, good_notes_before, notes_valid}
-use Rattle.edit_spec.proofs.Joined.{Apart, apart_of, distinct_of}
+use Rattle.edit_spec.proofs.Joined.{apart_of, distinct_of}
 use Rattle.edit_spec.proofs.Levels.{both_true}
 use Rattle.edit_spec.proofs.Shown.{named_inst}
 use Rattle.edit_spec.proofs.StepValid.{row_valid}
@@ -173,11 +173,11 @@ put_valid d (Some t) path property is ids typed valid leading free =
 pub set_note_step : (d : Design) (path : List (List ℕ)) (property : Property) → All IsIdentifier path → IsTypedProperty property → IsValid d → IsValid (step d (SetNote path property)).design
 set_note_step d path property ids typed valid =
     row_valid d (SetNote path property) valid (λ allowed.
-    let r2 : Option Reply = refuse (not (is_path d d.top path)) NoPath in
-    let r3 : Option Reply = refuse (is_none (note_place path property.key.id (notes_seen d.top d.notes)) && nat_le 1048576 (length (notes_seen d.top d.notes))) (TooMany 1048576) in
-    let n1 = first_none (refuse (is_none d.top) NoTop) (r2 ∷ r3 ∷ []) allowed in
-    let n2 = first_none r2 (r3 ∷ []) n1.1 in
-    put_valid d d.top path property refl ids typed valid n2.0 (first_none r3 [] n2.1).0)
+    let refusal2 : Option Reply = refuse (not (is_path d d.top path)) NoPath in
+    let refusal3 : Option Reply = refuse (is_none (note_place path property.key.id (notes_seen d.top d.notes)) && nat_le 1048576 (length (notes_seen d.top d.notes))) (TooMany 1048576) in
+    let n1 = first_none (refuse (is_none d.top) NoTop) (refusal2 ∷ refusal3 ∷ []) allowed in
+    let n2 = first_none refusal2 (refusal3 ∷ []) n1.1 in
+    put_valid d d.top path property refl ids typed valid n2.0 (first_none refusal3 [] n2.1).0)
 
 -- a note is dropped
 drop_valid : (d : Design) (top : Option TopHead) (place : Option ℕ) → d.top ≡ top → IsValid d → IsValid (edited d (put_notes top (option_map_or (remove (notes_seen top d.notes)) place (notes_seen top d.notes))))

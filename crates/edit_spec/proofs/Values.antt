@@ -1,19 +1,17 @@
 -- Agreement on an object is that its value is one; tests of paths; what is shown is whole.
-use Rattle.std.proofs.Common.{◌≡◌, ◌↔◌, ◌++◌, ℕ, ◌+◌, Bool, true, false, arith, List, [], ◌∷◌, length, Option, Some, None, refl, sym, ap, subst, ◌∙◌, slice_get, length-append}
-use Rattle.std.specs.Prelude.{IsTrue, IsSome, IsSomeAnd}
+use Rattle.std.proofs.Common.{◌≡◌, ◌↔◌, ℕ, true, false, List, [], ◌∷◌, Option, Some, None, refl, ap, ◌∙◌}
+use Rattle.std.specs.Prelude.{IsTrue}
 use Rattle.std.specs.List.{All, AllByRecursion}
-use Rattle.std.specs.Option.{option_map, option_map_or, option_and_then, option_to_list}
-use Rattle.std.proofs.lemmas.List.Elements.{recursion_from_All, All-from_recursion}
-use Rattle.netlist_schema.specs.Design.{Design, cell_at, lib_at, insts_of, insts_in}
-use Rattle.netlist_schema.specs.Hierarchy.{HasInst, Resolves, insts_at}
+use Rattle.std.specs.Option.{option_map, option_map_or}
+use Rattle.std.proofs.lemmas.List.Elements.{recursion_from_All}
+use Rattle.netlist_schema.specs.Design.{Design, cell_at, lib_at}
+use Rattle.netlist_schema.specs.Hierarchy.{Resolves}
 use Rattle.netlist_schema.specs.Names.{cell_names}
-use Rattle.netlist_schema.specs.Types.{CellBody, CellId, Contents, End, Inst, Lib, Note, Object, Port}
-use Rattle.netlist_schema.specs.Valid.{IsValid, IsEndAt, IsEndOf, HasBit}
+use Rattle.netlist_schema.specs.Types.{CellBody, CellId, Inst, Lib, Note, Object}
+use Rattle.netlist_schema.specs.Valid.{IsValid}
 use Rattle.netlist_schema.specs.declared.ids.Object.TheVariants.{Directory, Cell, Notes}
-use Rattle.edit_spec.specs.Find.{inst_named}
-use Rattle.edit_spec.specs.Objects.{Agrees, Grown, ObjectValue, of_directory, of_cell, of_notes, value_of}
+use Rattle.edit_spec.specs.Objects.{Agrees, Grown, of_directory, of_cell, of_notes, value_of}
 use Rattle.edit_spec.specs.Paths.{resolves}
-use Rattle.edit_spec.specs.Rows.{ports_at, ports_seen, face_at, face_of, ends_by_name, end_by_name, inst_of_end}
 use Rattle.edit_spec.specs.Step.{step, run}
 use Rattle.edit_spec.specs.Typed.{IsTypedOp}
 use Rattle.edit_spec.specs.declared.ops.Op.{Op}

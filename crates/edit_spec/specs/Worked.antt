@@ -1,13 +1,12 @@
 -- A worked example: a small design, operations on it, and their replies.
-use Rattle.std.specs.Prelude.{ℕ, Bool, true, false, pos, List, [], ◌∷◌, Option, Some, None, codes}
+use Rattle.std.specs.Prelude.{ℕ, true, false, pos, List, [], ◌∷◌, Option, Some, None, codes}
 use Rattle.netlist_schema.specs.Design.{Design}
-use Rattle.netlist_schema.specs.Types.{CellBody, CellId, Contents, Direction, End, Inst, Lib, LibHead, LibId, Name, Net, Note, Port, Property, TopHead, Value}
+use Rattle.netlist_schema.specs.Types.{CellBody, CellId, Contents, End, Inst, Name, Net, Port, Property, Value}
 use Rattle.netlist_schema.specs.declared.cell.CellKind.TheVariants.{Generic}
 use Rattle.netlist_schema.specs.declared.cell.Direction.TheVariants.{Input, Output, Inout}
 use Rattle.netlist_schema.specs.declared.property.Value.TheVariants.{Boolean, Integer}
 use Rattle.edit_spec.specs.declared.ops.CellName.{CellName}
 use Rattle.edit_spec.specs.declared.ops.EndName.{EndName}
-use Rattle.edit_spec.specs.declared.ops.PortDecl.{PortDecl}
 use Rattle.edit_spec.specs.declared.ops.Op.{Op}
 use Rattle.edit_spec.specs.declared.ops.Op.TheVariants.{ShowCell, ShowNet, ShowInst, AddCell, AddNet, DropNet, AddInst, DropInst, Join, Cut, SetProp, SetNote, DropNote}
 use Rattle.edit_spec.specs.declared.ops.Reply.{Reply}

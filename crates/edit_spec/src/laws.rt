@@ -1,17 +1,19 @@
 //! Laws of the operations.
-ghost use Rattle.std.specs.Prelude.{◌≡◌, ◌↔◌, IsTrue, List, ℕ, map};
+ghost use Rattle.std.specs.Prelude.{◌≡◌, ◌↔◌, IsSome, IsTrue, List, Some, ℕ, length, map};
 ghost use Rattle.std.specs.List.{All};
 ghost use Rattle.netlist_schema.specs.Design.{Design};
 ghost use Rattle.netlist_schema.specs.Hierarchy.{IsBelow, Resolves};
-ghost use Rattle.netlist_schema.specs.Types.{CellId, Object};
+ghost use Rattle.netlist_schema.specs.Types.{CellId, Inst, Object};
 ghost use Rattle.netlist_schema.specs.Valid.{IsValid};
 ghost use Rattle.edit_spec.specs.Frame.{ChangesNothing, IsFramed, IsReplayed};
 ghost use Rattle.edit_spec.specs.Needs.{Needs, Reads};
-ghost use Rattle.edit_spec.specs.Objects.{Agrees, AgreesOn, Grown, IsClosed, value_of};
+ghost use Rattle.edit_spec.specs.Objects.{Agrees, AgreesOn, Grown, IsClosed, cell_name_at, value_of};
 ghost use Rattle.edit_spec.specs.Paths.{is_below, resolves};
+ghost use Rattle.edit_spec.specs.Rows.{ends_of_net, inside, net_shown, placed};
 ghost use Rattle.edit_spec.specs.Step.{step, run, IsRefusal};
 ghost use Rattle.edit_spec.specs.Typed.{IsTypedOp};
 ghost use Rattle.edit_spec.specs.Worked.{worked_design, worked_replies};
+ghost use Rattle.edit_spec.specs.declared.ops.CellName.{CellName};
 ghost use Rattle.edit_spec.specs.declared.ops.Op.{Op};
 
 /// Two designs agree on an object exactly where it has one value in both, or is absent in both.
@@ -72,6 +74,16 @@ pub fn below_test()
 /// An operation keeps a valid design valid.
 pub fn step_is_valid()
     ensures { (d : Design) (op : Op) → IsTypedOp op → IsValid d → IsValid (step d op).design }
+{}
+
+/// In a valid design a net is shown with all its ends.
+pub fn net_is_shown_whole()
+    ensures { (d : Design) (cell : CellName) (net : List ℕ) → IsValid d → length (net_shown d cell net) ≡ length (ends_of_net (inside d cell) net) }
+{}
+
+/// In a valid design an instance that is found is shown: its cell has a name.
+pub fn inst_is_shown()
+    ensures { (d : Design) (cell : CellName) (name : List ℕ) (inst : Inst) → IsValid d → placed d cell name ≡ Some inst → IsSome (cell_name_at d inst.of) }
 {}
 
 /// The operations of the worked example, one after the other, reply as it says.
