@@ -18,25 +18,25 @@ use Rattle.edit_spec.proofs.Joined.{Apart, apart_of, distinct_of, each_append, e
 use Rattle.edit_spec.proofs.Valid.{AreGoodNets, is_name-refl}
 
 -- dropping one of a list
-each_drop : {X : Type 0} (P : X → Type 0) (i : ℕ) (xs : List X) → AllByRecursion P xs → AllByRecursion P (remove xs i)
+pub each_drop : {X : Type 0} (P : X → Type 0) (i : ℕ) (xs : List X) → AllByRecursion P xs → AllByRecursion P (remove xs i)
 each_drop P zero [] all = tt
 each_drop P (suc i) [] all = tt
 each_drop P zero (x ∷ xs) all = all.1
 each_drop P (suc i) (x ∷ xs) all = (all.0, each_drop P i xs all.1)
 
-apart_drop : {X : Type 0} (i : ℕ) (xs : List X) → Apart xs → Apart (remove xs i)
+pub apart_drop : {X : Type 0} (i : ℕ) (xs : List X) → Apart xs → Apart (remove xs i)
 apart_drop zero [] apart = tt
 apart_drop (suc i) [] apart = tt
 apart_drop zero (x ∷ xs) apart = apart.1
 apart_drop (suc i) (x ∷ xs) apart = (each_drop (λ y. x ≢ y) i xs apart.0, apart_drop i xs apart.1)
 
-map_drop : {X Y : Type 0} (f : X → Y) (i : ℕ) (xs : List X) → map f (remove xs i) ≡ remove (map f xs) i
+pub map_drop : {X Y : Type 0} (f : X → Y) (i : ℕ) (xs : List X) → map f (remove xs i) ≡ remove (map f xs) i
 map_drop f zero [] = refl
 map_drop f (suc i) [] = refl
 map_drop f zero (x ∷ xs) = refl
 map_drop f (suc i) (x ∷ xs) = ap (λ ys. f x ∷ ys) (map_drop f i xs)
 
-length_drop : {X : Type 0} (i : ℕ) (xs : List X) → length (remove xs i) ≤ length xs
+pub length_drop : {X : Type 0} (i : ℕ) (xs : List X) → length (remove xs i) ≤ length xs
 length_drop zero [] = omega arith
 length_drop (suc i) [] = omega arith
 length_drop zero (x ∷ xs) = omega arith
@@ -49,12 +49,12 @@ each_ends_drop P zero (net ∷ nets) all = each_right P net.ends (ends_of_nets n
 each_ends_drop P (suc i) (net ∷ nets) all =
     each_append P net.ends (ends_of_nets (remove nets i)) (each_left P net.ends (ends_of_nets nets) all) (each_ends_drop P i nets (each_right P net.ends (ends_of_nets nets) all))
 
-apart_right : {X : Type 0} (xs ys : List X) → Apart (xs ++ ys) → Apart ys
+pub apart_right : {X : Type 0} (xs ys : List X) → Apart (xs ++ ys) → Apart ys
 apart_right [] ys apart = apart
 apart_right (x ∷ xs) ys apart = apart_right xs ys apart.1
 
 -- the same beginning, and an end of which all that is said holds
-apart_rest : {X : Type 0} (xs ys zs : List X) → Apart (xs ++ ys) → Apart zs → ((x : X) → AllByRecursion (λ y. x ≢ y) ys → AllByRecursion (λ y. x ≢ y) zs) → Apart (xs ++ zs)
+pub apart_rest : {X : Type 0} (xs ys zs : List X) → Apart (xs ++ ys) → Apart zs → ((x : X) → AllByRecursion (λ y. x ≢ y) ys → AllByRecursion (λ y. x ≢ y) zs) → Apart (xs ++ zs)
 apart_rest [] ys zs apart rest less = rest
 apart_rest (x ∷ xs) ys zs apart rest less =
     (each_append (λ y. x ≢ y) xs zs (each_left (λ y. x ≢ y) xs ys apart.0) (less x (each_right (λ y. x ≢ y) xs ys apart.0)), apart_rest xs ys zs apart.1 rest less)
@@ -95,7 +95,7 @@ drop_good d body place good =
     }
 
 -- leaving out some ends
-each_filter : {X : Type 0} (P : X → Type 0) (keep : X → Bool) (xs : List X) → AllByRecursion P xs → AllByRecursion P (filter keep xs)
+pub each_filter : {X : Type 0} (P : X → Type 0) (keep : X → Bool) (xs : List X) → AllByRecursion P xs → AllByRecursion P (filter keep xs)
 each_filter P keep [] all = tt
 each_filter {X} P keep (x ∷ xs) all = kept (keep x) x (filter keep xs) all.0 (each_filter P keep xs all.1)
   where
@@ -103,7 +103,7 @@ each_filter {X} P keep (x ∷ xs) all = kept (keep x) x (filter keep xs) all.0 (
     kept true x rest here all = (here, all)
     kept false x rest here all = all
 
-apart_filter : {X : Type 0} (keep : X → Bool) (xs : List X) → Apart xs → Apart (filter keep xs)
+pub apart_filter : {X : Type 0} (keep : X → Bool) (xs : List X) → Apart xs → Apart (filter keep xs)
 apart_filter keep [] apart = tt
 apart_filter {X} keep (x ∷ xs) apart = kept (keep x) x (filter keep xs) (each_filter (λ y. x ≢ y) keep xs apart.0) (apart_filter keep xs apart.1)
   where
@@ -119,7 +119,7 @@ filter_both {X} keep (x ∷ xs) ys = kept (keep x) x (filter keep (xs ++ ys)) (f
     kept true x all left right same = ap (λ zs. x ∷ zs) same
     kept false x all left right same = same
 
-length_filter : {X : Type 0} (keep : X → Bool) (xs : List X) → length (filter keep xs) ≤ length xs
+pub length_filter : {X : Type 0} (keep : X → Bool) (xs : List X) → length (filter keep xs) ≤ length xs
 length_filter keep [] = omega arith
 length_filter {X} keep (x ∷ xs) = kept (keep x) (filter keep xs) (length_filter keep xs)
   where
@@ -162,15 +162,15 @@ cut_good d body end good =
     }
 
 -- setting a property
-found_key : (b : Bool) (i k : ℕ) (rest : Option ℕ) (P : Type 0) → (b ≡ true → i ≡ k → P) → (rest ≡ Some k → P) → cond b (Some i) rest ≡ Some k → P
+pub found_key : (b : Bool) (i k : ℕ) (rest : Option ℕ) (P : Type 0) → (b ≡ true → i ≡ k → P) → (rest ≡ Some k → P) → cond b (Some i) rest ≡ Some k → P
 found_key true i k rest P here later is = here refl (cc)
 found_key false i k rest P here later is = later is
 
-missing_key : (b : Bool) (i : ℕ) (rest : Option ℕ) → cond b (Some i) rest ≡ None → (b ≡ false) × (rest ≡ None)
+pub missing_key : (b : Bool) (i : ℕ) (rest : Option ℕ) → cond b (Some i) rest ≡ None → (b ≡ false) × (rest ≡ None)
 missing_key true i rest is = cc
 missing_key false i rest is = (refl, is)
 
-same_name : (a b : List ℕ) → is_name a b ≡ true → a ≡ b
+pub same_name : (a b : List ℕ) → is_name a b ≡ true → a ≡ b
 same_name a b is = (bytes_decides a b).0 is
 
 abbrev keys : List Property → List (List ℕ)
@@ -196,7 +196,7 @@ keys_more : (property : Property) (properties : List Property) → keys (propert
 keys_more property [] = refl
 keys_more property (q ∷ qs) = ap (λ (ks : List (List ℕ)). q.key.id ∷ ks) (keys_more property qs)
 
-apart_more : {X : Type 0} (xs : List X) (x : X) → AllByRecursion (λ y. y ≢ x) xs → Apart xs → Apart (xs ++ x ∷ [])
+pub apart_more : {X : Type 0} (xs : List X) (x : X) → AllByRecursion (λ y. y ≢ x) xs → Apart xs → Apart (xs ++ x ∷ [])
 apart_more [] x new apart = (tt, tt)
 apart_more (y ∷ ys) x new apart = (each_append (λ z. y ≢ z) ys (x ∷ []) apart.0 (new.0, tt), apart_more ys x new.1 apart.1)
 

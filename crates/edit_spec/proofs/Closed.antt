@@ -1,18 +1,18 @@
 -- Operations keep that each instance is of a cell of the design.
 use Rattle.std.proofs.Common.{◌≡◌, ◌≢◌, ◌⊎◌, inl, inr, ⊎_elim, ℕ, zero, suc, ◌++◌, Bool, true, false, cond, remove, arith, List, [], ◌∷◌, Option, Some, None, refl, sym, ap, subst, ◌∙◌, slice_get}
 use Rattle.std.proofs.lemmas.Bool.{cases_eq}
-use Rattle.std.specs.Prelude.{IsSome, IfSome, ◌==◌, length}
+use Rattle.std.specs.Prelude.{IsSome, ◌==◌, length}
 use Rattle.std.specs.List.{All, AllByRecursion, Contains}
 use Rattle.std.specs.Option.{option_map, option_map_or, option_and_then, option_to_list}
 use Rattle.std.proofs.lemmas.List.Elements.{recursion_from_All, All-from_recursion}
-use Rattle.netlist_schema.specs.Design.{Design, lib_at, cell_at, cells_in, insts_in, nets_in, insts_of}
+use Rattle.netlist_schema.specs.Design.{Design, lib_at, cell_at, insts_in, nets_in, insts_of}
 use Rattle.netlist_schema.specs.Hierarchy.{HasInst, IsCell, insts_at}
 use Rattle.netlist_schema.specs.Types.{CellBody, CellId, Contents, Inst, Lib, LibId, Note, Property, TopHead}
 use Rattle.netlist_schema.specs.Valid.{IsValid}
 use Rattle.netlist_schema.proofs.Cells.{cell_of_inst}
 use Rattle.edit_spec.specs.Edit.{Edit, fresh, inner, own, noted, edited, edited_once, with_more_cell, lib_with_more, with_contents, with_properties, changed_at}
 use Rattle.edit_spec.specs.Find.{cell_named, lib_named, inst_place}
-use Rattle.edit_spec.specs.Objects.{IsClosed, Outside, outside_of, outside_at}
+use Rattle.edit_spec.specs.Objects.{IsClosed, outside_of}
 use Rattle.edit_spec.specs.Rows.{inside, contents_at, named, row_of, outcome, unless, first, names_in, new_cell, new_inst, with_inst, without_inst, insts_with_property, set_property, set_notes, put_notes, seen_if, other_notes, with_net, without_net, with_end, without_end, nets_with_property, end_named, end_ports}
 use Rattle.edit_spec.specs.Step.{step}
 use Rattle.edit_spec.specs.declared.ops.Op.{Op}
@@ -23,7 +23,6 @@ use Rattle.edit_spec.specs.declared.ops.Target.TheVariants.{Whole, Inst as OfIns
 use Rattle.edit_spec.proofs.Changes.{All-drop}
 use Rattle.edit_spec.proofs.Edits.{cells_of, more_same, more_other, once_alike, cases_cell, cell_at-changed_same, cell_at-changed_other}
 use Rattle.edit_spec.proofs.Joined.{All-changed_at, each_append}
-use Rattle.edit_spec.proofs.Reached.{Contains-head, Contains-tail}
 use Rattle.edit_spec.proofs.Shown.{insts_found}
 use Rattle.edit_spec.proofs.StepValid.{cell_there}
 

@@ -11,8 +11,8 @@ use Rattle.edit_spec.specs.Edit.{Edit, fresh, with_more_cell, edited_once, inner
 use Rattle.edit_spec.specs.Find.{cell_named, lib_named}
 use Rattle.edit_spec.specs.Frame.{AreSameObjects, IsFramed, IsReplayed}
 use Rattle.edit_spec.specs.Needs.{IsFor, IsForName, IsForEnd, IsAtEnd, IsForLib, IsForBelow, IsForNotes, IsForPath, IsNotesBelow, Needs, IsChangedBy, IsChanged, Writes, Reads, Written}
-use Rattle.edit_spec.specs.Objects.{Agrees, AgreesOn, Grown, IsClosed, cell_name_at}
-use Rattle.edit_spec.specs.Rows.{Named, named, inside, end_ports, end_named, Row, row_of, Outcome, outcome, ruled, unless, with_net, without_net, with_end, without_end, set_property, insts_with_property, nets_with_property, show_cell, add_net, drop_net, join, cut, set_prop_whole, set_prop_inst, set_prop_net, first, set_nets, set_insts, set_own, add_cell, new_cell, names_in, add_inst, drop_inst, set_note, drop_note, is_cyclic, with_inst, without_inst, seen_if, other_notes, show_net, show_inst, placed, net_shown, ends_of_net, set_notes, put_notes, notes_seen, is_path}
+use Rattle.edit_spec.specs.Objects.{Agrees, AgreesOn, Grown, IsClosed}
+use Rattle.edit_spec.specs.Rows.{Named, named, inside, end_ports, end_named, Row, row_of, Outcome, outcome, ruled, unless, with_net, without_net, with_end, without_end, set_property, insts_with_property, nets_with_property, show_cell, add_net, drop_net, join, cut, set_prop_whole, set_prop_inst, set_prop_net, first, set_nets, set_insts, set_own, add_cell, new_cell, names_in, add_inst, drop_inst, set_note, drop_note, is_cyclic, with_inst, without_inst, seen_if, other_notes, show_net, show_inst, ends_of_net, set_notes, put_notes, notes_seen, is_path}
 use Rattle.edit_spec.specs.Step.{step, run}
 use Rattle.edit_spec.specs.declared.ops.CellName.{CellName}
 use Rattle.edit_spec.specs.declared.ops.EndName.{EndName}

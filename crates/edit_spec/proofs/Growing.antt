@@ -1,15 +1,15 @@
 -- The design after an operation is grown, and a refused operation changes nothing.
-use Rattle.std.proofs.Common.{◌≡◌, ◌≢◌, ◌⊎◌, inl, inr, ⊎_elim, ℕ, ◌++◌, List, [], ◌∷◌, map, Option, Some, None, refl, sym, ap, subst, ◌∙◌, append-nil, append_assoc}
+use Rattle.std.proofs.Common.{◌≡◌, ◌≢◌, ⊎_elim, ◌++◌, List, [], ◌∷◌, Option, Some, None, refl, sym, ap, subst, ◌∙◌, append-nil, append_assoc}
 use Rattle.std.proofs.lemmas.Bool.{cases_eq}
 use Rattle.std.proofs.lemmas.List.{map-append}
 use Rattle.std.specs.Option.{option_map}
 use Rattle.netlist_schema.specs.Design.{Design, lib_at, cell_at, cells_in}
 use Rattle.netlist_schema.specs.Names.{cell_names}
-use Rattle.netlist_schema.specs.Types.{CellBody, CellId, Lib, LibId, Object}
+use Rattle.netlist_schema.specs.Types.{CellBody, Lib, LibId}
 use Rattle.edit_spec.specs.Edit.{Edit, fresh, inner, own, noted, edited, edited_once, with_more_cell, lib_with_more}
 use Rattle.edit_spec.specs.Frame.{ChangesNothing}
 use Rattle.edit_spec.specs.Needs.{IsChanged}
-use Rattle.edit_spec.specs.Objects.{Grown, IsPrefix, Outside, outside_of, outside_at}
+use Rattle.edit_spec.specs.Objects.{Grown, IsPrefix, Outside, outside_of}
 use Rattle.edit_spec.specs.Rows.{row_of, outcome, unless, first}
 use Rattle.edit_spec.specs.Step.{step, IsRefusal}
 use Rattle.edit_spec.specs.declared.ops.Op.{Op}

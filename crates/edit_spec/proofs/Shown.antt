@@ -6,7 +6,7 @@ use Rattle.std.specs.Option.{option_map, option_map_or, option_and_then, option_
 use Rattle.std.proofs.lemmas.Option.{slice_get_within, get_or_from_slice_get}
 use Rattle.netlist_schema.specs.Design.{Design, cell_at, insts_in, insts_of}
 use Rattle.netlist_schema.specs.Hierarchy.{HasInst, IsCell}
-use Rattle.netlist_schema.specs.Types.{CellBody, CellId, Contents, End, Inst, LibHead, Object, Port}
+use Rattle.netlist_schema.specs.Types.{CellBody, CellId, Contents, End, Inst, LibHead, Port}
 use Rattle.edit_spec.specs.Find.{cell_named, inst_named, inst_place}
 use Rattle.edit_spec.specs.Needs.{IsForName, IsCellOf, IsAtEnd}
 use Rattle.edit_spec.specs.Objects.{AgreesOn, Grown, IsClosed, Outside, outside_of, outside_at, head_at, name_of, cell_name_at}

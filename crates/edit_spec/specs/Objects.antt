@@ -1,11 +1,22 @@
 -- The objects of a design, and designs that agree on them.
-use Rattle.std.specs.Prelude.{◌≡◌, ◌++◌, List, Option, Some, map, option_map, option_and_then, slice_get}
+use Rattle.std.specs.Prelude.{◌≡◌, ◌++◌, ℕ, List, Option, Some, map, option_map, option_and_then, slice_get}
 use Rattle.netlist_schema.specs.Design.{Design, lib_at, cell_at, cells_in}
 use Rattle.netlist_schema.specs.Hierarchy.{HasInst, IsCell}
 use Rattle.netlist_schema.specs.Names.{cell_names}
-use Rattle.netlist_schema.specs.Types.{CellBody, CellId, CellKind, Inst, LibHead, LibId, Name, Object, Port}
+use Rattle.netlist_schema.specs.Types.{CellBody, CellId, CellKind, Inst, LibHead, LibId, Name, Note, Object, Port}
 use Rattle.netlist_schema.specs.declared.ids.Object.TheVariants.{Directory, Cell, Notes}
 use Rattle.edit_spec.specs.declared.ops.CellName.{CellName}
+
+-- what an object is in a design: the identifiers of a library's cells, a cell, or the notes; none where it is absent
+pub data ObjectValue : Type 0 where
+  of_directory : List (List ℕ) → ObjectValue
+  of_cell : CellBody → ObjectValue
+  of_notes : List Note → ObjectValue
+
+abbrev pub value_of : Design → Object → Option ObjectValue
+value_of d (Directory lib) = option_map (λ l. of_directory (cell_names l.cells)) (lib_at d lib)
+value_of d (Cell id) = option_map of_cell (cell_at d id)
+value_of d Notes = Some (of_notes d.notes)
 
 -- the object has one value in both, or is absent in both
 abbrev pub Agrees : Design → Design → Object → Type 0
