@@ -12,6 +12,7 @@ is_written own written i = not (nat_eq i.of.lib.0 own) || list_any (nat_eq i.of.
 abbrev pub is_ready : ℕ → List ℕ → ℕ → design.CellBody → Bool
 is_ready own written slot c = not (list_any (nat_eq slot) written) && list_all (is_written own written) (design.insts_of c)
 
+-- the first cell that is ready, from a place on
 abbrev pub first_ready : ℕ → List ℕ → ℕ → List design.CellBody → Option ℕ
 first_ready own written slot [] = None
 first_ready own written slot (c ∷ cs) = if is_ready own written slot c then Some slot else first_ready own written (suc slot) cs
@@ -21,26 +22,33 @@ abbrev pub order_from : ℕ → List design.CellBody → ℕ → List ℕ → Li
 order_from own cells zero written = []
 order_from own cells (suc n) written = unwrap_or (option_map (λ slot. slot ∷ order_from own cells n (written ++ slot ∷ [])) (first_ready own written 0 cells)) []
 
+-- the order in which the cells of a library are written
 abbrev pub order_of : ℕ → List design.CellBody → List ℕ
 order_of own cells = order_from own cells (length cells) []
 
+-- the order of each library, from a library on
 abbrev pub orders_from : ℕ → List design.Lib → List (List ℕ)
 orders_from own [] = []
 orders_from own (l ∷ ls) = order_of own l.cells ∷ orders_from (suc own) ls
 
+-- where a cell stands in an order
 abbrev pub place_in : ℕ → List ℕ → ℕ
 place_in s [] = 0
 place_in s (k ∷ ks) = if nat_eq s k then 0 else suc (place_in s ks)
 
+-- a cell by its place in the order of its library
 abbrev pub new_id : List (List ℕ) → design.CellId → design.CellId
 new_id orders id = record { lib = id.lib; slot = unwrap_or (option_map (place_in id.slot) (slice_get orders id.lib.0)) id.slot }
 
+-- an instance, with its cell by that place
 abbrev pub new_inst : List (List ℕ) → design.Inst → design.Inst
 new_inst orders i = record { name = i.name; of = new_id orders i.of; designator = i.designator; properties = i.properties }
 
+-- contents, with each instance so
 abbrev pub new_contents : List (List ℕ) → design.Contents → design.Contents
 new_contents orders c = record { insts = map (new_inst orders) c.insts; nets = c.nets }
 
+-- a cell, with its contents so
 abbrev pub new_cell : List (List ℕ) → design.CellBody → design.CellBody
 new_cell orders c = record {
   name = c.name;
@@ -53,16 +61,20 @@ new_cell orders c = record {
   contents = option_map (new_contents orders) c.contents;
 }
 
+-- the top, with its cell so
 abbrev pub new_top : List (List ℕ) → design.TopHead → design.TopHead
 new_top orders t = record { name = t.name; cell = new_id orders t.cell; properties = t.properties }
 
+-- the cells of a library in an order
 abbrev pub new_cells : List (List ℕ) → List design.CellBody → List ℕ → List design.CellBody
 new_cells orders cells order = filter_map (λ slot. option_map (new_cell orders) (slice_get cells slot)) order
 
+-- the libraries from one on, each with its cells in order
 abbrev pub new_libs : List (List ℕ) → ℕ → List design.Lib → List design.Lib
 new_libs orders own [] = []
 new_libs orders own (l ∷ ls) = record { head = l.head; cells = new_cells orders l.cells (order_of own l.cells) } ∷ new_libs orders (suc own) ls
 
+-- the design with the cells of each library in the order in which they are written
 abbrev pub arranged : design.Design → design.Design
 arranged d = let orders = orders_from 0 d.libs in
     record { title = d.title; libs = new_libs orders 0 d.libs; top = option_map (new_top orders) d.top; notes = d.notes }

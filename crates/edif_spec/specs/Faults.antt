@@ -34,6 +34,7 @@ abbrev pub arguments : Placed → List Placed
 arguments (Form' p (More t ts)) = items ts
 arguments _ = []
 
+-- how many fixed arguments a row has
 abbrev pub fixed_count : Row → ℕ
 fixed_count Skips = 0
 fixed_count (Takes choices fs) = length choices
@@ -93,6 +94,7 @@ second keywords.View a b = Clash SecondView (place_of b) (place_of a)
 second keywords.Design a b = Clash SecondDesign (place_of b) (place_of a)
 second _ a b = At BadForm (place_of b)
 
+-- a second form of one that the row allows once
 abbrev pub SecondFault : List Follower → List Placed → MeaningFault → Type 0
 SecondFault [] ts f = ⊥
 SecondFault (Many k ∷ fs) ts f = SecondFault fs ts f
@@ -150,6 +152,7 @@ width_with _ _ = 1
 abbrev pub width_of : Placed → ℕ
 width_of t = width_with (has_keyword keywords.Array (bare t)) (slice_get (arguments t) 1)
 
+-- the same of a first argument, 1 where there is none
 abbrev pub first_width : Option Placed → ℕ
 first_width None = 1
 first_width (Some u) = width_of u

@@ -64,6 +64,7 @@ all_keywords = Edif ∷ EdifVersion ∷ EdifLevel ∷ KeywordMap ∷ KeywordLeve
     ∷ Member ∷ InstanceRef ∷ LibraryRef ∷ ViewRef ∷ CellRef ∷ Property ∷ Boolean ∷ keywords.Integer ∷ Number ∷ keywords.String
     ∷ Design ∷ Rename ∷ Status ∷ Comment ∷ UserData ∷ True ∷ False ∷ E ∷ Path ∷ []
 
+-- the first of these keywords that a name spells
 abbrev pub first_spelled : List ℕ → List Keyword → Option Keyword
 first_spelled name [] = None
 first_spelled name (k ∷ ks) = if same name (spelling_of k) then Some k else first_spelled name ks
@@ -89,21 +90,27 @@ pub data Row : Type 0 where
   Takes : (fixed : List (List Choice)) (followers : List Follower) → Row
   Skips : Row
 
+-- a name as it is defined: an identifier, or a rename
 abbrev pub name_definition : List Choice
 name_definition = AnIdentifier ∷ AForm Rename ∷ []
 
+-- a form with this keyword and nothing else
 abbrev pub the : Keyword → List Choice
 the k = AForm k ∷ []
 
+-- an identifier and nothing else
 abbrev pub identifier : List Choice
 identifier = AnIdentifier ∷ []
 
+-- an integer and nothing else
 abbrev pub integer : List Choice
 integer = AnInteger ∷ []
 
+-- a string and nothing else
 abbrev pub string : List Choice
 string = AString ∷ []
 
+-- the table: the row of each keyword
 abbrev pub row : Keyword → Row
 row Edif = Takes (name_definition ∷ the EdifVersion ∷ the EdifLevel ∷ the KeywordMap ∷ []) (Many Status ∷ Many External ∷ Many Library ∷ One Design ∷ Many Comment ∷ Many UserData ∷ [])
 row EdifVersion = Takes (integer ∷ integer ∷ integer ∷ []) []

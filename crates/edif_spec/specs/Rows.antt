@@ -10,6 +10,7 @@ abbrev pub is_named : List ℕ → Bare → Bool
 is_named s (Form' p (More (Word' q name) ts)) = same name s
 is_named s _ = false
 
+-- the tree is a form with this keyword
 abbrev pub has_keyword : Keyword → Bare → Bool
 has_keyword k t = is_named (spelling_of k) t
 
@@ -27,6 +28,7 @@ is_choice AString (String' p text) = true
 is_choice AString _ = false
 is_choice (AForm k) t = has_keyword k t
 
+-- an argument is one of several choices
 abbrev pub is_one_of : List Choice → Bare → Bool
 is_one_of [] t = false
 is_one_of (c ∷ cs) t = is_choice c t || is_one_of cs t

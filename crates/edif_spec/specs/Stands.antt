@@ -40,9 +40,11 @@ NameFault t f = IsTrue (has_keyword keywords.Rename (bare t)) × RowFault keywor
 abbrev pub ExponentFault : Placed → MeaningFault → Type 0
 ExponentFault u f = (z : ℤ) × (p : ℕ) × (u ≡ Integer' p z) × (¬ FitsSigned w32 z) × (f ≡ At BadForm p)
 
+-- in a truth value: its row
 abbrev pub BooleanFault : Placed → MeaningFault → Type 0
 BooleanFault t f = (IsTrue (has_keyword keywords.True (bare t)) × RowFault keywords.True t f) ⊎ (IsTrue (has_keyword keywords.False (bare t)) × RowFault keywords.False t f)
 
+-- in a mantissa with an exponent: its row, its exponent
 abbrev pub NumberFault : Placed → MeaningFault → Type 0
 NumberFault t f = IsTrue (has_keyword keywords.E (bare t)) × (RowFault keywords.E t f ⊎ InPart 1 ExponentFault t f)
 
@@ -62,6 +64,7 @@ PropertyFault t f = RowFault keywords.Property t f ⊎ (InPart 0 NameFault t f �
 abbrev pub PropertiesFault : List Placed → MeaningFault → Type 0
 PropertiesFault ts f = Among PropertyFault ts f ⊎ Repeats ts f
 
+-- the word of a direction, ignoring case
 abbrev pub is_direction : List ℕ → Bool
 is_direction w = same w (codes "INPUT") || (same w (codes "OUTPUT") || same w (codes "INOUT"))
 
@@ -151,6 +154,7 @@ MemberShapeFault t f = IsTrue (has_keyword keywords.Member (bare t)) × RowFault
 abbrev pub EndShapeFault : Placed → MeaningFault → Type 0
 EndShapeFault t f = RowFault keywords.PortRef t f ⊎ (Among (RowFault keywords.InstanceRef) (parts keywords.PortRef keywords.InstanceRef t) f ⊎ InPart 0 MemberShapeFault t f)
 
+-- in what a net joins, the shape alone: its row, that of each end
 abbrev pub JoinedShapeFault : Placed → MeaningFault → Type 0
 JoinedShapeFault t f = RowFault keywords.Joined t f ⊎ Among EndShapeFault (parts keywords.Joined keywords.PortRef t) f
 
@@ -158,6 +162,7 @@ JoinedShapeFault t f = RowFault keywords.Joined t f ⊎ Among EndShapeFault (par
 abbrev pub NetShapeFault : Placed → MeaningFault → Type 0
 NetShapeFault t f = RowFault keywords.Net t f ⊎ (InPart 0 NameFault t f ⊎ (InPart 1 JoinedShapeFault t f ⊎ PropertiesFault (parts keywords.Net keywords.Property t) f))
 
+-- the ends of what a net joins
 abbrev pub ends_joined : Option Placed → List Placed
 ends_joined None = []
 ends_joined (Some u) = parts keywords.Joined keywords.PortRef u
@@ -166,9 +171,11 @@ ends_joined (Some u) = parts keywords.Joined keywords.PortRef u
 abbrev pub ends_in : Placed → List Placed
 ends_in t = ends_joined (slice_get (arguments t) 1)
 
+-- the instances of contents
 abbrev pub insts_in : Placed → List Placed
 insts_in t = parts keywords.Contents keywords.Instance t
 
+-- the nets of contents
 abbrev pub nets_in : Placed → List Placed
 nets_in t = parts keywords.Contents keywords.Net t
 
@@ -187,6 +194,7 @@ abbrev pub ContentsFault : List design.Lib → Option ℕ → List design.Port �
 ContentsFault libs own ports t f = RowFault keywords.Contents t f ⊎ (Among (InstFault libs own) (insts_in t) f ⊎ ((Among NetShapeFault (nets_in t) f ⊎ NetsFault libs own ports t f)
     ⊎ (Repeats (insts_in t) f ⊎ (Repeats (nets_in t) f ⊎ (Beyond 1048576 (insts_in t) f ⊎ (Beyond 1048576 (nets_in t) f ⊎ Beyond 4194304 (flat_map ends_in (nets_in t)) f))))))
 
+-- the word of the one type of view, ignoring case
 abbrev pub is_netlist : List ℕ → Bool
 is_netlist w = same w (codes "NETLIST")
 
@@ -204,6 +212,7 @@ abbrev pub ViewFault : List design.Lib → Option ℕ → Placed → MeaningFaul
 ViewFault libs own t f = RowFault keywords.View t f ⊎ (InPart 0 NameFault t f ⊎ (InPart 1 TypeFault t f ⊎ (InPart 2 InterfaceFault t f
     ⊎ (InContents libs own t f ⊎ PropertiesFault (parts keywords.View keywords.Property t) f))))
 
+-- the word of a kind of cell, ignoring case
 abbrev pub is_cell_type : List ℕ → Bool
 is_cell_type w = same w (codes "GENERIC") || (same w (codes "TIE") || same w (codes "RIPPER"))
 
@@ -225,6 +234,7 @@ abbrev pub AmongAfter : {A : Type 0} → (List A → Bare → A → Type 0) → 
 AmongAfter means F before [] f = ⊥
 AmongAfter {A} means F before (t ∷ ts) f = F before t f ⊎ ((x : A) × means before (bare t) x × AmongAfter means F (before ++ x ∷ []) ts f)
 
+-- the cells of a library
 abbrev pub cells_in : Placed → List Placed
 cells_in t = parts keywords.Library keywords.Cell t
 
@@ -289,6 +299,7 @@ DesignFault libs t f = RowFault keywords.Design t f ⊎ (InPart 0 NameFault t f 
 abbrev pub VersionFault : Placed → MeaningFault → Type 0
 VersionFault t f = RowFault keywords.EdifVersion t f ⊎ (InPart 0 (ValueFault (pos 2) BadVersion) t f ⊎ (InPart 1 (ValueFault (pos 0) BadVersion) t f ⊎ InPart 2 (ValueFault (pos 0) BadVersion) t f))
 
+-- in the keyword map: its row, its level
 abbrev pub MapFault : Placed → MeaningFault → Type 0
 MapFault t f = RowFault keywords.KeywordMap t f ⊎ InPart 0 (LevelFault keywords.KeywordLevel) t f
 
@@ -297,6 +308,7 @@ abbrev pub before_the_design : List Placed → List Placed
 before_the_design [] = []
 before_the_design (t ∷ ts) = if has_keyword keywords.Design (bare t) then [] else (t ∷ before_the_design ts)
 
+-- the libraries among these forms
 abbrev pub libraries : List Placed → List Placed
 libraries ts = filter (λ u. is_library (bare u)) ts
 

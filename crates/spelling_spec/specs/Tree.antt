@@ -15,32 +15,37 @@ mutual
     End : Trees P
     More : (first : Tree P) (rest : Trees P) → Trees P
 
--- a tree with nothing beside its nodes, and one with places
+-- a tree with nothing beside its nodes
 abbrev pub Bare : Type 0
 Bare = Tree (Unit {0})
 
+-- a tree with the place of each node
 abbrev pub Placed : Type 0
 Placed = Tree ℕ
 
--- the arguments of a form, from a list and as one
+-- the arguments of a form, from a list
 abbrev pub trees : {P : Type 0} → List (Tree P) → Trees P
 trees [] = End
 trees (t ∷ ts) = More t (trees ts)
 
+-- the arguments of a form, as a list
 abbrev pub items : {P : Type 0} → Trees P → List (Tree P)
 items End = []
 items (More t ts) = t ∷ items ts
 
--- a node of a bare tree
+-- a bare form
 abbrev pub form : List Bare → Bare
 form ts = Form' tt (trees ts)
 
+-- a bare word
 abbrev pub word : List ℕ → Bare
 word name = Word' tt name
 
+-- a bare integer
 abbrev pub integer : ℤ → Bare
 integer value = Integer' tt value
 
+-- a bare string
 abbrev pub string : List ℕ → Bare
 string value = String' tt value
 
