@@ -1,0 +1,5 @@
+use Rattle.edif_names.proofs.SameLemmas.{one_test, same_says, says_same}
+use Rattle.edif_names.proofs.folded.is_same.Goals as goal
+
+pub returns : goal.returns
+returns c = one_test _ _ (λ h. says_same c.args.left.now c.args.right.now (c.same.ensures.0 h)) (λ h. c.same.ensures.1 (same_says c.args.left.now c.args.right.now h))
