@@ -36,14 +36,14 @@ fn spells_strings_and_integers(rt: HostRuntime) -> Result<(), Fail> {
     Ok(())
 }
 
-/// What a reference means among three names with the numbers 0 to 2 and the places 10 to 12.
+/// What a reference means among three names with the numbers 0 to 2.
 fn meaning(alloc: Global, names: [&[u8]; 3], reference: &[u8]) -> Result<Meant, Fail> {
     let mut scope = Scope::new(alloc);
-    let mut id = 0;
+    let mut id: u32 = 0;
     for name in names {
         let name = Ident::of(alloc, name)?.ok_or("no identifier")?;
-        scope.define(&name, id, 10 + u64::from(id))?;
-        id = (id + 1).min(2);
+        scope.define(&name, id, 10)?;
+        id = id.wrapping_add(1);
     }
     let reference = Ident::of(alloc, reference)?.ok_or("no identifier")?;
     Ok(scope.meant(&reference))
