@@ -7,7 +7,7 @@ use Rattle.edif_spec.specs.Keyword.{same}
 use Rattle.edif_names.specs.declared.folded.Numbered.{Numbered}
 use Rattle.edif_names.specs.declared.folded.Noted.{Noted}
 use Rattle.edif_names.specs.Folded.{noted, noted_after, one_more, are_several, hash_of, hash_from}
-use Rattle.edif_names.proofs.SameLemmas.{one_test, same_says, says_same}
+use Rattle.edif_spec.proofs.SameLemmas.{one_test, same_says, says_same}
 
 -- two names that are the same are the same as the same names
 pub same_as : (a b : List ℕ) → same a b ≡ true → (x : List ℕ) → same a x ≡ same b x

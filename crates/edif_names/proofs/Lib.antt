@@ -1,3 +1,2 @@
-mod SameLemmas
 mod FoldedLemmas
 mod ScopeLemmas

@@ -5,7 +5,7 @@ use Rattle.std.specs.Map.{lookup}
 use Rattle.std.proofs.lemmas.List.Sums.{sum_by-cons}
 use Rattle.std.proofs.lemmas.List.{map-append}
 use Rattle.std.specs.Prelude.{OnOk}
-use Rattle.edif_names.proofs.SameLemmas.{one_test}
+use Rattle.edif_spec.proofs.SameLemmas.{one_test}
 use Rattle.std.specs.Cmp.Lexicographic.{pointwise}
 use Rattle.edif_spec.specs.Keyword.{same}
 use Rattle.edif_spec.specs.Means.{equal, first_place, only_place, equal_or, meant}

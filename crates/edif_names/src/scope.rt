@@ -85,7 +85,7 @@ impl Scope {
     }
 
     /// What a reference means: the definition of the equal name; where there is none, the only one whose name is the same
-    /// ignoring the case of ASCII letters. Takes no memory, and goes over no list of the names.
+    /// ignoring the case of ASCII letters. Takes no memory, and looks only at the names whose lower case has the same hash.
     pub fn meant(&self, name: &Ident) -> Meant
         ensures { Says self.now (meant (names self.now) name.now) result }
     {

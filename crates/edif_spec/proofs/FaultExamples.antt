@@ -1,17 +1,17 @@
 -- The faults of small files.
-use Rattle.std.proofs.Common.{◌≡◌, ℕ, ◌<◌, pos, List, [], ◌∷◌, refl, inl, inr, false, Some, None, arith}
-use Rattle.std.specs.Prelude.{codes, FitsSigned}
+use Rattle.std.proofs.Common.{◌≡◌, ℕ, zero, suc, ◌+◌, ◌<◌, pos, List, [], ◌∷◌, refl, ap, ◌∙◌, inl, inr, false, Some, None, arith}
+use Rattle.std.specs.Prelude.{codes, FitsSigned, slice_get}
 use Rattle.std.specs.Int.{w32}
-use Rattle.spelling_spec.specs.Tree.{Word', Integer', bare, word, form}
+use Rattle.spelling_spec.specs.Tree.{Placed, Word', Integer', bare, word, form, items, trees}
 use Rattle.edif_spec.specs.Means.{MeansPort, MeansEnd, MeansCell, MeansCellRef, MeansLibrary}
-use Rattle.edif_spec.specs.Stands.{Stands}
+use Rattle.edif_spec.specs.Stands.{Stands, libraries}
 use Rattle.edif_spec.specs.Examples
 use Rattle.edif_spec.specs.Design as design
 use Rattle.netlist_schema.specs.declared.cell.CellKind.TheVariants as kinds
 use Rattle.netlist_schema.specs.declared.cell.Direction.TheVariants as directions
 use Rattle.edif_spec.specs.declared.fault.Kind.TheVariants.{BadForm, BadVersion, BadLevel, NotNetlist, Unresolved, Ambiguous, BadIndex, WholeArray, BadPath}
 use Rattle.edif_spec.specs.declared.fault.ClashKind.TheVariants.{SecondView, SecondDesign, Duplicate, EndTwice}
-use Rattle.edif_spec.specs.declared.fault.MeaningFault.TheVariants.{NotInProfile, At, Clash}
+use Rattle.edif_spec.specs.declared.fault.MeaningFault.TheVariants.{NotInProfile, At, Clash, OverLimit}
 
 pub bad_version_stands : Stands Examples.bad_version (At BadVersion 25)
 bad_version_stands = inr (inr (inr (inl (Examples.bad_version_8, refl, inr (inr (inr (Integer' 25 (pos 1), refl, (pos 1, 25, refl, (λ e. absurd (cc e)), refl))))))))
@@ -159,3 +159,25 @@ top_means = record {
 
 pub empty_path_stands : Stands Examples.empty_path (At BadPath 237)
 empty_path_stands = inr (inr (inr (inr (inr (inr (inr (inr (inr (with_leaf, (library_means, tt), inl (inr (inr (inr (inr (inl (Examples.empty_path_189, top, refl, top_means, inl (inl (inr (inr (inl (Examples.empty_path_237, refl, refl, inl (refl, refl)))))))))))))))))))))
+
+-- the arguments of a form are the list that they are made from
+items_of : (ts : List Placed) → items (trees ts) ≡ ts
+items_of [] = refl
+items_of (t ∷ ts) = ap (λ v. t ∷ v) (items_of ts)
+
+-- numbered libraries are libraries, and the one of each number stands in its place
+all_libraries : (n count : ℕ) → libraries (Examples.numbered_libraries n count) ≡ Examples.numbered_libraries n count
+all_libraries n zero = refl
+all_libraries n (suc count) = ap (λ v. Examples.numbered_library n ∷ v) (all_libraries (suc n) count)
+
+library_of_number : (n count i : ℕ) → i < count → slice_get (Examples.numbered_libraries n count) i ≡ Some (Examples.numbered_library (n + i))
+library_of_number n zero i l = absurd (omega arith)
+library_of_number n (suc count) zero l = ap (λ m. Some (Examples.numbered_library m)) (omega arith)
+library_of_number n (suc count) (suc i) l = library_of_number (suc n) count i (omega arith) ∙ ap (λ m. Some (Examples.numbered_library m)) (omega arith)
+
+pub many_libraries_stand : (count : ℕ) → 1024 < count → Stands (Examples.many_libraries count) (OverLimit 1024 44104)
+many_libraries_stand count l =
+    let found : slice_get (libraries (items (trees (Examples.numbered_libraries 0 count)))) 1024 ≡ Some (Examples.numbered_library 1024) =
+    ap (λ ts. slice_get (libraries ts) 1024) (items_of (Examples.numbered_libraries 0 count)) ∙ ap (λ ts. slice_get ts 1024) (all_libraries 0 count)
+    ∙ library_of_number 0 count 1024 l in
+    inr (inr (inr (inr (inr (inr (inr (inr (inl (Examples.numbered_library 1024, found, refl)))))))))

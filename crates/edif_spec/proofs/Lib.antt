@@ -30,6 +30,7 @@ pub mod PlainLemmas
 pub mod PlainMeanings
 pub mod ReadBack
 pub mod Ready
+pub mod SameLemmas
 pub mod Scopes
 pub mod SpelledTrees
 pub mod StringLemmas

@@ -1,10 +1,10 @@
 //! Small files, and the fault that stands in each.
-ghost use Rattle.std.specs.Prelude.{codes};
-ghost use Rattle.edif_spec.specs.Examples.{bad_version, bad_level, two_libraries, other_view_type, two_views, port_bundle, large_exponent, joined_twice, later_cell, whole_array, high_index, two_alike, two_designs, no_view, empty_path};
+ghost use Rattle.std.specs.Prelude.{◌<◌, ℕ, codes};
+ghost use Rattle.edif_spec.specs.Examples.{bad_version, bad_level, two_libraries, other_view_type, two_views, port_bundle, large_exponent, joined_twice, later_cell, whole_array, high_index, two_alike, two_designs, no_view, empty_path, many_libraries};
 ghost use Rattle.edif_spec.specs.Stands.{Stands};
 ghost use Rattle.edif_spec.specs.declared.fault.ClashKind.TheVariants.{Duplicate, EndTwice, SecondDesign, SecondView};
 ghost use Rattle.edif_spec.specs.declared.fault.Kind.TheVariants.{Ambiguous, BadForm, BadIndex, BadLevel, BadPath, BadVersion, NotNetlist, Unresolved, WholeArray};
-ghost use Rattle.edif_spec.specs.declared.fault.MeaningFault.TheVariants.{At, Clash, NotInProfile};
+ghost use Rattle.edif_spec.specs.declared.fault.MeaningFault.TheVariants.{At, Clash, NotInProfile, OverLimit};
 
 /// In each of the small files of `specs/Examples.antt` the fault stands that its writer meant, at the byte that was counted in
 /// its text.
@@ -24,4 +24,10 @@ pub fn faults_of_small_files()
     ensures designs { Stands two_designs (Clash SecondDesign 110 72) }
     ensures leaf { Stands no_view (At BadForm 110) }
     ensures path { Stands empty_path (At BadPath 237) }
+{}
+
+/// In each file of more than 1,024 numbered libraries the limit of libraries is passed, at the library of number 1,024, which is
+/// the first one beyond it.
+pub fn fault_of_many_libraries()
+    ensures { (count : ℕ) → 1024 < count → Stands (many_libraries count) (OverLimit 1024 44104) }
 {}

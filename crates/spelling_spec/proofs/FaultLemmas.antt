@@ -18,7 +18,7 @@ use Rattle.spelling_spec.proofs.LexedLemmas.{lexed_nil, span, fault_at, lexed_sp
 use Rattle.spelling_spec.proofs.RowLemmas.{name_word, integer_word, lexed_gap, lexed_spelled, integer_spells, identifier_spells, word_spells}
 
 -- spellings in front are read as their tokens
-front_is_read : (place after : ℕ) (bytes : List ℕ) (ts : List Token) (rest : List ℕ) → IsFront place bytes ts rest → after + length rest ≡ place + length bytes → lexed place 0 bytes ≡ before ts (lexed after 0 rest)
+pub front_is_read : (place after : ℕ) (bytes : List ℕ) (ts : List Token) (rest : List ℕ) → IsFront place bytes ts rest → after + length rest ≡ place + length bytes → lexed place 0 bytes ≡ before ts (lexed after 0 rest)
 front_is_read place after bytes [] rest front e =
     let long = ap length front.1 in
     ap (lexed place 0) front.1 ∙ lexed_gap place front.0 rest front.2 ∙ ap (λ n. lexed n 0 rest) (omega (arith, length-append front.0 rest))
@@ -54,11 +54,11 @@ name_bad [] b l unfit = absurd (omega arith)
 name_bad (x ∷ xs) b l unfit =
     cond-false (begins_number (x ∷ xs)) (or_fault Integer BadNumber (integer (x ∷ xs))) (or_fault Word BadByte (identifier (x ∷ xs))) b ∙ no_identifier x xs unfit (identifier (x ∷ xs)) refl
 
-all_append : (p : ℕ → Bool) (xs ys : List ℕ) → list_all p xs ≡ true → list_all p ys ≡ true → list_all p (xs ++ ys) ≡ true
+pub all_append : (p : ℕ → Bool) (xs ys : List ℕ) → list_all p xs ≡ true → list_all p ys ≡ true → list_all p (xs ++ ys) ≡ true
 all_append p [] ys a b = b
 all_append p (x ∷ xs) ys a b = let h = and_parts (p x) (list_all p xs) a in and_from (p x) (list_all p (xs ++ ys)) h.0 (all_append p xs ys h.1 b)
 
-all_parts : (p : ℕ → Bool) (xs ys : List ℕ) → list_all p (xs ++ ys) ≡ true → (list_all p xs ≡ true) × (list_all p ys ≡ true)
+pub all_parts : (p : ℕ → Bool) (xs ys : List ℕ) → list_all p (xs ++ ys) ≡ true → (list_all p xs ≡ true) × (list_all p ys ≡ true)
 all_parts p [] ys a = (refl, a)
 all_parts p (x ∷ xs) ys a =
     let h = and_parts (p x) (list_all p (xs ++ ys)) a in
@@ -126,7 +126,7 @@ fault_is_read place BadEscape rest offset h =
 fault_is_read place BadString rest offset h = ap (lexed place 0) h.1.1 ∙ string_is_read place h.1.0 h.1.2 h.1.3 ∙ at_zero BadString place offset h.0
 
 -- what stands so is read as this fault, after these tokens
-front_long : (place : ℕ) (bytes : List ℕ) (ts : List Token) (rest : List ℕ) → IsFront place bytes ts rest → length rest ≤ length bytes
+pub front_long : (place : ℕ) (bytes : List ℕ) (ts : List Token) (rest : List ℕ) → IsFront place bytes ts rest → length rest ≤ length bytes
 front_long place bytes [] rest front = let long = ap length front.1 in omega (arith, length-append front.0 rest)
 front_long place bytes (t ∷ ts) rest front =
     let inner = front_long (place + length front.0 + length front.1) front.2 ts rest front.8 in

@@ -1,9 +1,13 @@
 pub mod EscapeLemmas
 pub mod FaultLemmas
 pub mod FirstTreeFault
+pub mod Followed
+pub mod FollowedTokens
+pub mod Fronts
 pub mod IntegerLemmas
 pub mod LexedLemmas
 pub mod Listings
+pub mod Mended
 pub mod OneTreeFault
 pub mod PlacedListings
 pub mod RowLemmas

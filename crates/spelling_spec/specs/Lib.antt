@@ -1,4 +1,5 @@
 pub mod Bytes
+pub mod Ends
 pub mod Grammar
 pub mod LexFaults
 pub mod Lexing

@@ -1,11 +1,13 @@
 //! How tokens are spelled: the tokens of a text, its first lexical fault, and which bytes spell which tree.
 #![tactic(auto)]
 
+pub mod end_laws;
 pub mod laws;
 pub mod token;
 pub mod tree_fault;
 pub mod tree_laws;
 
+pub use end_laws::{fault_stays, tree_fault_stays};
 pub use laws::{
     one_fault, one_reading, one_spelled_tree, one_tree, row_is_spelled, spelled_has_no_fault,
 };

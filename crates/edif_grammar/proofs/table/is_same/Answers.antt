@@ -1,4 +1,4 @@
-use Rattle.edif_grammar.proofs.SameLemmas.{one_test, same_says, says_same}
+use Rattle.edif_spec.proofs.SameLemmas.{one_test, same_says, says_same}
 use Rattle.edif_grammar.proofs.table.is_same.Goals as goal
 
 pub returns : goal.returns

@@ -1,4 +1,4 @@
-use Rattle.edif_names.proofs.SameLemmas.{one_test, same_says, says_same}
+use Rattle.edif_spec.proofs.SameLemmas.{one_test, same_says, says_same}
 use Rattle.edif_names.proofs.folded.is_same.Goals as goal
 
 pub returns : goal.returns
