@@ -1,8 +1,7 @@
 -- Names that are the same: what is noted of one is noted of the other, and what one more name changes.
-use Rattle.std.proofs.Common.{nat_eq, eq-eqb, eqb-true, ◌≡◌, ℕ, List, [], ◌∷◌, ◌++◌, Bool, true, false, ◌||◌, not, cond, map, refl, sym, ap, ◌∙◌, subst, Option, Some, None, true≢false, arith}
+use Rattle.std.proofs.Common.{nat_eq, eq-eqb, eqb-true, ◌≡◌, ℕ, List, [], ◌∷◌, ◌++◌, Bool, true, false, ◌||◌, not, cond, refl, sym, ap, ◌∙◌, Option, Some, None, true≢false}
 use Rattle.std.specs.List.{list_any}
 use Rattle.std.specs.Option.{option_map_or}
-use Rattle.std.specs.Char.{to_ascii_lowercase}
 use Rattle.edif_spec.specs.Keyword.{same}
 use Rattle.edif_names.specs.declared.folded.Numbered.{Numbered}
 use Rattle.edif_names.specs.declared.folded.Noted.{Noted}

@@ -13,7 +13,6 @@ use Rattle.edif_spec.specs.Means as edif
 use Rattle.edif_names.specs.declared.folded.Numbered.{Numbered}
 use Rattle.edif_names.specs.declared.folded.Noted.{Noted}
 use Rattle.edif_names.specs.declared.scope.Entry.{Entry}
-use Rattle.edif_names.specs.declared.scope.Meant.{Meant}
 use Rattle.edif_names.specs.declared.scope.Meant.TheVariants as answers
 use Rattle.edif_names.specs.Folded.{noted}
 use Rattle.edif_names.specs.Scope.{Definition, names, equal_to, Says}

@@ -1,5 +1,5 @@
 -- A property as a line shows it: its key, `=` and its value.
-use Rattle.std.specs.Prelude.{ℕ, Bool, true, false, List, ◌∷◌, ◌++◌, codes}
+use Rattle.std.specs.Prelude.{ℕ, Bool, true, false, List, ◌++◌, codes}
 use Rattle.std.specs.Fmt.{signed_decimal}
 use Rattle.edif_spec.specs.Canonical.{string_text}
 use Rattle.netlist_schema.specs.Types.{Num, Property, Value}

@@ -1,10 +1,12 @@
 -- The faults of small files.
-use Rattle.std.proofs.Common.{◌≡◌, ℕ, zero, suc, ◌+◌, ◌<◌, pos, List, [], ◌∷◌, refl, ap, ◌∙◌, inl, inr, false, Some, None, arith}
+use Rattle.std.proofs.Common.{◌≡◌, ℕ, zero, suc, ◌+◌, ◌*◌, ◌<◌, pos, List, [], ◌∷◌, refl, sym, ap, ◌∙◌, subst, inl, inr, false, Some, None, arith}
 use Rattle.std.specs.Prelude.{codes, FitsSigned, slice_get}
 use Rattle.std.specs.Int.{w32}
 use Rattle.spelling_spec.specs.Tree.{Placed, Word', Integer', bare, word, form, items, trees}
 use Rattle.edif_spec.specs.Means.{MeansPort, MeansEnd, MeansCell, MeansCellRef, MeansLibrary}
+use Rattle.edif_spec.specs.Faults.{those_of, BeyondBits}
 use Rattle.edif_spec.specs.Stands.{Stands, libraries}
+use Rattle.edif_spec.specs.declared.keyword.Keyword.TheVariants as keywords
 use Rattle.edif_spec.specs.Examples
 use Rattle.edif_spec.specs.Design as design
 use Rattle.netlist_schema.specs.declared.cell.CellKind.TheVariants as kinds
@@ -181,3 +183,20 @@ many_libraries_stand count l =
     ap (λ ts. slice_get (libraries ts) 1024) (items_of (Examples.numbered_libraries 0 count)) ∙ ap (λ ts. slice_get ts 1024) (all_libraries 0 count)
     ∙ library_of_number 0 count 1024 l in
     inr (inr (inr (inr (inr (inr (inr (inr (inl (Examples.numbered_library 1024, found, refl)))))))))
+
+-- numbered ports are ports, and where the bits before are a whole number of ports below the limit, the next ones pass it
+all_ports : (n count : ℕ) → those_of keywords.Port (Examples.numbered_ports n count) ≡ Examples.numbered_ports n count
+all_ports n zero = refl
+all_ports n (suc count) = ap (λ v. Examples.numbered_port n ∷ v) (all_ports (suc n) count)
+
+bits_pass : (n count before k place : ℕ) → k < count → before + 65536 * k ≡ 1048576 → place ≡ 175 + 27 * (n + k) → BeyondBits 1048576 before (Examples.numbered_ports n count) (OverLimit 1048576 place)
+bits_pass n zero before k place l e p = absurd (omega arith)
+bits_pass n (suc count) before zero place l e p = inl (omega arith, omega arith, ap (OverLimit 1048576) (p ∙ omega arith))
+bits_pass n (suc count) before (suc k) place l e p = inr (bits_pass (suc n) count (before + 65536) k place (omega arith) (omega arith) (p ∙ omega arith))
+
+pub many_bits_stand : (count : ℕ) → 16 < count → Stands (Examples.many_bits count) (OverLimit 1048576 607)
+many_bits_stand count l =
+    let B : List Placed → Type 0 = λ ts. BeyondBits 1048576 0 ts (OverLimit 1048576 607) in
+    let ports : those_of keywords.Port (items (trees (Examples.numbered_ports 0 count))) ≡ Examples.numbered_ports 0 count = ap (those_of keywords.Port) (items_of (Examples.numbered_ports 0 count)) ∙ all_ports 0 count in
+    let bits : BeyondBits 1048576 0 (those_of keywords.Port (items (trees (Examples.numbered_ports 0 count)))) (OverLimit 1048576 607) = subst B (sym ports) (bits_pass 0 count 0 16 607 l refl refl) in
+    inr (inr (inr (inr (inr (inr (inl (inl (inr (inr (inr (inr (inl (Word' 81 (codes "w"), head, refl, inl (refl, refl), refl, inl (inr (inr (inr (inl (inl (inr (inr (inr (inl (Examples.many_bits_164 count, refl, inr (inr (inr (inr (inl bits)))))))))))))))))))))))))))

@@ -490,15 +490,15 @@ high_index = Form' 0 (More (Word' 1 (codes "edif")) (More (Word' 6 (codes "e")) 
 abbrev pub digit : ℕ → ℕ
 digit n = 48 + n
 
--- `L` and the four digits of a number below 10,000
-abbrev pub numbered_name : ℕ → List ℕ
-numbered_name n = 76 ∷ digit (n / 1000) ∷ digit (n / 100 % 10) ∷ digit (n / 10 % 10) ∷ digit (n % 10) ∷ []
+-- a letter and the four digits of a number below 10,000
+abbrev pub numbered_name : ℕ → ℕ → List ℕ
+numbered_name letter n = letter ∷ digit (n / 1000) ∷ digit (n / 100 % 10) ∷ digit (n / 10 % 10) ∷ digit (n % 10) ∷ []
 
 -- `(library L0000 (edifLevel 0) (technology))` with the number in its name, at this byte
 abbrev pub library_at : ℕ → ℕ → Placed
 library_at n at = Form' at
     (More (Word' (at + 1) (codes "library"))
-    (More (Word' (at + 9) (numbered_name n))
+    (More (Word' (at + 9) (numbered_name 76 n))
     (More (Form' (at + 15) (More (Word' (at + 16) (codes "edifLevel")) (More (Integer' (at + 26) (pos 0)) End)))
     (More (Form' (at + 29) (More (Word' (at + 30) (codes "technology")) End)) End))))
 
@@ -515,3 +515,36 @@ numbered_libraries n (suc count) = numbered_library n ∷ numbered_libraries (su
 -- libraries
 abbrev pub many_libraries : ℕ → Placed
 many_libraries count = Form' 0 (More (Word' 1 (codes "edif")) (More (Word' 6 (codes "e")) (More bad_level_8 (More bad_version_28 (More bad_version_42 (trees (numbered_libraries 0 count)))))))
+
+-- `(port (array P0000 65536))` with the number in its name, at this byte
+abbrev pub array_at : ℕ → ℕ → Placed
+array_at n at = Form' at (More (Word' (at + 1) (codes "port")) (More (Form' (at + 6) (More (Word' (at + 7) (codes "array")) (More (Word' (at + 13) (numbered_name 80 n)) (More (Integer' (at + 19) (pos 65536)) End)))) End))
+
+-- the port of this number where all are written one after another: 27 bytes each, the first at byte 175
+abbrev pub numbered_port : ℕ → Placed
+numbered_port n = array_at n (175 + 27 * n)
+
+-- so many ports from this number on
+abbrev pub numbered_ports : ℕ → ℕ → List Placed
+numbered_ports n zero = []
+numbered_ports n (suc count) = numbered_port n ∷ numbered_ports (suc n) count
+
+-- `(interface (port (array P0000 65536)) (port (array P0001 65536)) ..)` with so many ports, at byte 164
+abbrev pub many_bits_164 : ℕ → Placed
+many_bits_164 count = Form' 164 (More (Word' 165 (codes "interface")) (trees (numbered_ports 0 count)))
+
+-- the `view` `v`, with its `viewType` and that interface, at byte 137
+abbrev pub many_bits_137 : ℕ → Placed
+many_bits_137 count = Form' 137 (More (Word' 138 (codes "view")) (More (Word' 143 (codes "v")) (More two_views_145 (More (many_bits_164 count) End))))
+
+-- the `cell` `c`, with its `cellType` and that view, at byte 110
+abbrev pub many_bits_110 : ℕ → Placed
+many_bits_110 count = Form' 110 (More (Word' 111 (codes "cell")) (More (Word' 116 (codes "c")) (More other_view_type_118 (More (many_bits_137 count) End))))
+
+-- the `library` `w`, with its `edifLevel`, `technology` and that cell, at byte 72
+abbrev pub many_bits_72 : ℕ → Placed
+many_bits_72 count = Form' 72 (More (Word' 73 (codes "library")) (More (Word' 81 (codes "w")) (More two_libraries_83 (More two_libraries_97 (More (many_bits_110 count) End)))))
+
+-- the file of one leaf cell with so many ports of 65,536 bits each
+abbrev pub many_bits : ℕ → Placed
+many_bits count = Form' 0 (More (Word' 1 (codes "edif")) (More (Word' 6 (codes "e")) (More bad_level_8 (More bad_version_28 (More bad_version_42 (More (many_bits_72 count) End))))))

@@ -1,6 +1,6 @@
 //! Small files, and the fault that stands in each.
 ghost use Rattle.std.specs.Prelude.{◌<◌, ℕ, codes};
-ghost use Rattle.edif_spec.specs.Examples.{bad_version, bad_level, two_libraries, other_view_type, two_views, port_bundle, large_exponent, joined_twice, later_cell, whole_array, high_index, two_alike, two_designs, no_view, empty_path, many_libraries};
+ghost use Rattle.edif_spec.specs.Examples.{bad_version, bad_level, two_libraries, other_view_type, two_views, port_bundle, large_exponent, joined_twice, later_cell, whole_array, high_index, two_alike, two_designs, no_view, empty_path, many_libraries, many_bits};
 ghost use Rattle.edif_spec.specs.Stands.{Stands};
 ghost use Rattle.edif_spec.specs.declared.fault.ClashKind.TheVariants.{Duplicate, EndTwice, SecondDesign, SecondView};
 ghost use Rattle.edif_spec.specs.declared.fault.Kind.TheVariants.{Ambiguous, BadForm, BadIndex, BadLevel, BadPath, BadVersion, NotNetlist, Unresolved, WholeArray};
@@ -26,8 +26,10 @@ pub fn faults_of_small_files()
     ensures path { Stands empty_path (At BadPath 237) }
 {}
 
-/// In each file of more than 1,024 numbered libraries the limit of libraries is passed, at the library of number 1,024, which is
-/// the first one beyond it.
-pub fn fault_of_many_libraries()
-    ensures { (count : ℕ) → 1024 < count → Stands (many_libraries count) (OverLimit 1024 44104) }
+/// Limits that are passed, whatever stands behind. In a file of more than 1,024 numbered libraries it is passed at that of number
+/// 1,024, counted from 0; in one of more than 16 ports of 65,536 bits each, at the port of number 16, since 16 of them are just
+/// the 1,048,576 bits that are allowed.
+pub fn faults_of_large_files()
+    ensures libraries { (count : ℕ) → 1024 < count → Stands (many_libraries count) (OverLimit 1024 44104) }
+    ensures bits { (count : ℕ) → 16 < count → Stands (many_bits count) (OverLimit 1048576 607) }
 {}

@@ -10,7 +10,7 @@ pub mod meaning_laws;
 pub mod text_laws;
 
 pub use fault::{ClashKind, Kind, MeaningFault};
-pub use fault_examples::{fault_of_many_libraries, faults_of_small_files};
+pub use fault_examples::{faults_of_large_files, faults_of_small_files};
 pub use fault_laws::{fault_or_meaning, spelled_tree_is_writable};
 pub use keyword::Keyword;
 pub use laws::{meant_is_arranged, plain_text_reads_back, text_reads_back};

@@ -1,4 +1,4 @@
-use Rattle.std.proofs.Common.{◌≡◌, ℕ, List, sym, ap, ◌∙◌}
+use Rattle.std.proofs.Common.{sym, ap, ◌∙◌}
 use Rattle.edif_names.specs.Folded.{are_several, noted, noted_after}
 use Rattle.edif_names.proofs.FoldedLemmas.{noted_push, several_stay}
 use Rattle.edif_names.proofs.folded.add_to.Goals as goal

@@ -1,4 +1,4 @@
-use Rattle.std.proofs.Common.{◌≡◌, ℕ, List, [], sym, ap, ◌∙◌, nat_eq, None, Some, cond, is_some}
+use Rattle.std.proofs.Common.{sym, ap, ◌∙◌, nat_eq, None, Some, cond, is_some}
 use Rattle.std.specs.Option.{option_map_or}
 use Rattle.indexmap.specs.IndexMap.{get}
 use Rattle.edif_names.specs.Folded.{hash_of, noted, noted_after}

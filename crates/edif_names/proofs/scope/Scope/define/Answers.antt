@@ -1,10 +1,9 @@
-use Rattle.std.proofs.Common.{◌≡◌, ℕ, List, [], ◌∷◌, ◌++◌, sym, ap, refl, ◌∙◌, nat_eq, None, Some, option_map, map}
+use Rattle.std.proofs.Common.{◌≡◌, [], ◌∷◌, ◌++◌, sym, ap, refl, ◌∙◌, nat_eq, option_map}
 use Rattle.std.specs.Cmp.Lexicographic.{pointwise}
 use Rattle.std.specs.Map.{lookup}
-use Rattle.indexmap.specs.IndexMap.{insert_entry}
 use Rattle.indexmap.proofs.CallerLemmas.{insert_entry-new}
 use Rattle.edif_names.specs.Folded.{noted, noted_after}
-use Rattle.edif_names.specs.Scope.{Definition, equal_to}
+use Rattle.edif_names.specs.Scope.{equal_to}
 use Rattle.edif_names.proofs.ScopeLemmas.{looked, none_of, numbered, one_defined, one_numbered, on_ok}
 use Rattle.edif_names.proofs.FoldedLemmas.{noted_push}
 use Rattle.edif_names.proofs.scope.Scope.define.Goals as goal
