@@ -68,6 +68,14 @@ WriteGives name old new status.WriteFault = WritesFront new.files name old.writt
 WriteGives name old new (status.BadEdif fault) = (fault ≡ NotPlain) × IsNotPlain new.files name × IsReadThrough new.files name × (new.written ≡ old.written)
 WriteGives name old new status.NoMemory = (new.written ≡ old.written) ⊎ WritesFront new.files name old.written new.written
 
+-- a status behind a fault in reading in the order of causes: it comes only where no such fault was counted
+abbrev pub IsBehindReadFault : Status → Type 0
+IsBehindReadFault status.Ok = Unit {0}
+IsBehindReadFault (status.Missing word) = Unit {0}
+IsBehindReadFault status.WriteFault = Unit {0}
+IsBehindReadFault (status.BadEdif fault) = Unit {0}
+IsBehindReadFault _ = ⊥
+
 -- Where files are told: where there is no file of this name, its being missing is answered, or a fault in reading it, or want of
 -- memory; where it is no plain file, that is answered, or a fault in reading it, or want of memory; and where it is one, neither.
 abbrev pub IsDue : Option Shelf → List ℕ → Status → Type 0

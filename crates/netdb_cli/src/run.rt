@@ -4,7 +4,7 @@ ghost use Rattle.netdb_outside.specs.Outside.{SameFiles};
 ghost use Rattle.edif_spec.specs.Arranged.{canonical_text};
 ghost use Rattle.edif_spec.specs.Plain.{IsPlainDesign};
 ghost use Rattle.netdb_cli.specs.Command.{IsCommand, IsWrite};
-ghost use Rattle.netdb_cli.specs.Outcome.{WriteGives, IsDue};
+ghost use Rattle.netdb_cli.specs.Outcome.{IsBehindReadFault, IsDue, WriteGives};
 ghost use Rattle.netdb_cli.specs.Steps.{TextGives, BytesGive};
 
 use crate::bytes::read_bytes;
@@ -56,6 +56,7 @@ fn write_file<F: Files, K: Sink>(alloc: Global, name: &str, files: &mut F, out: 
     ensures gives { WriteGives name.now
         (record { files = F.told files.old; read_faults = F.faults files.old; written = K.written out.old; write_faults = K.faults out.old })
         (record { files = F.told files.new; read_faults = F.faults files.new; written = K.written out.new; write_faults = K.faults out.new }) result }
+    ensures order { IsBehindReadFault result → F.faults files.new ≡ F.faults files.old }
     ensures files { SameFiles (F.told files.old) (F.told files.new) }
     ensures reading { F.faults files.old ≤ F.faults files.new }
     ensures writing { K.faults out.old ≤ K.faults out.new }
@@ -96,6 +97,9 @@ pub fn run_netdb<R: Threads + Wait + Sync, F: Files, K: Sink, G: Gate + Sync>(
 
     // Each status comes where its cause holds, unless a fault or want of memory comes before.
     ensures due { (name : List ℕ) → IsWrite words.now name → IsDue (F.told files.old) name result }
+
+    // A fault in reading comes first: with any status behind it, none was counted.
+    ensures order { IsBehindReadFault result → F.faults files.new ≡ F.faults files.old }
 
     // The outside: no file changes, and no count of faults falls.
     ensures files { SameFiles (F.told files.old) (F.told files.new) }

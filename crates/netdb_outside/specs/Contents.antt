@@ -24,6 +24,14 @@ FileGives told name limit Missing = IfSome told (λ shelf. IsMissing shelf name)
 FileGives told name limit Failed = Unit {0}
 FileGives told name limit NoMemory = Unit {0}
 
+-- the file was read through, or is not there
+abbrev pub IsFoundOut : Contents → Type 0
+IsFoundOut (Bytes bytes) = Unit {0}
+IsFoundOut TooLarge = Unit {0}
+IsFoundOut Missing = Unit {0}
+IsFoundOut Failed = ⊥
+IsFoundOut NoMemory = ⊥
+
 -- what reading on gives: all of the rest, within the limit; or more, of which the bytes up to one past the limit were taken
 abbrev pub RestGives : Option Shelf → Option Shelf → ℕ → Contents → Type 0
 RestGives old new limit (Bytes bytes) = (length bytes ≤ limit) × Takes old new bytes × NothingLeft new

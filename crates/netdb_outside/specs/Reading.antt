@@ -4,6 +4,13 @@ use Rattle.netdb_outside.specs.Outside.{Shelf, Takes, NothingLeft}
 use Rattle.netdb_outside.specs.declared.files.Got.{Got}
 use Rattle.netdb_outside.specs.declared.files.Got.TheVariants.{Bytes, End, Failed, NoMemory}
 
+-- bytes came, or there are none left
+abbrev pub ReadsOn : Got → Type 0
+ReadsOn (Bytes n) = Unit {0}
+ReadsOn End = Unit {0}
+ReadsOn Failed = ⊥
+ReadsOn NoMemory = ⊥
+
 -- the next bytes, as many as it says, stand at the front of the buffer; at the end nothing was left, and nothing is
 abbrev pub ReadGives : Option Shelf → Option Shelf → List ℕ → Got → Type 0
 ReadGives old new buf (Bytes n) = (1 ≤ n) × (n ≤ length buf) × Takes old new (take n buf)

@@ -1,8 +1,8 @@
 //! Reading a whole file.
 ghost use Rattle.std.specs.Prelude.{◌≡◌, ◌<◌, ◌≤◌, ◌+◌, length, take, vec_len, IfOk};
-ghost use Rattle.netdb_outside.specs.Contents.{FileGives, RestGives};
+ghost use Rattle.netdb_outside.specs.Contents.{FileGives, IsFoundOut, RestGives};
 ghost use Rattle.netdb_outside.specs.Outside.{SameFiles, Rose};
-ghost use Rattle.netdb_outside.specs.Reading.{ReadGives, PieceGives};
+ghost use Rattle.netdb_outside.specs.Reading.{PieceGives, ReadGives, ReadsOn};
 
 use crate::files::{Files, Got, Opened};
 use netlist_schema::Text;
@@ -36,6 +36,7 @@ pub fn read_file<F: Files>(alloc: Global, files: &mut F, name: &str, limit: u64)
     ensures files { SameFiles (F.told files.old) (F.told files.new) }
     ensures gives { FileGives (F.told files.new) name.now limit result }
     ensures failed { result ≡ Contents.Failed → Rose (F.faults files.old) (F.faults files.new) }
+    ensures quiet { IsFoundOut result → F.faults files.new ≡ F.faults files.old }
     ensures never_falls { F.faults files.old ≤ F.faults files.new }
 {
     match files.open_file(name) {
@@ -51,6 +52,7 @@ fn read_rest<F: Files>(alloc: Global, files: &mut F, limit: u64) -> Contents
     ensures files { SameFiles (F.told files.old) (F.told files.new) }
     ensures gives { RestGives (F.told files.old) (F.told files.new) limit result }
     ensures failed { result ≡ Contents.Failed → Rose (F.faults files.old) (F.faults files.new) }
+    ensures quiet { IsFoundOut result → F.faults files.new ≡ F.faults files.old }
     ensures never_falls { F.faults files.old ≤ F.faults files.new }
 {
     let Ok(mut buf) = new_buffer(alloc, PIECE) else {
@@ -82,6 +84,7 @@ fn read_piece<F: Files>(files: &mut F, buf: &mut [u8], bytes: &mut Vec<u8>, limi
     ensures files { SameFiles (F.told files.old) (F.told files.new) }
     ensures gives { PieceGives (F.told files.old) (F.told files.new) bytes.old.items bytes.new.items limit result }
     ensures failed { result ≡ Got.Failed → Rose (F.faults files.old) (F.faults files.new) }
+    ensures quiet { ReadsOn result → F.faults files.new ≡ F.faults files.old }
     ensures never_falls { F.faults files.old ≤ F.faults files.new }
 {
     let most = most_wanted(buf.len(), limit - bytes.len() as u64);
@@ -115,6 +118,7 @@ fn read_front<F: Files>(files: &mut F, buf: &mut [u8], most: usize) -> Got
     ensures files { SameFiles (F.told files.old) (F.told files.new) }
     ensures gives { ReadGives (F.told files.old) (F.told files.new) (take most buf.new) result }
     ensures failed { result ≡ Got.Failed → Rose (F.faults files.old) (F.faults files.new) }
+    ensures quiet { ReadsOn result → F.faults files.new ≡ F.faults files.old }
     ensures never_falls { F.faults files.old ≤ F.faults files.new }
 {
     files.read(&mut buf[..most])

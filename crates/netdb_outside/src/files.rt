@@ -1,7 +1,7 @@
 //! `Files`: files that can be read.
-ghost use Rattle.std.specs.Prelude.{◌≡◌, ◌≢◌, ℕ, ◌<◌, ◌≤◌, length, Option, Some, None, IfSome};
+ghost use Rattle.std.specs.Prelude.{◌≡◌, ◌≢◌, ◌⊎◌, ℕ, ◌<◌, ◌≤◌, length, Option, Some, None, IfSome};
 ghost use Rattle.netdb_outside.specs.Outside.{Shelf, SameFiles, NothingLeft, Rose, file_named};
-ghost use Rattle.netdb_outside.specs.Reading.{ReadGives};
+ghost use Rattle.netdb_outside.specs.Reading.{ReadGives, ReadsOn};
 
 /// What opening a file answers.
 #[derive(Clone, Copy, Debug, PartialEq, Eq)]
@@ -32,7 +32,8 @@ pub enum Got {
 /// An outside with files, of which one at a time is read.
 ///
 /// It may tell its files, by name with their bytes, and with them the rest of the one that is being read. No call changes
-/// the files, or whether they are told. What a failed read does to the rest is left open.
+/// the files, or whether they are told. What a failed read does to the rest is left open. A call that is not refused counts no
+/// fault.
 pub trait Files {
     /// The files, and the rest of the one that is being read, where they are told.
     ghost told: { Self → Option Shelf };
@@ -47,6 +48,7 @@ pub trait Files {
         ensures missing { result ≡ Opened.Missing → IfSome (told self.new) (λ shelf. file_named shelf.files name.now ≡ None) }
         ensures others { result ≢ Opened.Ready → NothingLeft (told self.new) }
         ensures failed { result ≡ Opened.Failed → Rose (faults self.old) (faults self.new) }
+        ensures quiet { (result ≡ Opened.Ready) ⊎ (result ≡ Opened.Missing) → faults self.new ≡ faults self.old }
         ensures never_falls { faults self.old ≤ faults self.new };
 
     /// Reads the next bytes into the front of a buffer.
@@ -55,5 +57,6 @@ pub trait Files {
         ensures files { SameFiles (told self.old) (told self.new) }
         ensures gives { ReadGives (told self.old) (told self.new) buf.new result }
         ensures failed { result ≡ Got.Failed → Rose (faults self.old) (faults self.new) }
+        ensures quiet { ReadsOn result → faults self.new ≡ faults self.old }
         ensures never_falls { faults self.old ≤ faults self.new };
 }

@@ -1,9 +1,9 @@
 //! `MemFiles`: files in memory.
-ghost use Rattle.std.specs.Prelude.{◌≡◌, ◌≢◌, ◌≤◌, ◌<◌, ◌↔◌, ℕ, [], length, min, take, drop, ◌++◌, Some, None, Any, IsTrue, MatchOption};
+ghost use Rattle.std.specs.Prelude.{◌≡◌, ◌≢◌, ◌⊎◌, ◌≤◌, ◌<◌, ◌↔◌, ℕ, [], length, min, take, drop, ◌++◌, Some, None, Any, IsTrue, MatchOption};
 ghost use Rattle.netlist_schema.specs.Names.{AreDistinct};
 ghost use Rattle.netdb_outside.specs.MemFiles.{after_call, bytes_at, named, names, next_fails, opened_rest, opening, read_buffer, read_rest, reading};
 ghost use Rattle.netdb_outside.specs.Outside.{NothingLeft, Rose, SameFiles, file_named};
-ghost use Rattle.netdb_outside.specs.Reading.{ReadGives};
+ghost use Rattle.netdb_outside.specs.Reading.{ReadGives, ReadsOn};
 
 use crate::files::{Files, Got, Opened};
 use netlist_schema::{Row, Text};
@@ -106,6 +106,7 @@ impl Files for MemFiles {
         ensures missing { result ≡ Opened.Missing → file_named self.new.shelf.files name.now ≡ None }
         ensures others { result ≢ Opened.Ready → NothingLeft (Some self.new.shelf) }
         ensures failed { result ≡ Opened.Failed → Rose self.old.faults self.new.faults }
+        ensures quiet { (result ≡ Opened.Ready) ⊎ (result ≡ Opened.Missing) → self.new.faults ≡ self.old.faults }
         ensures never_falls { self.old.faults ≤ self.new.faults }
         ensures answer { result ≡ opening (next_fails self.old) (file_named self.old.shelf.files name.now) }
         ensures after { self.new ≡ after_call self.old (opened_rest (next_fails self.old) (file_named self.old.shelf.files name.now)) }
@@ -129,6 +130,7 @@ impl Files for MemFiles {
         ensures files { SameFiles (Some self.old.shelf) (Some self.new.shelf) }
         ensures gives { ReadGives (Some self.old.shelf) (Some self.new.shelf) buf.new result }
         ensures failed { result ≡ Got.Failed → Rose self.old.faults self.new.faults }
+        ensures quiet { ReadsOn result → self.new.faults ≡ self.old.faults }
         ensures never_falls { self.old.faults ≤ self.new.faults }
         ensures answer { result ≡ reading (next_fails self.old) self.old.shelf.rest (length buf.old) }
         ensures after { self.new ≡ after_call self.old (read_rest (next_fails self.old) self.old.shelf.rest (length buf.old)) }
