@@ -13,12 +13,12 @@ use Rattle.edit_spec.specs.declared.ops.Op.{Op}
 use Rattle.edit_spec.specs.declared.ops.Reply.{Reply}
 use Rattle.edit_spec.proofs.Values.{run_keeps_valid}
 use Rattle.history_spec.specs.declared.event.Call.{Call}
-use Rattle.history_spec.specs.declared.event.Call.TheVariants.{Release, Collect, Commit}
+use Rattle.history_spec.specs.declared.event.Call.TheVariants.{Pin, PinAt, Release, Collect, Commit}
 use Rattle.history_spec.specs.declared.event.Answer.{Answer}
 use Rattle.history_spec.specs.declared.event.Answer.TheVariants.{Pinned, Released, Collected, Committed}
 use Rattle.history_spec.specs.declared.event.Event.{Event}
 use Rattle.history_spec.specs.State.{State, LivePin, Version, opening, head, design, version, live_pin, changed, committed, after, IsLive}
-use Rattle.history_spec.specs.Answers.{Answers, HasNoConflict, places}
+use Rattle.history_spec.specs.Answers.{Answers, HasNoConflict, HasRoom, places}
 use Rattle.history_spec.specs.History.{Legal, state_from, state_after, version_at}
 use Rattle.history_spec.specs.Laws.{IsGrowing, IsTypedCall, accepted, asked}
 use Rattle.history_spec.proofs.Histories.{goes_on_from, legal-left, legal-right, one_more_is_legal, state_from-append}
@@ -44,6 +44,16 @@ growth d xs ys legal =
       within = all.within;
       grown = λ v w le top. grown_on (state_after d xs) (follows_after d xs) v (w - v) w (omega arith) top;
     }
+
+full_on : (s t : State) (call : Call) → places s ≤ places t → ¬ HasRoom s call → ¬ HasRoom t call
+full_on s t Pin le full room = full (omega arith)
+full_on s t (PinAt v) le full room = full (omega arith)
+full_on s t (Release number) le full room = full tt
+full_on s t Collect le full room = full (omega arith)
+full_on s t (Commit number ops) le full room = full (omega arith)
+
+pub full_stays_full : (d : Design) (xs ys : List Event) (call : Call) → Legal d (xs ++ ys) → ¬ HasRoom (state_after d xs) call → ¬ HasRoom (state_after d (xs ++ ys)) call
+full_stays_full d xs ys call legal full = full_on (state_after d xs) (state_after d (xs ++ ys)) call ((growth d xs ys legal).never_falls) full
 
 -- a live pin's version is there
 live_there : (d : Design) (xs : List Event) (number caller v : ℕ) → Legal d xs → IsLive (state_after d xs) number caller v → v ≤ head (state_after d xs)

@@ -40,10 +40,11 @@ design_of cells = record {
   notes = [];
 }
 
--- a cell of w by its name, and by its place
+-- a cell of w by its name
 abbrev pub in_w : List ℕ → CellName
 in_w cell = record { lib = codes "w"; cell = cell }
 
+-- a cell of w by its place
 abbrev pub at_place : ℕ → CellId
 at_place slot = record { lib = record { 0 = 0 }; slot = slot }
 

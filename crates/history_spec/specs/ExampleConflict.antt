@@ -44,6 +44,7 @@ last_releases = event 0 (Release 0) Released ∷ event 1 (Release 2) Released �
 abbrev pub tried : ℕ → List Op → List Reply
 tried v ops = (run (version_at two_cells refused_commit v) ops).replies
 
+-- the history is legal, the replies are these, and so many events and pins there are
 pub record IsRefusedCommit : Type 0 where
   pub legal : Legal two_cells refused_commit
   -- on version 0 each is done alone, and on version 1 the second one would place a cell below itself

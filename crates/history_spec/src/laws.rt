@@ -9,7 +9,7 @@ ghost use Rattle.edit_spec.specs.Objects.{IsClosed};
 ghost use Rattle.edit_spec.specs.Step.{run};
 ghost use Rattle.edit_spec.specs.declared.ops.Op.{Op};
 ghost use Rattle.edit_spec.specs.declared.ops.Reply.{Reply};
-ghost use Rattle.history_spec.specs.Answers.{Admits, Answers, HasNoConflict, IsCallers, IsKept};
+ghost use Rattle.history_spec.specs.Answers.{Admits, Answers, HasNoConflict, HasRoom, IsCallers, IsKept};
 ghost use Rattle.history_spec.specs.History.{IsLegalFrom, Legal, state_after, version_at};
 ghost use Rattle.history_spec.specs.Laws.{IsGrowing, IsReleaseOf, IsSound, IsTypedCall, accepted, asked};
 ghost use Rattle.history_spec.specs.State.{IsLive, IsWritten, after, collected, head};
@@ -33,6 +33,12 @@ pub fn legal_by_parts()
 /// and later versions are grown.
 pub fn growth()
     ensures { (d : Design) (events more : List Event) → Legal d (events ++ more) → IsGrowing d events more }
+{}
+
+/// A call that finds no room after a legal history finds none after one that goes on from it, not even once all pins are
+/// released.
+pub fn full_stays_full()
+    ensures { (d : Design) (events more : List Event) (call : Call) → Legal d (events ++ more) → ¬ HasRoom (state_after d events) call → ¬ HasRoom (state_after d (events ++ more)) call }
 {}
 
 /// A version is the same in every history that begins with one that has it, and so is the written set of its commit.
