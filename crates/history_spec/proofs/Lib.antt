@@ -1,0 +1,11 @@
+pub mod Histories
+pub mod Lists
+pub mod Objects
+pub mod OneAnswer
+pub mod Promised
+pub mod Refused
+pub mod Rooms
+pub mod Sound
+pub mod Staying
+pub mod Total
+pub mod Versions

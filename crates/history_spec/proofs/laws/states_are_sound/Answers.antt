@@ -1,0 +1,5 @@
+use Rattle.history_spec.proofs.Sound as lemma
+use Rattle.history_spec.proofs.laws.states_are_sound.Goals as goal
+
+pub returns : goal.returns
+returns c = lemma.is_sound
