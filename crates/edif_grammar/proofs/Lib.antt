@@ -1,1 +1,9 @@
+pub mod Apart
+pub mod CheckLemmas
+pub mod FormLemmas
+pub mod KeywordLemmas
+pub mod Misplaced
+pub mod NodeForms
+pub mod RuleLemmas
 mod SameLemmas
+pub mod StandLemmas

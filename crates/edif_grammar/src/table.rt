@@ -68,6 +68,13 @@ pub fn keyword(name: &Ident) -> Option<Keyword>
     None
 }
 
+/// Whether a name spells this keyword, ignoring the case of ASCII letters.
+pub fn is_spelled(name: &Ident, keyword: Keyword) -> bool
+    ensures { result ≡ same name.now (spelling_of keyword) }
+{
+    is_same(name.as_slice(), spelling_of_keyword(keyword))
+}
+
 /// How a keyword is spelled.
 fn spelling_of_keyword(keyword: Keyword) -> &'static [u8]
     ensures { result.now ≡ spelling_of keyword }
