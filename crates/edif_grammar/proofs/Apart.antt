@@ -4,8 +4,8 @@ use Rattle.spelling_spec.specs.Tree.{Placed, bare}
 use Rattle.edif_spec.specs.Faults.{RowFault}
 use Rattle.edif_spec.specs.declared.keyword.Keyword.{Keyword}
 use Rattle.edif_grammar.specs.Forms.{Fails, Fits, HasOwnKind, fault_of, row_above}
-use Rattle.edif_grammar.specs.declared.form.Breach.{Breach}
-use Rattle.edif_grammar.specs.declared.form.Breach.TheVariants as breaches
+use Rattle.edif_grammar.specs.declared.lent.Breach.{Breach}
+use Rattle.edif_grammar.specs.declared.lent.Breach.TheVariants as breaches
 use Rattle.edif_grammar.proofs.KeywordLemmas.{one_keyword, with_keyword}
 
 no_own : (b : Breach) → HasOwnKind (fault_of b) → ⊥

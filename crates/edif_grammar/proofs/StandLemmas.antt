@@ -126,3 +126,9 @@ stand_front rows ids js ts m n e l h =
 pub stand_rest : (rows : List Row) (ids js : List NodeId) (ts : List Placed) (m n : ℕ) → js ≡ drop m ids → m ≡ n → Stand rows ids ts → Stand rows js (drop n ts)
 stand_rest rows ids js ts m n e l h =
     let P : List NodeId → Type 0 = λ v. Stand rows v (drop n ts) in subst P (ap (λ v. drop v ids) (sym l) ∙ sym e) (stand_drop rows n ids ts h)
+
+-- one of a list of nodes
+pub node_of : (rows : List Row) (ids : List NodeId) (i : ℕ) (d : NodeId) → AllByRecursion (IsNode rows) ids → i < length ids → IsNode rows (get_or ids i d)
+node_of rows [] i d h l = absurd (omega arith)
+node_of rows (id ∷ ids) zero d h l = h.0
+node_of rows (id ∷ ids) (suc i) d h l = node_of rows ids i d h.1 (omega arith)

@@ -10,7 +10,7 @@ use Rattle.edif_spec.specs.declared.fault.MeaningFault.{MeaningFault}
 use Rattle.edif_tree.specs.Nodes as nodes
 use Rattle.edif_grammar.specs.Forms.{HasOwnKind, Stand}
 use Rattle.edif_grammar.specs.Rules.{is_plain}
-use Rattle.edif_grammar.specs.declared.form.Parts.{Parts}
+use Rattle.edif_grammar.specs.declared.lent.Parts.{Parts}
 
 -- the form fits its row, and these are its parts
 pub record FitsBelow (rows : List nodes.Row) (k : Keyword) (t : Placed) (p : Parts) : Type 0 where

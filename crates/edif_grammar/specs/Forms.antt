@@ -13,9 +13,9 @@ use Rattle.edif_spec.specs.declared.fault.MeaningFault.TheVariants.{NotInProfile
 use Rattle.edif_tree.specs.Nodes.{IsAt}
 use Rattle.edif_tree.specs.Nodes as nodes
 use Rattle.edif_tree.specs.declared.node.NodeId.{NodeId}
-use Rattle.edif_grammar.specs.declared.form.Parts.{Parts}
-use Rattle.edif_grammar.specs.declared.form.Breach.{Breach}
-use Rattle.edif_grammar.specs.declared.form.Breach.TheVariants as breaches
+use Rattle.edif_grammar.specs.declared.lent.Parts.{Parts}
+use Rattle.edif_grammar.specs.declared.lent.Breach.{Breach}
+use Rattle.edif_grammar.specs.declared.lent.Breach.TheVariants as breaches
 
 -- the row that holds a form: that of its parent, or that of a whole file
 abbrev pub row_above : Option Keyword → Row

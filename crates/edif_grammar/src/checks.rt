@@ -12,7 +12,7 @@ ghost use Rattle.edif_grammar.specs.Rules as rules;
 ghost use Rattle.edif_grammar.specs.Checks.{ArgumentFits, FixedFits, OnceFits};
 ghost use Rattle.edif_spec.specs.Keyword.{Follower};
 
-use crate::form::Breach;
+use crate::lent::Breach;
 use crate::nodes::{argument_at, has_keyword, opened};
 use crate::rules::{Inner, Rule, Wanted, may_follow, second_is_bad_form, tokens_apart};
 use edif_spec::Keyword;

@@ -2,7 +2,7 @@
 ghost use Rattle.std.specs.Prelude.{Option};
 ghost use Rattle.spelling_spec.specs.Tree.{Placed};
 ghost use Rattle.edif_spec.specs.declared.keyword.Keyword.{Keyword};
-ghost use Rattle.edif_grammar.specs.declared.form.Breach.{Breach};
+ghost use Rattle.edif_grammar.specs.declared.lent.Breach.{Breach};
 ghost use Rattle.edif_grammar.specs.Forms.{Fails, Fits, fault_of};
 
 /// A form with a breach fits under no keyword.

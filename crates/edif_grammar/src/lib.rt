@@ -2,14 +2,16 @@
 #![tactic(auto)]
 
 mod checks;
-pub mod form;
+pub mod kept;
 pub mod laws;
+pub mod lent;
 mod nodes;
 mod rules;
 pub mod table;
 
-pub use form::{Breach, Parts, parts_of};
+pub use kept::{EdifFormError, FormParts, form};
 pub use laws::breach_fits_not;
+pub use lent::{Breach, Parts, parts_of};
 pub use table::keyword;
 
 #[cfg(test)]

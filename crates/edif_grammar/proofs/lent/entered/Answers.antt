@@ -6,7 +6,7 @@ use Rattle.edif_grammar.specs.Forms.{row_above}
 use Rattle.edif_grammar.specs.Rules.{row_fits}
 use Rattle.edif_grammar.specs.declared.rules.Argument.TheVariants as arguments
 use Rattle.edif_grammar.proofs.Misplaced.{place_is, keyword_found, found_in, nowhere, unknown_out, no_form}
-use Rattle.edif_grammar.proofs.form.entered.Goals as goal
+use Rattle.edif_grammar.proofs.lent.entered.Goals as goal
 
 pub returns-in_default-keyword-clause-err : goal.returns-in_default-keyword-clause-err
 returns-in_default-keyword-clause-err c = λ t a.

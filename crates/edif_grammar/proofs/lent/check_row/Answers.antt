@@ -12,7 +12,7 @@ use Rattle.edif_grammar.specs.declared.rules.Rule.{Rule}
 use Rattle.edif_grammar.proofs.FormLemmas.{in_row}
 use Rattle.edif_grammar.proofs.StandLemmas.{stand_length, stand_front, stand_rest}
 use Rattle.edif_grammar.proofs.CheckLemmas.{too_few, row_own, row_back}
-use Rattle.edif_grammar.proofs.form.check_row.Goals as goal
+use Rattle.edif_grammar.proofs.lent.check_row.Goals as goal
 
 pub returns-then-nodes-wanted-clause-err : goal.returns-then-nodes-wanted-clause-err
 returns-then-nodes-wanted-clause-err c = λ t e s.
