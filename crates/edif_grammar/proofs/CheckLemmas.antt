@@ -14,7 +14,7 @@ use Rattle.edif_spec.specs.declared.fault.MeaningFault.TheVariants.{At}
 use Rattle.edif_grammar.specs.Forms.{HasOwnKind}
 use Rattle.edif_grammar.specs.Rules.{is_plain}
 use Rattle.edif_grammar.specs.Checks.{ArgumentFits, FixedFits, OnceFits}
-use Rattle.edif_grammar.proofs.FormLemmas.{none_of_two}
+use Rattle.edif_grammar.proofs.FormLemmas.{none_of_two, second_plain}
 
 -- What holds below a place, and at it, holds below the next.
 pub below_next : {A B : Type 0} (P : A → B → Type 0) (xs : List A) (ys : List B) (i : ℕ) (x : A) (y : B) → slice_get xs i ≡ Some x → slice_get ys i ≡ Some y → P x y
@@ -122,11 +122,6 @@ both_weaker R S (x ∷ xs) f (inl h) = inl (one_weaker (R x) (S x) xs (f x) h)
     one_weaker P Q (x ∷ xs) f (inr h) = inr (one_weaker P Q xs f h)
 both_weaker R S (x ∷ xs) f (inr h) = inr (both_weaker R S xs f h)
 
-second_bad : (k : Keyword) (a b : Placed) → is_plain k ≡ true → second k a b ≡ At BadForm (place_of b)
-second_bad keywords.View a b h = absurd (cc h)
-second_bad keywords.Design a b h = absurd (cc h)
-second_bad _ a b h = refl
-
 second_own : (k : Keyword) (a b : Placed) → is_plain k ≡ false → HasOwnKind (second k a b)
 second_own keywords.View a b h = tt
 second_own keywords.Design a b h = tt
@@ -138,7 +133,7 @@ second_at (Many j ∷ fs) ts zero k f e p h = absurd (cc e)
 second_at (One j ∷ fs) ts zero k f e p h =
     let w : j ≡ k = cc e in
     let P : Keyword → Type 0 = λ v. AtTwo (λ x y. f ≡ second v x y) (those_of v ts) in
-    inl (subst P (sym w) (both_weaker (λ x y. f ≡ At BadForm (place_of y)) (λ x y. f ≡ second k x y) (those_of k ts) (λ x y q. q ∙ sym (second_bad k x y p)) h))
+    inl (subst P (sym w) (both_weaker (λ x y. f ≡ At BadForm (place_of y)) (λ x y. f ≡ second k x y) (those_of k ts) (λ x y q. q ∙ sym (second_plain k x y p)) h))
 second_at (Many j ∷ fs) ts (suc i) k f e p h = second_at fs ts i k f e p h
 second_at (One j ∷ fs) ts (suc i) k f e p h = inr (second_at fs ts i k f e p h)
 

@@ -15,6 +15,7 @@ use Rattle.edif_spec.specs.declared.fault.MeaningFault.TheVariants.{NotInProfile
 use Rattle.edif_spec.proofs.FaultForms.{filter_bare, map_length}
 use Rattle.edif_spec.proofs.KnownForms as known
 use Rattle.edif_grammar.specs.Forms.{HasOwnKind, Fits}
+pub use Rattle.edif_grammar.specs.Rules.{is_plain}
 
 -- What is wrong in a way of its own.
 own_misplaced : (kind : Kind) (r : Row) (t : Placed) → HasOwnKind (misplaced kind r t) → misplaced kind r t ≡ At kind (place_of t)
@@ -34,13 +35,7 @@ own_misplaced kind r (Form' p (More (Word' q name) ts)) h = absurd (go (row_has 
 plain_misplaced : (r : Row) (t : Placed) → HasOwnKind (misplaced BadForm r t) → ⊥
 plain_misplaced r t h = subst HasOwnKind (own_misplaced BadForm r t h) h
 
--- a second form of this keyword is a bad form, and no fault of its own kind
-abbrev pub is_plain : Keyword → Bool
-is_plain keywords.View = false
-is_plain keywords.Design = false
-is_plain k = true
-
-second_plain : (k : Keyword) (a b : Placed) → is_plain k ≡ true → second k a b ≡ At BadForm (place_of b)
+pub second_plain : (k : Keyword) (a b : Placed) → is_plain k ≡ true → second k a b ≡ At BadForm (place_of b)
 second_plain keywords.View a b h = absurd (cc h)
 second_plain keywords.Design a b h = absurd (cc h)
 second_plain _ a b h = refl

@@ -1,5 +1,5 @@
 -- A name spells no keyword whose spelling is longer or shorter.
-use Rattle.std.proofs.Common.{◌≡◌, ◌≢◌, ℕ, List, [], ◌∷◌, length, refl, sym, ap, ◌∙◌, Bool, true, false, ◌&&◌, nat_eq, Option, Some, None, suc, eq-eqb}
+use Rattle.std.proofs.Common.{◌≡◌, ℕ, List, [], ◌∷◌, length, refl, sym, ap, ◌∙◌, Bool, true, false, ◌&&◌, nat_eq, Some, suc, eq-eqb}
 use Rattle.std.specs.Prelude.{cond, filter}
 use Rattle.std.specs.Char.{to_ascii_lowercase}
 use Rattle.edif_spec.specs.Keyword.{first_spelled, keyword, all_keywords, same, spelling_of}

@@ -5,7 +5,7 @@ ghost use Rattle.edif_spec.specs.declared.keyword.Keyword.{Keyword};
 ghost use Rattle.edif_grammar.specs.declared.lent.Breach.{Breach};
 ghost use Rattle.edif_grammar.specs.Forms.{Fails, Fits, fault_of};
 
-/// A form with a breach fits under no keyword.
-pub fn breach_fits_not()
+/// No form fits, under any keyword, and fails.
+pub fn no_form_fits_and_fails()
     ensures { (parent : Option Keyword) (k : Keyword) (t : Placed) (b : Breach) → Fails parent t (fault_of b) → Fits parent k t → ⊥ }
 {}

@@ -10,7 +10,7 @@ mod rules;
 pub mod table;
 
 pub use kept::{EdifFormError, FormParts, form};
-pub use laws::breach_fits_not;
+pub use laws::no_form_fits_and_fails;
 pub use lent::{Breach, Parts, parts_of};
 pub use table::keyword;
 
