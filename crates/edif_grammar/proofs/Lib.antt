@@ -1,0 +1,9 @@
+pub mod Apart
+pub mod CheckLemmas
+pub mod FormLemmas
+pub mod KeywordLemmas
+pub mod LengthLemmas
+pub mod Misplaced
+pub mod NodeForms
+pub mod RuleLemmas
+pub mod StandLemmas

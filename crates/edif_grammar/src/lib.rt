@@ -1,8 +1,17 @@
-//! The table of forms: which keyword a name spells.
+//! The table of forms: which keyword a name spells, and how a form fits its row.
 #![tactic(auto)]
 
+mod checks;
+pub mod kept;
+pub mod laws;
+pub mod lent;
+mod nodes;
+mod rules;
 pub mod table;
 
+pub use kept::{EdifFormError, FormParts, form};
+pub use laws::no_form_fits_and_fails;
+pub use lent::{Breach, Parts, parts_of};
 pub use table::keyword;
 
 #[cfg(test)]

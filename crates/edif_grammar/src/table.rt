@@ -1,6 +1,7 @@
 //! The keywords and their spellings.
 ghost use Rattle.std.specs.Prelude.{◌≡◌, length};
-ghost use Rattle.edif_spec.specs.Keyword.{all_keywords, keyword, same, spelling_of};
+ghost use Rattle.edif_spec.specs.Keyword.{keyword, same, spelling_of};
+ghost use Rattle.edif_grammar.specs.Table.{as_long};
 
 use edif_spec::Keyword;
 use netlist_schema::Ident;
@@ -60,12 +61,20 @@ pub fn keyword(name: &Ident) -> Option<Keyword>
     ensures { result ≡ keyword name.now }
 {
     let name = name.as_slice();
-    for keyword in every_keyword() {
-        if is_same(name, spelling_of_keyword(keyword)) {
-            return Some(keyword);
+    let candidates = of_length(name.len());
+    for keyword in candidates {
+        if is_same(name, spelling_of_keyword(*keyword)) {
+            return Some(*keyword);
         }
     }
     None
+}
+
+/// Whether a name spells this keyword, ignoring the case of ASCII letters.
+pub fn is_spelled(name: &Ident, keyword: Keyword) -> bool
+    ensures { result ≡ same name.now (spelling_of keyword) }
+{
+    is_same(name.as_slice(), spelling_of_keyword(keyword))
 }
 
 /// How a keyword is spelled.
@@ -82,16 +91,29 @@ fn spelling_of_keyword(keyword: Keyword) -> &'static [u8]
     rows!(spelling!)
 }
 
-/// All keywords, in the order of the table.
-fn every_keyword() -> [Keyword; 42]
-    ensures { result ≡ all_keywords }
+/// The keywords whose spelling is so long, in the order of the table.
+fn of_length(length: usize) -> &'static [Keyword]
+    ensures { result.now ≡ as_long length }
 {
-    macro_rules! variants {
-        ($($variant:ident $spelling:expr,)*) => {
-            [$(Keyword::$variant,)*]
-        };
+    use Keyword::*;
+    match length {
+        1 => &[E],
+        3 => &[Net],
+        4 => &[Edif, Cell, View, Port, True, Path],
+        5 => &[Array, Owner, False],
+        6 => &[Joined, Member, Number, String, Design, Rename, Status],
+        7 => &[
+            Library, PortRef, ViewRef, CellRef, Boolean, Integer, Comment,
+        ],
+        8 => &[
+            External, CellType, ViewType, Contents, Instance, Property, UserData,
+        ],
+        9 => &[EdifLevel, Interface, Direction],
+        10 => &[KeywordMap, Technology, Designator, LibraryRef],
+        11 => &[EdifVersion, InstanceRef],
+        12 => &[KeywordLevel],
+        _ => &[],
     }
-    rows!(variants!)
 }
 
 /// Whether two spellings are equal when the case of ASCII letters is ignored.

@@ -4,4 +4,4 @@ use Rattle.edif_grammar.proofs.table.keyword.Given as goal
 
 -- the keywords that are left decide
 abbrev pub invariant-loop-keyword : goal.invariant-loop-keyword
-invariant-loop-keyword l = first_spelled l.name (drop l.keyword-index l.keyword-items) ≡ keyword l.name
+invariant-loop-keyword l = first_spelled l.name (drop l.keyword-index l.candidates) ≡ keyword l.name

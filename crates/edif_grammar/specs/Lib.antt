@@ -1,0 +1,5 @@
+pub mod Checks
+pub mod Forms
+pub mod Kept
+pub mod Rules
+pub mod Table
