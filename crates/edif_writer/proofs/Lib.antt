@@ -1,6 +1,9 @@
-pub mod WrittenLemmas
-pub mod SmallTexts
+pub mod ContentsTexts
 pub mod FormTexts
 pub mod ListTexts
-pub mod WholeTexts
 pub mod OneLeaf
+pub mod Places
+pub mod Renumbered
+pub mod SmallTexts
+pub mod WholeTexts
+pub mod WrittenLemmas

@@ -25,7 +25,7 @@ property_text level p =
     ∙ (ap (λ v. codes "(property" ++ v) (after_two a b (spaced level owner) (codes ")"))
     ∙ sym (small_form level keywords.Property (name_tree p.key ∷ value_tree p.value ∷ owner) refl))
 
-designator_text : (level : ℕ) (o : Option (List ℕ)) → enclosed (codes " (designator ") o ≡ spaced level (perhaps (text_tree keywords.Designator) o)
+pub designator_text : (level : ℕ) (o : Option (List ℕ)) → enclosed (codes " (designator ") o ≡ spaced level (perhaps (text_tree keywords.Designator) o)
 designator_text level None = refl
 designator_text level (Some text) = simp (append_assoc, append-nil)
 
@@ -56,7 +56,8 @@ interface_text c =
 view_parts : (s a t n i p c e : List ℕ) → s ++ (a ++ (t ++ (n ++ (i ++ (p ++ (c ++ e)))))) ≡ (((s ++ a) ++ (t ++ [])) ++ ((n ++ i) ++ (p ++ c))) ++ e
 view_parts s a t n i p c e = simp (append_assoc, append-nil)
 
-view_text : (libs : List design.Lib) (c : design.CellBody)
+-- the text of a view
+pub view_text : (libs : List design.Lib) (c : design.CellBody)
     → codes "(view " ++ (layout 5 (name_tree c.view) ++ (codes " (viewType NETLIST)\n    " ++ (layout 5 (interface_tree c) ++ (lined 4 (map property_tree c.view_properties)
     ++ (lined 4 (perhaps (contents_tree libs c.ports) c.contents) ++ codes ")"))))) ≡ layout 4 (view_tree libs c)
 view_text libs c =
@@ -67,15 +68,6 @@ view_text libs c =
     ap (λ v. codes "(view" ++ v) (view_parts (codes " ") a (codes " (viewType NETLIST)") (new_line 4) i (lined 4 properties) (lined 4 inside) (codes ")"))
     ∙ (ap (λ v. codes "(view" ++ ((((32 ∷ a) ++ (codes " (viewType NETLIST)" ++ [])) ++ ((new_line 4 ++ i) ++ v)) ++ codes ")")) (sym (lined-append 4 properties inside))
     ∙ sym (large_form 4 keywords.View (name_tree c.view ∷ make keywords.ViewType (word (codes "NETLIST") ∷ []) ∷ []) (interface_tree c ∷ (properties ++ inside)) refl))
-
--- the text of a leaf's view
-pub leaf_view_text : (libs : List design.Lib) (c : design.CellBody) → c.contents ≡ None
-    → codes "(view " ++ (layout 5 (name_tree c.view) ++ (codes " (viewType NETLIST)\n    " ++ (layout 5 (interface_tree c) ++ (lined 4 (map property_tree c.view_properties) ++ codes ")"))))
-    ≡ layout 4 (view_tree libs c)
-leaf_view_text libs c leaf =
-    ap (λ v. codes "(view " ++ (layout 5 (name_tree c.view) ++ (codes " (viewType NETLIST)\n    " ++ (layout 5 (interface_tree c) ++ (lined 4 (map property_tree c.view_properties) ++ (v ++ codes ")"))))))
-    (sym (ap (λ o. lined 4 (perhaps (contents_tree libs c.ports) o)) leaf))
-    ∙ view_text libs c
 
 cell_parts : (s a k p n v e : List ℕ) → s ++ (a ++ (s ++ (k ++ (p ++ (n ++ (v ++ e)))))) ≡ (((s ++ a) ++ ((s ++ k) ++ [])) ++ (p ++ ((n ++ v) ++ []))) ++ e
 cell_parts s a k p n v e = simp (append_assoc, append-nil)

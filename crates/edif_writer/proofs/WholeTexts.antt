@@ -1,5 +1,5 @@
 -- The texts of libraries and of whole designs.
-use Rattle.std.proofs.Common.{Option, ◌≡◌, ◌<◌, ◌+◌, ℕ, suc, pos, Bool, true, false, List, [], ◌∷◌, ◌++◌, length, map, take, Some, None, refl, ap, sym, ◌∙◌, append_assoc, append-nil, lit<, inl, inr, arith}
+use Rattle.std.proofs.Common.{Option, ◌≡◌, ◌<◌, ◌+◌, ℕ, suc, pos, Bool, true, false, List, [], ◌∷◌, ◌++◌, length, map, take, Some, refl, ap, sym, ◌∙◌, append_assoc, append-nil, lit<, inl, inr, arith}
 use Rattle.std.specs.Prelude.{codes, slice_get}
 use Rattle.std.proofs.lemmas.Fmt.{decimal_digit}
 use Rattle.std.proofs.lemmas.Option.{slice_get_cases}
@@ -67,15 +67,6 @@ design_text d =
     ∙ (ap (λ l. T (layout 2 version) l (codes "(keywordMap (keywordLevel 0))") (lined 1 (libs ++ top))) (sym level_line)
     ∙ (ap (λ k. T (layout 2 version) (layout 2 level) k (lined 1 (libs ++ top))) (sym map_line)
     ∙ ap (λ v. v ++ codes "\n") (sym (large_form 1 keywords.Edif (name_tree d.title ∷ []) (version ∷ level ∷ keyword_map ∷ (libs ++ top)) refl))))))
-
--- the text of a design without a top
-pub topless_text : (d : design.Design) → d.top ≡ None
-    → codes "(edif " ++ (layout 2 (name_tree d.title) ++ (codes "\n (edifVersion 2 0 0)\n (edifLevel 0)\n (keywordMap (keywordLevel 0))"
-    ++ (lined 1 (map (library_tree d.libs) d.libs) ++ codes ")\n"))) ≡ text d
-topless_text d none =
-    ap (λ v. codes "(edif " ++ (layout 2 (name_tree d.title) ++ (codes "\n (edifVersion 2 0 0)\n (edifLevel 0)\n (keywordMap (keywordLevel 0))" ++ (lined 1 (map (library_tree d.libs) d.libs) ++ (v ++ codes ")\n")))))
-    (sym (ap (λ o. lined 1 (perhaps (design_tree d.libs d.notes) o)) none))
-    ∙ design_text d
 
 -- of a list, one more line
 pub writes_line : {X K : Type 0} {written : K → Option (List ℕ)} {faults : K → ℕ} {j k l : K} {before page after : Page} (level : ℕ) (h : X → Bare) (xs : List X) (i : ℕ) → i < length xs

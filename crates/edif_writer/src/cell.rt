@@ -1,14 +1,15 @@
 //! Cells, with their ports.
-ghost use Rattle.std.specs.Prelude.{◌≡◌, ◌∷◌, [], ◌++◌, ℕ, List, Option, None, map};
+ghost use Rattle.std.specs.Prelude.{◌≡◌, ◌∷◌, [], ◌++◌, ℕ, IfSome, map};
 ghost use Rattle.edif_spec.specs.Canonical.{layout, perhaps, direction_tree, kind_word, port_name_tree, port_tree, interface_tree, view_tree, cell_tree};
-ghost use Rattle.edif_spec.specs.Design as design;
 ghost use Rattle.edif_writer.specs.Lines.{spaced, lined};
+ghost use Rattle.edif_writer.specs.Placed.{IsPlaced};
 ghost use Rattle.edif_writer.specs.Written.{Writes};
 
+use crate::contents::write_contents_line;
 use crate::page::Page;
 use crate::small::{write_name, write_properties, write_property_lines, write_text_form};
 use netdb_outside::Sink;
-use netlist_schema::{CellBody, CellKind, Direction, Name, Port, Row, Width};
+use netlist_schema::{CellBody, CellKind, Direction, Name, Port, Row, Shown, Width};
 use std::alloc::Global;
 
 /// The level of the properties of a cell.
@@ -103,23 +104,36 @@ fn write_interface<K: Sink>(alloc: Global, body: &CellBody, page: &mut Page, out
     page.put(b")", out);
 }
 
-/// Writes the view of a leaf cell.
-fn write_view<K: Sink>(alloc: Global, body: &CellBody, page: &mut Page, out: &mut K)
-    requires { body.now.contents ≡ None }
-    ensures { (libs : List design.Lib) → Writes K.written K.faults out.old page.old out.new page.new (layout 4 (view_tree libs body.now)) }
+/// Writes the view of a cell.
+fn write_view<S: Shown, K: Sink>(
+    alloc: Global,
+    design: &S,
+    body: &CellBody,
+    page: &mut Page,
+    out: &mut K,
+)
+    requires { IfSome body.now.contents (IsPlaced (S.design design.now) body.now.ports) }
+    ensures { Writes K.written K.faults out.old page.old out.new page.new (layout 4 (view_tree (S.design design.now).libs body.now)) }
 {
     page.put(b"(view ", out);
     write_name(alloc, &body.view, page, out);
     page.put(b" (viewType NETLIST)\n    ", out);
     write_interface(alloc, body, page, out);
     write_property_lines(alloc, VIEW_LEVEL, &body.view_properties, page, out);
+    write_contents_line(alloc, design, &body.ports, &body.contents, page, out);
     page.put(b")", out);
 }
 
-/// Writes a leaf cell.
-pub fn write_cell<K: Sink>(alloc: Global, body: &CellBody, page: &mut Page, out: &mut K)
-    requires { body.now.contents ≡ None }
-    ensures { (libs : List design.Lib) → Writes K.written K.faults out.old page.old out.new page.new (layout 3 (cell_tree libs body.now)) }
+/// Writes a cell.
+pub fn write_cell<S: Shown, K: Sink>(
+    alloc: Global,
+    design: &S,
+    body: &CellBody,
+    page: &mut Page,
+    out: &mut K,
+)
+    requires { IfSome body.now.contents (IsPlaced (S.design design.now) body.now.ports) }
+    ensures { Writes K.written K.faults out.old page.old out.new page.new (layout 3 (cell_tree (S.design design.now).libs body.now)) }
 {
     page.put(b"(cell ", out);
     write_name(alloc, &body.name, page, out);
@@ -128,6 +142,6 @@ pub fn write_cell<K: Sink>(alloc: Global, body: &CellBody, page: &mut Page, out:
     page.put(b")", out);
     write_property_lines(alloc, CELL_LEVEL, &body.properties, page, out);
     page.put(b"\n   ", out);
-    write_view(alloc, body, page, out);
+    write_view(alloc, design, body, page, out);
     page.put(b")", out);
 }

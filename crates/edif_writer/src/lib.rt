@@ -2,10 +2,13 @@
 #![tactic(auto)]
 
 mod cell;
+mod contents;
 pub mod error;
 mod library;
 mod page;
+mod reference;
 mod small;
+mod top;
 pub mod whole;
 
 pub use error::WriteError;

@@ -108,6 +108,13 @@ impl Page {
         self.put_integer(alloc, &i64::from(value), out);
     }
 
+    /// Tells that there was no memory. Nothing more is put.
+    pub fn run_out(&mut self)
+        ensures failure { self.new.failure ≡ Some WriteError.NoMemory }
+    {
+        self.failure = Some(WriteError::NoMemory);
+    }
+
     /// Puts what waits, where it is enough for a piece.
     fn pass_on<K: Sink>(&mut self, out: &mut K)
         ensures { Writes K.written K.faults out.old self.old out.new self.new [] }

@@ -92,7 +92,7 @@ pub fn write_text_form<K: Sink>(
 }
 
 /// Writes a property.
-fn write_property<K: Sink>(alloc: Global, property: &Property, page: &mut Page, out: &mut K)
+pub fn write_property<K: Sink>(alloc: Global, property: &Property, page: &mut Page, out: &mut K)
     ensures { (level : ℕ) → Writes K.written K.faults out.old page.old out.new page.new (layout level (property_tree property.now)) }
 {
     page.put(b"(property ", out);

@@ -1,8 +1,6 @@
 //! Whole designs.
 ghost use Rattle.std.specs.Prelude.{◌≡◌, ◌≤◌, OnErr, OnOk, IsErrOf};
 ghost use Rattle.edif_spec.specs.Arranged.{canonical_text};
-ghost use Rattle.edif_spec.specs.Canonical.{text};
-ghost use Rattle.edif_spec.specs.Plain.{IsPlainDesign};
 ghost use Rattle.edif_writer.specs.Written.{Writes};
 ghost use Rattle.edif_writer.specs.declared.error.WriteError.TheVariants.{WriteFault};
 ghost use Rattle.netdb_outside.specs.Outside.{Appends, AppendsFront, Rose};
@@ -11,12 +9,14 @@ use crate::error::WriteError;
 use crate::library::write_library_lines;
 use crate::page::Page;
 use crate::small::write_name;
+use crate::top::write_top_line;
 use netdb_outside::Sink;
 use netlist_schema::Shown;
 use std::alloc::Global;
 
-/// Writes the canonical text of a design, in pieces of some kilobytes: memory is wanted for a piece, and never for the whole
-/// text. The design is one of leaf cells with scalar ports.
+/// Writes the canonical text of a design, in pieces of some kilobytes: the cells of each library in arranged order, in which
+/// each comes after those that it places. Memory is wanted for a piece and for the order of a library, and never for the
+/// whole text.
 ///
 /// After an error a front of the text was written, and no more. `WriteFault` comes only where the sink had a fault.
 pub fn write_design<S: Shown, K: Sink>(
@@ -24,7 +24,6 @@ pub fn write_design<S: Shown, K: Sink>(
     design: &S,
     out: &mut K,
 ) -> Result<(), WriteError>
-    requires { IsPlainDesign (S.design design.now) }
     ensures ok { OnOk result (Appends (K.written out.old) (K.written out.new) (canonical_text (S.design design.now))) }
     ensures err { OnErr result (AppendsFront (K.written out.old) (K.written out.new) (canonical_text (S.design design.now))) }
     ensures fault { IsErrOf result WriteFault → Rose (K.faults out.old) (K.faults out.new) }
@@ -35,10 +34,9 @@ pub fn write_design<S: Shown, K: Sink>(
     page.finish(out)
 }
 
-/// Writes the text of a design, with its cells in the order of the directories.
+/// Writes the text of a design, with its cells in arranged order.
 fn write_file<S: Shown, K: Sink>(alloc: Global, design: &S, page: &mut Page, out: &mut K)
-    requires { IsPlainDesign (S.design design.now) }
-    ensures { Writes K.written K.faults out.old page.old out.new page.new (text (S.design design.now)) }
+    ensures { Writes K.written K.faults out.old page.old out.new page.new (canonical_text (S.design design.now)) }
 {
     page.put(b"(edif ", out);
     write_name(alloc, design.title(), page, out);
@@ -47,5 +45,6 @@ fn write_file<S: Shown, K: Sink>(alloc: Global, design: &S, page: &mut Page, out
         out,
     );
     write_library_lines(alloc, design, page, out);
+    write_top_line(alloc, design, page, out);
     page.put(b")\n", out);
 }

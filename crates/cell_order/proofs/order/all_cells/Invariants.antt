@@ -1,0 +1,6 @@
+use Rattle.std.proofs.Common.{◌≡◌}
+use Rattle.cell_order.specs.Desk.{first_cells}
+use Rattle.cell_order.proofs.order.all_cells.Given as goal
+
+abbrev pub invariant-loop-slot : goal.invariant-loop-slot
+invariant-loop-slot l = l.all.items ≡ first_cells l.slot

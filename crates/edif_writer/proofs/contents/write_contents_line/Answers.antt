@@ -1,0 +1,7 @@
+use Rattle.edif_writer.proofs.ContentsTexts.{contents_line_text}
+use Rattle.edif_writer.proofs.WrittenLemmas.{writes_then, writes_same}
+use Rattle.edif_writer.proofs.contents.write_contents_line.Goals as goal
+
+pub returns-in-Some : goal.returns-in-Some
+returns-in-Some g c = writes_same (contents_line_text (g.S.Shown.design c.args.design.now).libs c.args.own.now c.args.contents.now c.in-Some.contents c.in-Some.is)
+    (writes_then c.put.ensures (writes_then c.write_inst_lines.ensures (writes_then c.write_net_lines.ensures c.put-in-Some.ensures)))

@@ -1,0 +1,9 @@
+use Rattle.std.proofs.Common.{ℕ, map, take}
+use Rattle.edif_spec.specs.Canonical.{end_tree}
+use Rattle.edif_writer.specs.Lines.{spaced}
+use Rattle.edif_writer.specs.Written.{Writes}
+use Rattle.edif_writer.proofs.contents.write_ends.Given as goal
+
+abbrev pub invariant-loop-end : goal.invariant-loop-end
+invariant-loop-end g l = (level : ℕ) → Writes g.K.Sink.written g.K.Sink.faults l.fn.out l.fn.page l.out l.page
+    (spaced level (map (end_tree (g.S.Shown.design l.design).libs l.own l.insts) (take l.end-index l.end-items)))

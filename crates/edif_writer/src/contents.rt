@@ -1,0 +1,251 @@
+//! Contents: instances, and nets with their ends.
+ghost use Rattle.std.specs.Prelude.{◌≡◌, ℕ, List, All, IsSome, IfSome, map, slice_get};
+ghost use Rattle.std.specs.Option.{option_copied};
+ghost use Rattle.edif_spec.specs.Canonical.{layout, name_text, perhaps, inst_tree, bit_tree, port_ref_tree, ports_of_end, end_tree, net_tree, contents_tree};
+ghost use Rattle.edif_spec.specs.Design as design;
+ghost use Rattle.netlist_schema.specs.Hierarchy.{IsCell};
+ghost use Rattle.edif_writer.specs.Lines.{spaced, lined, instance_ref_tree};
+ghost use Rattle.edif_writer.specs.Placed.{HasInstAt, IsAt, IsPlaced};
+ghost use Rattle.edif_writer.specs.Written.{Writes};
+
+use crate::page::Page;
+use crate::reference::{write_cell_ref, write_view_id};
+use crate::small::{write_name, write_properties, write_text_form};
+use netdb_outside::Sink;
+use netlist_schema::{Contents, End, Inst, Net, Port, Row, Shown};
+use std::alloc::Global;
+
+/// The level of the instances and nets of contents.
+const CONTENTS_LEVEL: usize = 5;
+
+/// Writes an instance.
+fn write_inst<S: Shown, K: Sink>(
+    alloc: Global,
+    design: &S,
+    inst: &Inst,
+    page: &mut Page,
+    out: &mut K,
+)
+    requires { IsCell (S.design design.now) inst.now.of }
+    ensures { (level : ℕ) → Writes K.written K.faults out.old page.old out.new page.new (layout level (inst_tree (S.design design.now).libs inst.now)) }
+{
+    page.put(b"(instance ", out);
+    write_name(alloc, &inst.name, page, out);
+    page.put(b" (viewRef ", out);
+    write_view_id(alloc, design, inst.of, page, out);
+    page.put(b" ", out);
+    write_cell_ref(alloc, design, inst.of, page, out);
+    page.put(b")", out);
+    write_text_form(alloc, b" (designator ", &inst.designator, page, out);
+    write_properties(alloc, &inst.properties, page, out);
+    page.put(b")", out);
+}
+
+/// Writes instances on lines of their own.
+fn write_inst_lines<S: Shown, K: Sink>(
+    alloc: Global,
+    design: &S,
+    insts: &Row<Inst>,
+    page: &mut Page,
+    out: &mut K,
+)
+    requires { All (λ inst. IsCell (S.design design.now) inst.of) insts.now }
+    ensures { Writes K.written K.faults out.old page.old out.new page.new (lined 5 (map (inst_tree (S.design design.now).libs) insts.now)) }
+{
+    for inst in insts.as_slice() {
+        page.put_line(CONTENTS_LEVEL, out);
+        write_inst(alloc, design, inst, page, out);
+    }
+}
+
+/// The port of an end: among those of the cell itself, or of an instance's cell.
+fn port_of_end<'a, S: Shown>(
+    design: &'a S,
+    own: &'a Row<Port>,
+    insts: &Row<Inst>,
+    end: &End,
+) -> Option<&'a Port>
+    ensures { option_copied result ≡ slice_get (ports_of_end (S.design design.now).libs own.now insts.now end.now.inst) end.now.port }
+{
+    let port = end.port as usize;
+    match end.inst {
+        None => own.as_slice().get(port),
+        Some(place) => {
+            let Some(inst) = insts.as_slice().get(place as usize) else {
+                return None;
+            };
+            let Some(of) = design.cell(inst.of) else {
+                return None;
+            };
+            of.ports.as_slice().get(port)
+        }
+    }
+}
+
+/// Writes a bit of a port: a scalar port's by the port, an array's as a member.
+fn write_bit<K: Sink>(alloc: Global, port: &Port, bit: u32, page: &mut Page, out: &mut K)
+    ensures { (level : ℕ) → Writes K.written K.faults out.old page.old out.new page.new (layout level (bit_tree port.now.name.id port.now.array bit)) }
+{
+    match port.array {
+        None => page.put_ident(alloc, &port.name.id, out),
+        Some(_) => {
+            page.put(b"(member ", out);
+            page.put_ident(alloc, &port.name.id, out);
+            page.put(b" ", out);
+            page.put_number(alloc, bit, out);
+            page.put(b")", out);
+        }
+    }
+}
+
+/// Writes the bit of an end.
+fn write_end_bit<S: Shown, K: Sink>(
+    alloc: Global,
+    design: &S,
+    own: &Row<Port>,
+    insts: &Row<Inst>,
+    end: &End,
+    page: &mut Page,
+    out: &mut K,
+)
+    requires { IsAt (S.design design.now) own.now insts.now end.now }
+    ensures { (level : ℕ) → Writes K.written K.faults out.old page.old out.new page.new
+        (layout level (port_ref_tree (slice_get (ports_of_end (S.design design.now).libs own.now insts.now end.now.inst) end.now.port) end.now.bit)) }
+{
+    if let Some(port) = port_of_end(design, own, insts, end) {
+        write_bit(alloc, port, end.bit, page, out);
+    }
+}
+
+/// Writes a reference to an instance.
+fn write_inst_ref<K: Sink>(
+    alloc: Global,
+    insts: &Row<Inst>,
+    place: u32,
+    page: &mut Page,
+    out: &mut K,
+)
+    requires { IsSome (slice_get insts.now place) }
+    ensures { (level : ℕ) → Writes K.written K.faults out.old page.old out.new page.new (layout level (instance_ref_tree insts.now place)) }
+{
+    if let Some(inst) = insts.as_slice().get(place as usize) {
+        page.put(b"(instanceRef ", out);
+        page.put_ident(alloc, &inst.name.id, out);
+        page.put(b")", out);
+    }
+}
+
+/// Writes a reference to the instance of an end behind a blank, where the end is at one.
+fn write_end_inst<K: Sink>(
+    alloc: Global,
+    insts: &Row<Inst>,
+    place: Option<u32>,
+    page: &mut Page,
+    out: &mut K,
+)
+    requires { HasInstAt insts.now place }
+    ensures { (level : ℕ) → Writes K.written K.faults out.old page.old out.new page.new (spaced level (perhaps (instance_ref_tree insts.now) place)) }
+{
+    if let Some(place) = place {
+        page.put(b" ", out);
+        write_inst_ref(alloc, insts, place, page, out);
+    }
+}
+
+/// Writes an end.
+fn write_end<S: Shown, K: Sink>(
+    alloc: Global,
+    design: &S,
+    own: &Row<Port>,
+    insts: &Row<Inst>,
+    end: &End,
+    page: &mut Page,
+    out: &mut K,
+)
+    requires { IsAt (S.design design.now) own.now insts.now end.now }
+    ensures { (level : ℕ) → Writes K.written K.faults out.old page.old out.new page.new (layout level (end_tree (S.design design.now).libs own.now insts.now end.now)) }
+{
+    page.put(b"(portRef ", out);
+    write_end_bit(alloc, design, own, insts, end, page, out);
+    write_end_inst(alloc, insts, end.inst, page, out);
+    page.put(b")", out);
+}
+
+/// Writes the ends of a net on its line.
+fn write_ends<S: Shown, K: Sink>(
+    alloc: Global,
+    design: &S,
+    own: &Row<Port>,
+    insts: &Row<Inst>,
+    ends: &Row<End>,
+    page: &mut Page,
+    out: &mut K,
+)
+    requires { All (IsAt (S.design design.now) own.now insts.now) ends.now }
+    ensures { (level : ℕ) → Writes K.written K.faults out.old page.old out.new page.new (spaced level (map (end_tree (S.design design.now).libs own.now insts.now) ends.now)) }
+{
+    for end in ends.as_slice() {
+        page.put(b" ", out);
+        write_end(alloc, design, own, insts, end, page, out);
+    }
+}
+
+/// Writes a net.
+fn write_net<S: Shown, K: Sink>(
+    alloc: Global,
+    design: &S,
+    own: &Row<Port>,
+    insts: &Row<Inst>,
+    net: &Net,
+    page: &mut Page,
+    out: &mut K,
+)
+    requires { All (IsAt (S.design design.now) own.now insts.now) net.now.ends }
+    ensures { (level : ℕ) → Writes K.written K.faults out.old page.old out.new page.new (layout level (net_tree (S.design design.now).libs own.now insts.now net.now)) }
+{
+    page.put(b"(net ", out);
+    write_name(alloc, &net.name, page, out);
+    page.put(b" (joined", out);
+    write_ends(alloc, design, own, insts, &net.ends, page, out);
+    page.put(b")", out);
+    write_properties(alloc, &net.properties, page, out);
+    page.put(b")", out);
+}
+
+/// Writes nets on lines of their own.
+fn write_net_lines<S: Shown, K: Sink>(
+    alloc: Global,
+    design: &S,
+    own: &Row<Port>,
+    contents: &Contents,
+    page: &mut Page,
+    out: &mut K,
+)
+    requires { IsPlaced (S.design design.now) own.now contents.now }
+    ensures { Writes K.written K.faults out.old page.old out.new page.new (lined 5 (map (net_tree (S.design design.now).libs own.now contents.now.insts) contents.now.nets)) }
+{
+    for net in contents.nets.as_slice() {
+        page.put_line(CONTENTS_LEVEL, out);
+        write_net(alloc, design, own, &contents.insts, net, page, out);
+    }
+}
+
+/// Writes contents on a line of their own, where there are any.
+pub fn write_contents_line<S: Shown, K: Sink>(
+    alloc: Global,
+    design: &S,
+    own: &Row<Port>,
+    contents: &Option<Contents>,
+    page: &mut Page,
+    out: &mut K,
+)
+    requires { IfSome contents.now (IsPlaced (S.design design.now) own.now) }
+    ensures { Writes K.written K.faults out.old page.old out.new page.new (lined 4 (perhaps (contents_tree (S.design design.now).libs own.now) contents.now)) }
+{
+    if let Some(contents) = contents {
+        page.put(b"\n    (contents", out);
+        write_inst_lines(alloc, design, &contents.insts, page, out);
+        write_net_lines(alloc, design, own, contents, page, out);
+        page.put(b")", out);
+    }
+}
