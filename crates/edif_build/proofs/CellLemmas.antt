@@ -1,0 +1,261 @@
+-- Types of cells and of views, views and cells, from their parts.
+use Rattle.std.proofs.Common.{◌≡◌, ℕ, suc, ◌+◌, ◌<◌, ◌≤◌, List, [], ◌∷◌, ◌++◌, map, length, take, drop, get_or, refl, ap, sym, ◌∙◌, subst, ◌⊎◌, inl, inr, Bool, true, false, Option, Some, None, arith}
+use Rattle.std.specs.Prelude.{IsTrue, cond, slice_get, sum_by, option_map}
+use Rattle.std.specs.List.{All, AllByRecursion, flat_map}
+use Rattle.std.proofs.lemmas.List.Elements.{All-from_recursion}
+use Rattle.netlist_schema.specs.Design.{insts_of, nets_of, ends_of, insts_in, nets_in}
+use Rattle.netlist_schema.specs.Names.{AreDistinct, HasDistinctKeys}
+use Rattle.netlist_schema.specs.Typed.{IsTypedName, IsTypedProperty, IsTypedInst, IsTypedNet}
+use Rattle.spelling_spec.specs.Tree.{Bare, Placed, Form', Word', Integer', String', End, More, word, bare}
+use Rattle.edif_spec.specs.Keyword.{same, row, Takes, Choice, Follower, Many, One, name_definition, identifier, the}
+use Rattle.edif_spec.specs.Rows.{has_keyword, those, is_one_of, IsFormOf, Each, Perhaps, Just}
+use Rattle.edif_spec.specs.Canonical.{kind_word}
+use Rattle.edif_spec.specs.Design as design
+use Rattle.edif_spec.specs.Means.{IsNetlist, MeansCell, MeansContents, MeansKind, MeansName, MeansPort, MeansProperties, MeansView}
+use Rattle.edif_spec.specs.Faults.{AtTwo, Among, place_of, arguments, defined, fixed_count, followers, name_of, parts, those_of, token_kind, InPart}
+use Rattle.edif_spec.specs.Stands.{CellTypeFault, ContentsFault, TypeFault, ViewFault, CellFault, is_cell_type, is_netlist, ports_in}
+use Rattle.edif_spec.specs.declared.keyword.Keyword.{Keyword}
+use Rattle.edif_spec.specs.declared.keyword.Keyword.TheVariants as keywords
+use Rattle.edif_spec.specs.declared.fault.ClashKind.TheVariants.{SecondView}
+use Rattle.edif_spec.specs.declared.fault.Kind.TheVariants.{BadForm, NotNetlist}
+use Rattle.edif_spec.specs.declared.fault.MeaningFault.{MeaningFault}
+use Rattle.edif_spec.specs.declared.fault.MeaningFault.TheVariants.{At, Clash}
+use Rattle.edif_spec.proofs.FaultForms.{filter_bare}
+use Rattle.edif_spec.proofs.KnownCells.{FineInside, parts_bare}
+use Rattle.edif_spec.proofs.KnownForms.{differ_distinct}
+use Rattle.edif_spec.proofs.KnownRows.{follow_none}
+use Rattle.edif_tree.specs.Nodes as nodes
+use Rattle.edif_tree.specs.declared.node.NodeId.{NodeId}
+use Rattle.edif_build.specs.Cells.{IsSoundCell, OneNode, ReadCell, ReadOnce, ReadView, ViewsFault, body_of, contents_of, names_of}
+use Rattle.edif_grammar.specs.Forms.{Stand}
+use Rattle.edif_contents.specs.Insides.{ReadContents}
+use Rattle.edif_parts.specs.Parts.{ArePartsOf}
+use Rattle.edif_build.specs.declared.cells.CellAt.{CellAt}
+use Rattle.edif_build.specs.declared.cells.View.{View}
+use Rattle.edif_contents.specs.declared.contents.Inside.{Inside}
+use Rattle.edif_grammar.specs.declared.lent.Parts.{Parts}
+use Rattle.edif_parts.specs.declared.names.NameAt.{NameAt}
+use Rattle.edif_contents.proofs.FixedNodes.{HasTwo}
+use Rattle.edif_grammar.proofs.FormLemmas.{Fixed2, Fixed3, are_plain, fit3, fit_cell}
+use Rattle.edif_contents.proofs.RefLemmas.{place_same}
+use Rattle.edif_grammar.proofs.StandLemmas.{stand_length, stand_tree}
+use Rattle.edif_parts.proofs.Steps.{Step, here, kept, skipped}
+
+-- types
+pub kind_means : (t a : Placed) (w : List ℕ) (p : ℕ) (k : design.CellKind) → IsFormOf keywords.CellType (bare t) (bare a ∷ []) (map bare (followers keywords.CellType t)) → a ≡ Word' p w → IsTrue (same w (kind_word k)) → MeansKind (bare t) k
+kind_means t a w p k f e h =
+    let g : IsFormOf keywords.CellType (bare t) (bare a ∷ []) [] = follow_none keywords.CellType (identifier ∷ []) (bare t) (bare a ∷ []) (map bare (followers keywords.CellType t)) refl f in
+    let P : Placed → Type 0 = λ v. IsFormOf keywords.CellType (bare t) (bare v ∷ []) [] in
+    (w, subst P e g, h)
+
+pub kind_fails : (t a : Placed) (w : List ℕ) (p : ℕ) → slice_get (arguments t) 0 ≡ Some a → a ≡ Word' p w → is_cell_type w ≡ false → CellTypeFault t (At BadForm p)
+kind_fails t a w p g e n = inr (a, g, (w, p, e, n, refl))
+
+pub netlist_means : (t a : Placed) (w : List ℕ) (p : ℕ) → IsFormOf keywords.ViewType (bare t) (bare a ∷ []) (map bare (followers keywords.ViewType t)) → a ≡ Word' p w → is_netlist w ≡ true → IsNetlist (bare t)
+netlist_means t a w p f e h =
+    let g : IsFormOf keywords.ViewType (bare t) (bare a ∷ []) [] = follow_none keywords.ViewType (identifier ∷ []) (bare t) (bare a ∷ []) (map bare (followers keywords.ViewType t)) refl f in
+    let P : Placed → Type 0 = λ v. IsFormOf keywords.ViewType (bare t) (bare v ∷ []) [] in
+    (w, subst P e g, h)
+
+pub netlist_fails : (t a : Placed) (w : List ℕ) (p : ℕ) → slice_get (arguments t) 0 ≡ Some a → a ≡ Word' p w → is_netlist w ≡ false → TypeFault t (At NotNetlist p)
+netlist_fails t a w p g e n = inr (a, g, (w, p, e, n, refl))
+
+-- three fixed arguments, and their nodes
+pub record HasThree (rows : List nodes.Row) (k : Keyword) (c e g : List Choice) (t : Placed) (ids : List NodeId) : Type 0 where
+  pub fit : Fixed3 k c e g t
+  pub count : 2 < length ids
+  pub first : (d : NodeId) → nodes.IsAt rows (get_or ids 0 d) fit.a
+  pub second : (d : NodeId) → nodes.IsAt rows (get_or ids 1 d) fit.b
+  pub third : (d : NodeId) → nodes.IsAt rows (get_or ids 2 d) fit.x
+
+pub three_of : (rows : List nodes.Row) (parent k : Keyword) (c e g : List Choice) (fs : List Follower) (t : Placed) (p : Parts) → row k ≡ Takes (c ∷ e ∷ g ∷ []) fs → token_kind k ≡ BadForm → are_plain fs ≡ true → ArePartsOf rows parent k t p → HasThree rows k c e g t p.fixed.now
+three_of rows parent k c e g fs t p r b o h =
+    let f = fit3 (Some parent) k c e g fs t r b o h.fits in
+    let us : List Placed = f.a ∷ f.b ∷ f.x ∷ [] in
+    let P : List Placed → Type 0 = λ v. Stand rows p.fixed.now v in
+    let s : Stand rows p.fixed.now us = subst P f.fixed h.fixed in
+    let l : length p.fixed.now ≡ 3 = stand_length rows p.fixed.now us s in
+    record { fit = f; count = omega (arith, l); first = λ d. stand_tree rows p.fixed.now us 0 d f.a s refl; second = λ d. stand_tree rows p.fixed.now us 1 d f.b s refl; third = λ d. stand_tree rows p.fixed.now us 2 d f.x s refl }
+
+-- those of a cell with one view
+pub cell_nodes : (rows : List nodes.Row) (parent : Keyword) (t u : Placed) (p : Parts) → ArePartsOf rows parent keywords.Cell t p → those_of keywords.View (followers keywords.Cell t) ≡ u ∷ [] → HasTwo rows keywords.Cell name_definition (the keywords.CellType) t p.fixed.now
+cell_nodes rows parent t u p h e =
+    let one : length (those_of keywords.View (followers keywords.Cell t)) ≡ 1 = ap length e in
+    let f = fit_cell (Some parent) t h.fits (omega (arith, one)) in
+    let us : List Placed = f.a ∷ f.b ∷ [] in
+    let P : List Placed → Type 0 = λ v. Stand rows p.fixed.now v in
+    let s : Stand rows p.fixed.now us = subst P f.fixed h.fixed in
+    let l : length p.fixed.now ≡ 2 = stand_length rows p.fixed.now us s in
+    record { fit = f; count = omega (arith, l); first = λ d. stand_tree rows p.fixed.now us 0 d f.a s refl; second = λ d. stand_tree rows p.fixed.now us 1 d f.b s refl }
+
+-- one form among others, or none
+pub read_none : {A : Type 0} (R : Placed → A → Type 0) (us : List Placed) → us ≡ [] → ReadOnce R us None
+read_none R us e = let P : List Placed → Type 0 = λ v. ReadOnce R v None in subst P (sym e) tt
+
+pub read_one : {A : Type 0} (R : Placed → A → Type 0) (us : List Placed) (t : Placed) (x : A) → us ≡ t ∷ [] → R t x → ReadOnce R us (Some x)
+read_one R us t x e r = let P : List Placed → Type 0 = λ v. ReadOnce R v (Some x) in subst P (sym e) r
+
+-- the view of a cell, as its followers are gone over
+pub first_view : {rows : List nodes.Row} {id : NodeId} (ts : List Placed) (i : ℕ) (s : Step rows ts i id) → OneNode rows (those_of keywords.View (take i ts)) None → has_keyword keywords.View (bare s.tree) ≡ true → OneNode rows (those_of keywords.View (take (suc i) ts)) (Some id)
+first_view ts i s o h = (s.tree, kept keywords.View ts i s h ∙ ap (λ v. v ++ s.tree ∷ []) o, s.at)
+
+pub no_view : {rows : List nodes.Row} {id : NodeId} (ts : List Placed) (i : ℕ) (s : Step rows ts i id) (o : Option NodeId) → OneNode rows (those_of keywords.View (take i ts)) o → has_keyword keywords.View (bare s.tree) ≡ false → OneNode rows (those_of keywords.View (take (suc i) ts)) o
+no_view {rows} ts i s o h n = let P : List Placed → Type 0 = λ v. OneNode rows v o in subst P (sym (skipped keywords.View ts i s n)) h
+
+pub second_view : {rows : List nodes.Row} {id : NodeId} (ts : List Placed) (i : ℕ) (s : Step rows ts i id) (first : NodeId) (at place earlier : ℕ) → OneNode rows (those_of keywords.View (take i ts)) (Some first) → has_keyword keywords.View (bare s.tree) ≡ true
+    → place ≡ nodes.place_of s.tree → ((t : Placed) → nodes.IsAt rows first t → earlier ≡ nodes.place_of t) → ViewsFault (those_of keywords.View ts) at (Clash SecondView place earlier)
+second_view ts i s first at place earlier o h p q =
+    let w : those_of keywords.View ts ≡ o.0 ∷ s.tree ∷ those_of keywords.View (drop (suc i) ts) = here keywords.View ts i s h ∙ ap (λ v. v ++ s.tree ∷ those_of keywords.View (drop (suc i) ts)) o.1 in
+    let a : place ≡ place_of s.tree = p ∙ place_same s.tree in
+    let b : earlier ≡ place_of o.0 = q o.0 o.2 ∙ place_same o.0 in
+    let P : List Placed → Type 0 = λ v. AtTwo (λ x y. Clash SecondView place earlier ≡ Clash SecondView (place_of y) (place_of x)) v in
+    inl (subst P (sym w) (inl (inl (λ j. Clash SecondView (a j) (b j)))))
+
+-- what is among the views is a view
+those_views : (ts : List Placed) → AllByRecursion (λ u. has_keyword keywords.View (bare u) ≡ true) (those_of keywords.View ts)
+those_views [] = tt
+those_views (t ∷ ts) = go (has_keyword keywords.View (bare t)) refl (those_views ts)
+  where
+    go : (b : Bool) → has_keyword keywords.View (bare t) ≡ b → AllByRecursion (λ u. has_keyword keywords.View (bare u) ≡ true) (those_of keywords.View ts)
+        → AllByRecursion (λ u. has_keyword keywords.View (bare u) ≡ true) (cond b (t ∷ those_of keywords.View ts) (those_of keywords.View ts))
+    go true e h = (e, h)
+    go false e h = h
+
+pub is_view : (ts : List Placed) (u : Placed) → those_of keywords.View ts ≡ u ∷ [] → has_keyword keywords.View (bare u) ≡ true
+is_view ts u e = let P : List Placed → Type 0 = λ v. AllByRecursion (λ u. has_keyword keywords.View (bare u) ≡ true) v in let h = subst P e (those_views ts) in h.0
+
+-- a form defines what its first argument names
+pub defined_first : (t u : Placed) → slice_get (arguments t) 0 ≡ Some u → defined t ≡ name_of u
+defined_first (Form' p (More k (More v vs))) u e = let w : v ≡ u = cc e in ap name_of w
+defined_first (Form' p (More k End)) u e = absurd (cc e)
+defined_first (Form' p End) u e = absurd (cc e)
+defined_first (Word' p w) u e = absurd (cc e)
+defined_first (Integer' p z) u e = absurd (cc e)
+defined_first (String' p s) u e = absurd (cc e)
+
+-- what is wrong with the views is wrong with the cell
+pub views_fail : (libs : List design.Lib) (own : Option ℕ) (t : Placed) (place : ℕ) (f : MeaningFault) → place ≡ place_of t → ViewsFault (those_of keywords.View (followers keywords.Cell t)) place f → CellFault libs own t f
+views_fail libs own t place f e (inl b) = inl (inr (inr (inl b)))
+views_fail libs own t place f e (inr b) = inr (inr (inr (inr (inl (b.0, b.1 ∙ ap (λ v. At BadForm v) e)))))
+
+pub view_fails_there : (libs : List design.Lib) (own : Option ℕ) (t u : Placed) (f : MeaningFault) → those_of keywords.View (followers keywords.Cell t) ≡ u ∷ [] → ViewFault libs own u f → CellFault libs own t f
+view_fails_there libs own t u f e b = let P : List Placed → Type 0 = λ v. Among (ViewFault libs own) v f in inr (inr (inr (inl (subst P (sym e) (inl b)))))
+
+-- what is wrong with the contents is wrong with the view
+pub inside_fails : (libs : List design.Lib) (own : Option ℕ) (t u : Placed) (ports : List design.Port) (f : MeaningFault) → slice_get (arguments t) 2 ≡ Some u → Each MeansPort (those keywords.Port (map bare (followers keywords.Interface u))) ports
+    → Among (ContentsFault libs own ports) (those_of keywords.Contents (followers keywords.View t)) f → ViewFault libs own t f
+inside_fails libs own t u ports f g m b =
+    let P : List Bare → Type 0 = λ v. Each MeansPort v ports in
+    inr (inr (inr (inr (inl (u, ports, g, subst P (sym (parts_bare keywords.Interface keywords.Port u)) m, b)))))
+
+-- what is inside a cell
+inside_means : (libs : List design.Lib) (own : Option ℕ) (ports : List design.Port) (us : List Placed) (o : Option Inside) → ReadOnce (ReadContents libs own ports) us o → Perhaps (MeansContents libs own ports) (map bare us) (contents_of o)
+inside_means libs own ports [] None h = tt
+inside_means libs own ports [] (Some x) h = absurd h
+inside_means libs own ports (t ∷ []) None h = absurd h
+inside_means libs own ports (t ∷ []) (Some x) h = h.mean
+inside_means libs own ports (t ∷ u ∷ us) None h = absurd h
+inside_means libs own ports (t ∷ u ∷ us) (Some x) h = absurd h
+
+pub inside_names : (libs : List design.Lib) (own : Option ℕ) (ports : List design.Port) (us : List Placed) (o : Option Inside) → ReadOnce (ReadContents libs own ports) us o → names_of o ≡ design.inst_ids (insts_in (contents_of o))
+inside_names libs own ports us None h = refl
+inside_names libs own ports [] (Some x) h = absurd h
+inside_names libs own ports (t ∷ []) (Some x) h = h.names
+inside_names libs own ports (t ∷ u ∷ us) (Some x) h = absurd h
+
+inside_fine : (libs : List design.Lib) (own : Option ℕ) (ports : List design.Port) (us : List Placed) (o : Option Inside) → ReadOnce (ReadContents libs own ports) us o → FineInside (insts_in (contents_of o)) (nets_in (contents_of o))
+inside_fine libs own ports us None h = record {
+  insts_count = omega arith;
+  nets_count = omega arith;
+  ends_count = omega arith;
+  inst_names = differ_distinct [] tt;
+  net_names = differ_distinct [] tt;
+  inst_keys = All-from_recursion (λ (i : design.Inst). HasDistinctKeys i.properties) [] tt;
+  net_keys = All-from_recursion (λ (n : design.Net). HasDistinctKeys n.properties) [] tt;
+  joined_once = differ_distinct [] tt;
+  insts_typed = All-from_recursion IsTypedInst [] tt;
+  nets_typed = All-from_recursion IsTypedNet [] tt;
+}
+inside_fine libs own ports [] (Some x) h = absurd h
+inside_fine libs own ports (t ∷ u ∷ us) (Some x) h = absurd h
+inside_fine libs own ports (t ∷ []) (Some x) h = record {
+  insts_count = h.insts;
+  nets_count = h.nets;
+  ends_count = h.ends;
+  inst_names = h.inst_names;
+  net_names = h.net_names;
+  inst_keys = h.inst_keys;
+  net_keys = h.net_keys;
+  joined_once = h.joined_once;
+  insts_typed = h.typed.insts;
+  nets_typed = h.typed.nets;
+}
+
+-- A view says the same of its cell whatever the cell's name, type and properties.
+pub view_means : (libs : List design.Lib) (own : Option ℕ) (u : Placed) (v : View) (n : design.Name) (k : design.CellKind) (ps : List design.Property) → ReadView libs own u v → MeansView libs own (bare u) (body_of v n k ps)
+view_means libs own u v n k ps r =
+    let P : List Bare → Type 0 = λ w. Perhaps (MeansContents libs own v.interface.ports) w (contents_of v.inside) in
+    record {
+      name_part = bare r.name_part;
+      type_part = bare r.type_part;
+      interface_part = bare r.interface_part;
+      inner = map bare (followers keywords.View u);
+      form = r.form;
+      name = r.name;
+      netlist = r.netlist;
+      interface = record { inner = map bare (followers keywords.Interface r.interface_part); form = r.interface.form; ports = r.interface.ports; properties = r.interface.properties };
+      contents = subst P (filter_bare (has_keyword keywords.Contents) (followers keywords.View u)) (inside_means libs own v.interface.ports (those_of keywords.Contents (followers keywords.View u)) v.inside r.inside);
+      properties = r.properties;
+    }
+
+pub view_names : (libs : List design.Lib) (own : Option ℕ) (u : Placed) (v : View) → ReadView libs own u v → names_of v.inside ≡ design.inst_ids (insts_in (contents_of v.inside))
+view_names libs own u v r = inside_names libs own v.interface.ports (those_of keywords.Contents (followers keywords.View u)) v.inside r.inside
+
+sound_body : (libs : List design.Lib) (own : Option ℕ) (u : Placed) (v : View) (n : design.Name) (k : design.CellKind) (ps : List design.Property) → ReadView libs own u v → IsTypedName n → All IsTypedProperty ps → HasDistinctKeys ps → IsSoundCell (body_of v n k ps)
+sound_body libs own u v n k ps r tn tp d =
+    let i : FineInside (insts_of (body_of v n k ps)) (nets_of (body_of v n k ps)) = inside_fine libs own v.interface.ports (those_of keywords.Contents (followers keywords.View u)) v.inside r.inside in
+    record {
+      typed = record { name = tn; properties = tp; view = r.typed_name; view_properties = r.typed; interface_properties = r.interface.typed_properties; ports = r.interface.typed; insts = i.insts_typed; nets = i.nets_typed };
+      limits = record { ports = r.interface.count; bits = r.interface.bits; insts = i.insts_count; nets = i.nets_count; ends = i.ends_count };
+      names = record {
+        ports = r.interface.distinct;
+        insts = i.inst_names;
+        nets = i.net_names;
+        properties = d;
+        view_properties = r.keys;
+        interface_properties = r.interface.keys;
+        port_properties = r.interface.port_keys;
+        inst_properties = i.inst_keys;
+        net_properties = i.net_keys;
+      };
+      joined_once = i.joined_once;
+    }
+
+-- a cell, from its parts
+pub cell_means : (libs : List design.Lib) (own : Option ℕ) (t u : Placed) (f : Fixed2 keywords.Cell name_definition (the keywords.CellType) t) (n : NameAt) (k : design.CellKind) (ps : List design.Property) (v : View) (c : CellAt)
+    → MeansName (bare f.a) n.name × IsTypedName n.name × (name_of f.a ≡ Some (n.name.id, n.place)) → MeansKind (bare f.b) k → those_of keywords.View (followers keywords.Cell t) ≡ u ∷ [] → ReadView libs own u v
+    → MeansProperties (map bare (followers keywords.Cell t)) ps × All IsTypedProperty ps × HasDistinctKeys ps → defined t ≡ name_of f.a → c.cell ≡ body_of v n.name k ps → c.place ≡ n.place → ReadCell libs own t c
+cell_means libs own t u f n k ps v c nm km e r pm d ce pe =
+    let body : design.CellBody = body_of v n.name k ps in
+    let P : List Bare → Type 0 = λ w. Just (λ x b. MeansView libs own x b) w body in
+    let Q : design.CellBody → Type 0 = λ w. MeansCell libs own (bare t) w in
+    let R : design.CellBody → Type 0 = IsSoundCell in
+    let w : bare u ∷ [] ≡ those keywords.View (map bare (followers keywords.Cell t)) = ap (map bare) (sym e) ∙ filter_bare (has_keyword keywords.View) (followers keywords.Cell t) in
+    let m : MeansCell libs own (bare t) body = record {
+      name_part = bare f.a;
+      kind_part = bare f.b;
+      inner = map bare (followers keywords.Cell t);
+      form = f.form;
+      name = nm.0;
+      kind = km;
+      view = subst P w (view_means libs own u v n.name k ps r);
+      properties = pm.0;
+    } in
+    record {
+      mean = subst Q (sym ce) m;
+      sound = subst R (sym ce) (sound_body libs own u v n.name k ps r nm.1 pm.1 pm.2);
+      place = d ∙ nm.2 ∙ (λ i. Some (name_is i, sym pe i));
+    }
+  where
+    name_is : n.name.id ≡ c.cell.name.id
+    name_is = sym (ap (λ (b : design.CellBody). b.name.id) ce)

@@ -1,0 +1,210 @@
+-- The form of a file: its design, its libraries and its top.
+use Rattle.std.proofs.Common.{◌≡◌, ℕ, zero, suc, ◌+◌, ◌<◌, ◌≤◌, List, [], ◌∷◌, ◌++◌, map, length, take, drop, get_or, refl, ap, sym, ◌∙◌, subst, ◌⊎◌, inl, inr, Bool, true, false, Option, Some, None, arith, append-nil, add-one}
+use Rattle.std.specs.Prelude.{cond, filter, slice_get, ◌||◌}
+use Rattle.spelling_spec.specs.Tree.{Bare, Placed, bare}
+use Rattle.edif_spec.specs.Keyword.{name_definition, row, the}
+use Rattle.edif_spec.specs.Rows.{EachAfter, has_keyword}
+use Rattle.edif_spec.specs.Means.{MeansLibrary, is_library}
+use Rattle.edif_spec.specs.Faults.{AtTwo, Among, arguments, fixed_count, followers, misplaced, place_of, row_has, those_of, RowFault}
+use Rattle.edif_spec.specs.Stands.{DesignFault, FileFault, Stands, before_the_design, file_row, libraries}
+use Rattle.edif_spec.specs.Design as design
+use Rattle.edif_spec.specs.declared.keyword.Keyword.{Keyword}
+use Rattle.edif_spec.specs.declared.keyword.Keyword.TheVariants as keywords
+use Rattle.edif_spec.specs.declared.fault.ClashKind.TheVariants.{SecondDesign}
+use Rattle.edif_spec.specs.declared.fault.Kind.TheVariants.{BadForm}
+use Rattle.edif_spec.specs.declared.fault.MeaningFault.{MeaningFault}
+use Rattle.edif_spec.specs.declared.fault.MeaningFault.TheVariants.{Clash}
+use Rattle.edif_spec.proofs.FaultForms.{map_length}
+use Rattle.edif_spec.proofs.FileFaultsApart.{front_after}
+use Rattle.edif_spec.proofs.KnownForms.{form_choice}
+use Rattle.edif_spec.proofs.Once.{each_after_once}
+use Rattle.edif_spec.proofs.OnceFile.{library_once}
+use Rattle.edif_tree.specs.Nodes as nodes
+use Rattle.edif_tree.specs.declared.node.NodeId.{NodeId}
+use Rattle.edif_tree.proofs.OneTree.{one_at}
+use Rattle.edif_build.specs.Files.{DesignAt, FollowersFail, HasFixed, ReadFollowers, ReadForm, ReadRoot, SecondDesigns, TopIs}
+use Rattle.edif_grammar.specs.Forms.{Fails, Fits, HasParts, Stand}
+use Rattle.edif_contents.specs.Known.{KnownLibs}
+use Rattle.edif_build.specs.Libraries.{FailsIn, LibsAre, LibsFail}
+use Rattle.edif_build.specs.Notes.{ReadTop}
+use Rattle.edif_grammar.specs.declared.lent.Parts.{Parts}
+use Rattle.edif_build.specs.declared.top.Top.{Top}
+use Rattle.edif_grammar.proofs.FormLemmas.{fit_edif}
+use Rattle.edif_grammar.proofs.KeywordLemmas.{fits_as, keyword_is, file_breach, one_keyword}
+use Rattle.edif_parts.proofs.NameLists.{none_distinct}
+use Rattle.edif_contents.proofs.RefLemmas.{place_same}
+use Rattle.edif_grammar.proofs.StandLemmas.{stand_read}
+use Rattle.edif_parts.proofs.Steps.{Step, here, kept, skipped, step_at}
+
+-- the design so far
+abbrev pub FoundSo : List Placed → ℕ → Option ℕ → Type 0
+FoundSo ts i None = those_of keywords.Design (take i ts) ≡ []
+FoundSo ts i (Some j) = (t : Placed) × (slice_get ts j ≡ Some t) × (those_of keywords.Design (take j ts) ≡ []) × (those_of keywords.Design (take i ts) ≡ t ∷ []) × (j < i)
+
+pub design_skipped : {rows : List nodes.Row} {id : NodeId} (ts : List Placed) (i : ℕ) (s : Step rows ts i id) (o : Option ℕ) → has_keyword keywords.Design (bare s.tree) ≡ false → FoundSo ts i o → FoundSo ts (suc i) o
+design_skipped ts i s None n h = skipped keywords.Design ts i s n ∙ h
+design_skipped ts i s (Some j) n h = let l : j < i = h.4 in (h.0, h.1, h.2, skipped keywords.Design ts i s n ∙ h.3, omega (arith, l))
+
+pub design_here : {rows : List nodes.Row} {id : NodeId} (ts : List Placed) (i : ℕ) (s : Step rows ts i id) → slice_get ts i ≡ Some s.tree → has_keyword keywords.Design (bare s.tree) ≡ true → FoundSo ts i None → FoundSo ts (suc i) (Some i)
+design_here ts i s g h e = (s.tree, g, e, kept keywords.Design ts i s h ∙ ap (λ v. v ++ s.tree ∷ []) e, omega arith)
+
+pub step_get : (rows : List nodes.Row) (ids : List NodeId) (ts : List Placed) (i : ℕ) (d : NodeId) (s : Step rows ts i (get_or ids i d)) → Stand rows ids ts → i < length ids → slice_get ts i ≡ Some s.tree
+step_get rows ids ts i d s h l = let r = stand_read rows ids ts i d h l in r.1 ∙ ap Some (one_at r.0 s.tree rows (get_or ids i d) r.2 s.at)
+
+pub design_again : {rows : List nodes.Row} {id : NodeId} (ts : List Placed) (i j place earlier : ℕ) (s : Step rows ts i id) → has_keyword keywords.Design (bare s.tree) ≡ true → (h : FoundSo ts i (Some j)) → place ≡ nodes.place_of s.tree → earlier ≡ nodes.place_of h.0
+    → SecondDesigns ts (Clash SecondDesign place earlier)
+design_again ts i j place earlier s k h p q =
+    let w : those_of keywords.Design ts ≡ h.0 ∷ s.tree ∷ those_of keywords.Design (drop (suc i) ts) = here keywords.Design ts i s k ∙ ap (λ v. v ++ s.tree ∷ those_of keywords.Design (drop (suc i) ts)) h.3 in
+    let a : place ≡ place_of s.tree = p ∙ place_same s.tree in
+    let b : earlier ≡ place_of h.0 = q ∙ place_same h.0 in
+    let P : List Placed → Type 0 = λ v. AtTwo (λ x y. Clash SecondDesign place earlier ≡ Clash SecondDesign (place_of y) (place_of x)) v in
+    subst P (sym w) (inl (inl (λ j. Clash SecondDesign (a j) (b j))))
+
+pub design_at : (ts : List Placed) (i : ℕ) (o : Option ℕ) → take i ts ≡ ts → FoundSo ts i o → DesignAt ts o
+design_at ts i None e h = ap (those_of keywords.Design) (sym e) ∙ h
+design_at ts i (Some j) e h = (h.0, h.1, h.2, ap (those_of keywords.Design) (sym e) ∙ h.3)
+
+-- the form at the root
+edif_choice : (b : Bool) → (((b || false) || false) || false) ≡ true → b ≡ true
+edif_choice true h = refl
+edif_choice false h = absurd (cc h)
+
+pub root_is : (rows : List nodes.Row) (t : Placed) (p : Parts) → HasParts rows None t p → ReadRoot rows t p
+root_is rows t p h =
+    let k : has_keyword keywords.Edif (bare t) ≡ true = edif_choice (has_keyword keywords.Edif (bare t)) h.fits.allowed in
+    let e : p.keyword ≡ keywords.Edif = keyword_is None p.keyword keywords.Edif t h.fits k in
+    let F : Keyword → Type 0 = λ v. Stand rows p.fixed.now (take (fixed_count (row v)) (arguments t)) in
+    let I : Keyword → Type 0 = λ v. Stand rows p.inner.now (followers v t) in
+    record { fits = fits_as None p.keyword keywords.Edif t h.fits k; fixed = subst F e h.fixed; inner = subst I e h.inner }
+
+pub root_fails : (t : Placed) (f : MeaningFault) → Fails None t f → Stands t f
+root_fails t f h = elim (file_breach t f h) [ inl b ↦ inl b | inr b ↦ inr (inl b) ]
+
+pub second_stands : (t : Placed) (f : MeaningFault) → SecondDesigns (followers keywords.Edif t) f → Stands t f
+second_stands t f b = inr (inl (inr (inr (inl b))))
+
+at_most_one : (ts : List Placed) (o : Option ℕ) → DesignAt ts o → length (those_of keywords.Design ts) ≤ 1
+at_most_one ts None h = let l : length (those_of keywords.Design ts) ≡ 0 = ap length h in omega (arith, l)
+at_most_one ts (Some i) h = let l : length (those_of keywords.Design ts) ≡ 1 = ap length h.3 in omega (arith, l)
+
+pub fixed_has : (rows : List nodes.Row) (t : Placed) (p : Parts) (o : Option ℕ) → ReadRoot rows t p → DesignAt (followers keywords.Edif t) o → HasFixed rows t p.fixed.now
+fixed_has rows t p o r d =
+    let f = fit_edif None t r.fits (at_most_one (followers keywords.Edif t) o d) in
+    let P : List Placed → Type 0 = λ v. Stand rows p.fixed.now v in
+    record {
+      a = f.a;
+      b = f.b;
+      x = f.x;
+      y = f.y;
+      at_a = f.at_a;
+      at_b = f.at_b;
+      at_x = f.at_x;
+      at_y = f.at_y;
+      is_a = f.is_a;
+      is_b = form_choice keywords.EdifVersion f.b f.is_b;
+      is_x = form_choice keywords.EdifLevel f.x f.is_x;
+      is_y = form_choice keywords.KeywordMap f.y f.is_y;
+      form = f.form;
+      nodes = subst P f.fixed r.fixed;
+    }
+
+-- what stands before the design
+front_of : (ts : List Placed) (i : ℕ) (t : Placed) → slice_get ts i ≡ Some t → has_keyword keywords.Design (bare t) ≡ true → those_of keywords.Design (take i ts) ≡ [] → before_the_design ts ≡ take i ts
+front_of [] i t g h e = absurd (cc g)
+front_of (u ∷ ts) zero t g h e = let w : u ≡ t = cc g in let k : has_keyword keywords.Design (bare u) ≡ true = ap (λ v. has_keyword keywords.Design (bare v)) w ∙ h in ap (λ b. cond b [] (u ∷ before_the_design ts)) k
+front_of (u ∷ ts) (suc i) t g h e = go (has_keyword keywords.Design (bare u)) refl e (λ d. front_of ts i t g h d)
+  where
+    go : (b : Bool) → has_keyword keywords.Design (bare u) ≡ b → cond b (u ∷ those_of keywords.Design (take i ts)) (those_of keywords.Design (take i ts)) ≡ [] → (those_of keywords.Design (take i ts) ≡ [] → before_the_design ts ≡ take i ts) → before_the_design (u ∷ ts) ≡ u ∷ take i ts
+    go true k e f = absurd (cc e)
+    go false k e f = ap (λ b. cond b [] (u ∷ before_the_design ts)) k ∙ ap (λ v. u ∷ v) (f e)
+
+-- the design is a design
+in_designs : (ts : List Placed) (t : Placed) (us : List Placed) → those_of keywords.Design ts ≡ t ∷ us → has_keyword keywords.Design (bare t) ≡ true
+in_designs [] t us e = absurd (cc e)
+in_designs (u ∷ ts) t us e = go (has_keyword keywords.Design (bare u)) refl e (λ d. in_designs ts t us d)
+  where
+    go : (b : Bool) → has_keyword keywords.Design (bare u) ≡ b → cond b (u ∷ those_of keywords.Design ts) (those_of keywords.Design ts) ≡ t ∷ us → (those_of keywords.Design ts ≡ t ∷ us → has_keyword keywords.Design (bare t) ≡ true) → has_keyword keywords.Design (bare t) ≡ true
+    go true k e f = let w : u ≡ t = cc e in let P : Placed → Type 0 = λ v. has_keyword keywords.Design (bare v) ≡ true in subst P w k
+    go false k e f = f e
+
+pub is_design : (ts : List Placed) (i : ℕ) (d : DesignAt ts (Some i)) → has_keyword keywords.Design (bare d.0) ≡ true
+is_design ts i d = in_designs ts d.0 [] d.3
+
+-- and no library
+no_library : (t : Bare) → has_keyword keywords.Design t ≡ true → is_library t ≡ false
+no_library t h = go (has_keyword keywords.Library t) refl (has_keyword keywords.External t) refl
+  where
+    go : (a : Bool) → has_keyword keywords.Library t ≡ a → (b : Bool) → has_keyword keywords.External t ≡ b → is_library t ≡ false
+    go true e b f = let w : keywords.Library ≡ keywords.Design = one_keyword keywords.Library keywords.Design t e h in absurd (cc w)
+    go false e true f = let w : keywords.External ≡ keywords.Design = one_keyword keywords.External keywords.Design t f h in absurd (cc w)
+    go false e false f = (λ i. e i || f i)
+
+parted : (ts : List Placed) (i : ℕ) (t : Placed) → slice_get ts i ≡ Some t → is_library (bare t) ≡ false → libraries ts ≡ libraries (take i ts) ++ libraries (drop (suc i) ts)
+parted [] i t g n = absurd (cc g)
+parted (u ∷ ts) zero t g n = let w : u ≡ t = cc g in let k : is_library (bare u) ≡ false = ap (λ v. is_library (bare v)) w ∙ n in ap (λ b. cond b (u ∷ libraries ts) (libraries ts)) k
+parted (u ∷ ts) (suc i) t g n = go (is_library (bare u)) (parted ts i t g n)
+  where
+    go : (b : Bool) → libraries ts ≡ libraries (take i ts) ++ libraries (drop (suc i) ts) → cond b (u ∷ libraries ts) (libraries ts) ≡ cond b (u ∷ libraries (take i ts)) (libraries (take i ts)) ++ libraries (drop (suc i) ts)
+    go true e = ap (λ v. u ∷ v) e
+    go false e = e
+
+-- the libraries round the design
+pub libraries_round : (ts : List Placed) (i : ℕ) → DesignAt ts (Some i) → libraries ts ≡ libraries (take i ts) ++ libraries (drop (i + 1) ts)
+libraries_round ts i d = parted ts i d.0 d.1 (no_library (bare d.0) (is_design ts i d)) ∙ ap (λ n. libraries (take i ts) ++ libraries (drop n ts)) (sym (add-one i))
+
+pub libraries_front : (ts : List Placed) (i : ℕ) → DesignAt ts (Some i) → libraries (before_the_design ts) ≡ libraries (take i ts)
+libraries_front ts i d = ap libraries (front_of ts i d.0 d.1 (is_design ts i d) d.2)
+
+-- faults there
+pub fails_all : (us : List Placed) (f : MeaningFault) → FailsIn LibsFail us f → LibsFail us f
+fails_all us f b = let P : List Placed → Type 0 = λ v. LibsFail v f in subst P (append-nil us) (b [])
+
+pub fails_front : (ts : List Placed) (i : ℕ) (f : MeaningFault) → DesignAt ts (Some i) → FailsIn LibsFail (libraries (take i ts)) f → FollowersFail ts f
+fails_front ts i f d b = let P : List Placed → Type 0 = λ v. LibsFail v f in inl (subst P (sym (libraries_round ts i d)) (b (libraries (drop (i + 1) ts))))
+
+pub fails_back : (ts : List Placed) (i : ℕ) (f : MeaningFault) → DesignAt ts (Some i) → FailsIn LibsFail (libraries (take i ts) ++ libraries (drop (i + 1) ts)) f → FollowersFail ts f
+fails_back ts i f d b = let P : List Placed → Type 0 = λ v. LibsFail v f in inl (subst P (sym (libraries_round ts i d)) (fails_all (libraries (take i ts) ++ libraries (drop (i + 1) ts)) f b))
+
+pub fails_design : (ts : List Placed) (i : ℕ) (before : KnownLibs) (f : MeaningFault) → (d : DesignAt ts (Some i)) → LibsAre (libraries (take i ts)) before → DesignFault before.libs d.0 f → FollowersFail ts f
+fails_design ts i before f d h b =
+    let P : List Placed → Type 0 = λ v. LibsAre v before in
+    let Q : List Placed → Type 0 = λ v. Among (DesignFault before.libs) v f in
+    inr (before, subst P (sym (libraries_front ts i d)) h, subst Q (sym d.3) (inl b))
+
+-- the libraries before the design are the first of all
+first_libs : (us vs : List Placed) (before known : KnownLibs) → LibsAre us before → LibsAre (us ++ vs) known → before.libs ≡ take (length us) known.libs
+first_libs us vs before known h k =
+    let P : List Bare → Type 0 = λ v. EachAfter MeansLibrary [] v known.libs in
+    let e : map bare (us ++ vs) ≡ map bare us ++ map bare vs = both us in
+    let f = front_after MeansLibrary [] (map bare us) (map bare vs) known.libs (subst P e k.mean) in
+    let n : length (map bare us) ≡ length us = map_length bare us in
+    each_after_once MeansLibrary library_once [] (map bare us) before.libs (take (length us) known.libs) h.mean (let Q : ℕ → Type 0 = λ v. EachAfter MeansLibrary [] (map bare us) (take v known.libs) in subst Q n f)
+  where
+    both : (us : List Placed) → map bare (us ++ vs) ≡ map bare us ++ map bare vs
+    both [] = refl
+    both (u ∷ us) = ap (λ v. bare u ∷ v) (both us)
+
+pub followers_read : (ts : List Placed) (i : ℕ) (before known : KnownLibs) (x : Top) → (d : DesignAt ts (Some i)) → LibsAre (libraries (take i ts)) before → ReadTop before.libs d.0 x → LibsAre (libraries (take i ts) ++ libraries (drop (i + 1) ts)) known
+    → ReadFollowers ts known (Some x)
+followers_read ts i before known x d h r k =
+    let P : List Placed → Type 0 = λ v. LibsAre v known in
+    let Q : List Placed → Type 0 = λ v. LibsAre v before in
+    let R : List Placed → Type 0 = λ v. before.libs ≡ take (length v) known.libs in
+    let e = sym (libraries_front ts i d) in
+    record {
+      libs = subst P (sym (libraries_round ts i d)) k;
+      top = (d.0, before, d.3, subst Q e h, subst R e (first_libs (libraries (take i ts)) (libraries (drop (i + 1) ts)) before known h k), r);
+    }
+
+-- what is wrong with the followers is wrong with the file
+pub followers_stand : (t : Placed) (f : MeaningFault) → FollowersFail (followers keywords.Edif t) f → Stands t f
+followers_stand t f (inl (inl b)) = inr (inr (inr (inr (inr (inr (inl b))))))
+followers_stand t f (inl (inr (inl b))) = inr (inr (inr (inr (inr (inr (inr (inl b)))))))
+followers_stand t f (inl (inr (inr b))) = inr (inr (inr (inr (inr (inr (inr (inr (inl b))))))))
+followers_stand t f (inr b) = inr (inr (inr (inr (inr (inr (inr (inr (inr (b.0.libs, b.1.mean, b.2)))))))))
+
+-- no libraries yet
+pub no_libraries : (known : KnownLibs) → known ≡ record { libs = []; lib_names = []; cell_names = [] } → LibsAre [] known
+no_libraries known e =
+    let P : KnownLibs → Type 0 = λ v. LibsAre [] v in
+    subst P (sym e) (record { mean = tt; sound = tt; define = tt; names = refl; distinct = none_distinct; count = omega arith })

@@ -1,0 +1,49 @@
+-- A step of a loop over the nodes of forms of which some are kept, by a test.
+use Rattle.std.proofs.Common.{◌≡◌, ℕ, suc, List, [], ◌∷◌, ◌++◌, map, take, drop, refl, sym, ap, ◌∙◌, subst, Bool, true, false, append-nil}
+use Rattle.std.specs.Prelude.{cond, filter}
+use Rattle.std.specs.List.{AllByRecursion}
+use Rattle.std.proofs.lemmas.List.Elements.{filter-append}
+use Rattle.spelling_spec.specs.Tree.{Bare, Placed, bare}
+use Rattle.edif_spec.specs.Rows.{EachAfter}
+use Rattle.edif_tree.specs.Nodes.{Row}
+use Rattle.edif_tree.specs.declared.node.NodeId.{NodeId}
+use Rattle.edif_parts.proofs.Steps.{Step}
+
+-- those that pass a test
+abbrev pub passing : (Bare → Bool) → List Placed → List Placed
+passing p ts = filter (λ u. p (bare u)) ts
+
+pub passing_here : (p : Bare → Bool) (xs ys : List Placed) (t : Placed) → p (bare t) ≡ true → passing p (xs ++ t ∷ ys) ≡ passing p xs ++ t ∷ passing p ys
+passing_here p xs ys t h = filter-append (λ u. p (bare u)) xs (t ∷ ys) ∙ ap (λ b. passing p xs ++ cond b (t ∷ passing p ys) (passing p ys)) h
+
+pub passing_kept : {rows : List Row} {id : NodeId} (p : Bare → Bool) (ts : List Placed) (i : ℕ) (s : Step rows ts i id) → p (bare s.tree) ≡ true → passing p (take (suc i) ts) ≡ passing p (take i ts) ++ s.tree ∷ []
+passing_kept p ts i s h = ap (passing p) s.taken ∙ passing_here p (take i ts) [] s.tree h
+
+pub passing_skipped : {rows : List Row} {id : NodeId} (p : Bare → Bool) (ts : List Placed) (i : ℕ) (s : Step rows ts i id) → p (bare s.tree) ≡ false → passing p (take (suc i) ts) ≡ passing p (take i ts)
+passing_skipped p ts i s h = ap (passing p) s.taken ∙ filter-append (λ u. p (bare u)) (take i ts) (s.tree ∷ []) ∙ (ap (λ b. passing p (take i ts) ++ cond b (s.tree ∷ []) []) h ∙ append-nil (passing p (take i ts)))
+
+pub passing_all : {rows : List Row} {id : NodeId} (p : Bare → Bool) (ts : List Placed) (i : ℕ) (s : Step rows ts i id) → p (bare s.tree) ≡ true → passing p ts ≡ passing p (take i ts) ++ s.tree ∷ passing p (drop (suc i) ts)
+passing_all p ts i s h = ap (passing p) s.whole ∙ passing_here p (take i ts) (drop (suc i) ts) s.tree h
+
+-- forms and values, with one more of each at the end
+pub after_push : {A : Type 0} (M : List A → Bare → A → Type 0) (ts : List Placed) (xs : List A) (t : Placed) (x : A) → EachAfter M [] (map bare ts) xs → M xs (bare t) x → EachAfter M [] (map bare (ts ++ t ∷ [])) (xs ++ x ∷ [])
+after_push {A} M ts xs t x h m = go [] ts xs h m
+  where
+    regroup : (xs ys zs : List A) → xs ++ (ys ++ zs) ≡ (xs ++ ys) ++ zs
+    regroup [] ys zs = refl
+    regroup (x ∷ xs) ys zs = ap (λ v. x ∷ v) (regroup xs ys zs)
+
+    go : (before : List A) (ts : List Placed) (xs : List A) → EachAfter M before (map bare ts) xs → M (before ++ xs) (bare t) x → EachAfter M before (map bare (ts ++ t ∷ [])) (xs ++ x ∷ [])
+    go before [] [] h m = let P : List A → Type 0 = λ v. M v (bare t) x in (subst P (append-nil before) m, tt)
+    go before [] (y ∷ ys) h m = absurd h
+    go before (u ∷ us) [] h m = absurd h
+    go before (u ∷ us) (y ∷ ys) h m = let P : List A → Type 0 = λ v. M v (bare t) x in (h.0, go (before ++ y ∷ []) us ys h.1 (subst P (regroup before (y ∷ []) ys) m))
+
+pub all_push : {A : Type 0} (P : A → Type 0) (xs : List A) (x : A) → AllByRecursion P xs → P x → AllByRecursion P (xs ++ x ∷ [])
+all_push P [] x h p = (p, tt)
+all_push P (y ∷ xs) x h p = (h.0, all_push P xs x h.1 p)
+
+-- behind some forms
+pub append_assoc_to : {A : Type 0} (xs ys zs : List A) → (xs ++ ys) ++ zs ≡ xs ++ (ys ++ zs)
+append_assoc_to [] ys zs = refl
+append_assoc_to (x ∷ xs) ys zs = ap (λ v. x ∷ v) (append_assoc_to xs ys zs)

@@ -1,0 +1,11 @@
+pub mod CellLemmas
+pub mod FileLaws
+pub mod FileLemmas
+pub mod FileValid
+pub mod FilterSteps
+pub mod LevelLemmas
+pub mod LibraryLemmas
+pub mod NoteKeyLemmas
+pub mod NoteLemmas
+pub mod NotedLemmas
+pub mod TopLemmas

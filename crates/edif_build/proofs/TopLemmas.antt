@@ -1,0 +1,17 @@
+-- What is wrong with the notes of a design.
+use Rattle.std.proofs.Common.{◌≡◌, List, inl, inr, None, Some}
+use Rattle.std.specs.Prelude.{slice_get, filter}
+use Rattle.spelling_spec.specs.Tree.{Placed, bare}
+use Rattle.edif_spec.specs.Design as design
+use Rattle.edif_spec.specs.Faults.{arguments, followers}
+use Rattle.edif_spec.specs.Means.{MeansCellRef, is_note}
+use Rattle.edif_spec.specs.Stands.{DesignFault}
+use Rattle.edif_spec.specs.declared.keyword.Keyword.TheVariants as keywords
+use Rattle.edif_spec.specs.declared.fault.MeaningFault.{MeaningFault}
+use Rattle.edif_build.specs.Notes.{NotesFail}
+
+-- is wrong with the design, where its cell is meant
+pub notes_fail : (libs : List design.Lib) (t u : Placed) (top : design.CellId) (f : MeaningFault) → slice_get (arguments t) 1 ≡ Some u → MeansCellRef libs None (bare u) top
+    → NotesFail libs top (filter (λ u. is_note (bare u)) (followers keywords.Design t)) f → DesignFault libs t f
+notes_fail libs t u top f g m (inl b) = inr (inr (inr (inr (inl (u, top, g, m, b)))))
+notes_fail libs t u top f g m (inr b) = inr (inr (inr (inr (inr b))))

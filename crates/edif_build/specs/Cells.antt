@@ -1,0 +1,89 @@
+-- What is read of a view and of a cell.
+use Rattle.std.specs.Prelude.{◌≡◌, ◌⊎◌, ℕ, List, [], ◌∷◌, Option, None, Some, map, option_map}
+use Rattle.std.specs.List.{All}
+use Rattle.spelling_spec.specs.Tree.{Placed, bare}
+use Rattle.netlist_schema.specs.Design.{ends_of}
+use Rattle.netlist_schema.specs.Limits.{IsCellWithinLimits}
+use Rattle.netlist_schema.specs.Names.{AreDistinct, HasDistinctKeys, HasDistinctNamesInCell}
+use Rattle.netlist_schema.specs.Typed.{IsTypedCell, IsTypedName, IsTypedProperty}
+use Rattle.edif_spec.specs.Design as design
+use Rattle.edif_spec.specs.Faults.{AtTwo, defined, followers, place_of, those_of}
+use Rattle.edif_spec.specs.Means.{IsNetlist, MeansCell, MeansName, MeansProperties}
+use Rattle.edif_spec.specs.Rows.{IsFormOf}
+use Rattle.edif_spec.specs.declared.keyword.Keyword.TheVariants as keywords
+use Rattle.edif_spec.specs.declared.fault.ClashKind.TheVariants.{SecondView}
+use Rattle.edif_spec.specs.declared.fault.Kind.TheVariants.{BadForm}
+use Rattle.edif_spec.specs.declared.fault.MeaningFault.{MeaningFault}
+use Rattle.edif_spec.specs.declared.fault.MeaningFault.TheVariants.{At, Clash}
+use Rattle.edif_tree.specs.Nodes as nodes
+use Rattle.edif_tree.specs.declared.node.NodeId.{NodeId}
+use Rattle.edif_contents.specs.Insides.{ReadContents}
+use Rattle.edif_parts.specs.Interfaces.{ReadInterface}
+use Rattle.edif_parts.specs.Names.{ids}
+use Rattle.edif_build.specs.declared.cells.CellAt.{CellAt}
+use Rattle.edif_build.specs.declared.cells.View.{View}
+use Rattle.edif_contents.specs.declared.contents.Inside.{Inside}
+
+-- nothing is read of no form, and of one form what stands in it
+abbrev pub ReadOnce : {A : Type 0} → (Placed → A → Type 0) → List Placed → Option A → Type 0
+ReadOnce R [] None = Unit {0}
+ReadOnce R (t ∷ []) (Some x) = R t x
+ReadOnce R ts o = ⊥
+
+-- the node of the one form, where there is one
+abbrev pub OneNode : List nodes.Row → List Placed → Option NodeId → Type 0
+OneNode rows ts None = ts ≡ []
+OneNode rows ts (Some id) = (t : Placed) × (ts ≡ t ∷ []) × nodes.IsAt rows id t
+
+-- among the views of a cell: a second one, or none at all
+abbrev pub ViewsFault : List Placed → ℕ → MeaningFault → Type 0
+ViewsFault views place f = AtTwo (λ a b. f ≡ Clash SecondView (place_of b) (place_of a)) views ⊎ ((views ≡ []) × (f ≡ At BadForm place))
+
+-- The name, the type, the interface, the contents and the properties that a view means.
+pub record ReadView (libs : List design.Lib) (own : Option ℕ) (t : Placed) (v : View) : Type 0 where
+  pub name_part : Placed
+  pub type_part : Placed
+  pub interface_part : Placed
+  pub form : IsFormOf keywords.View (bare t) (bare name_part ∷ bare type_part ∷ bare interface_part ∷ []) (map bare (followers keywords.View t))
+  pub name : MeansName (bare name_part) v.name
+  pub typed_name : IsTypedName v.name
+  pub netlist : IsNetlist (bare type_part)
+  pub interface : ReadInterface interface_part v.interface
+  pub inside : ReadOnce (ReadContents libs own v.interface.ports) (those_of keywords.Contents (followers keywords.View t)) v.inside
+  pub properties : MeansProperties (map bare (followers keywords.View t)) v.properties
+  pub typed : All IsTypedProperty v.properties
+  pub keys : HasDistinctKeys v.properties
+
+-- within the limits of a cell, with names that differ and each bit joined once
+pub record IsSoundCell (c : design.CellBody) : Type 0 where
+  pub typed : IsTypedCell c
+  pub limits : IsCellWithinLimits c
+  pub names : HasDistinctNamesInCell c
+  pub joined_once : AreDistinct (ends_of c)
+
+-- The cell that a form means, and where its name stands.
+pub record ReadCell (libs : List design.Lib) (own : Option ℕ) (t : Placed) (c : CellAt) : Type 0 where
+  pub mean : MeansCell libs own (bare t) c.cell
+  pub sound : IsSoundCell c.cell
+  pub place : defined t ≡ Some (c.cell.name.id, c.place)
+
+-- what is inside a view, and the names of its instances
+abbrev pub contents_of : Option Inside → Option design.Contents
+contents_of o = option_map (λ i. i.contents) o
+
+abbrev pub names_of : Option Inside → List (List ℕ)
+names_of None = []
+names_of (Some i) = ids i.insts
+
+-- a cell by its view, its name, its type and its properties
+abbrev pub body_of : View → design.Name → design.CellKind → List design.Property → design.CellBody
+body_of v name kind properties = record {
+  name = name;
+  kind = kind;
+  properties = properties;
+  view = v.name;
+  view_properties = v.properties;
+  interface_properties = v.interface.properties;
+  ports = v.interface.ports;
+  contents = contents_of v.inside;
+}

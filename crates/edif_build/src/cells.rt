@@ -1,0 +1,278 @@
+//! Views and cells.
+ghost use Rattle.std.specs.Prelude.{◌≡◌, ◌≤◌, [], ◌∷◌, IfNone, IfSome, IsTrue, List, Some, codes, false, length, map, true};
+ghost use Rattle.std.specs.List.{All};
+ghost use Rattle.spelling_spec.specs.Tree.{Placed, bare};
+ghost use Rattle.edif_spec.specs.Canonical.{kind_word};
+ghost use Rattle.edif_spec.specs.Design as design;
+ghost use Rattle.edif_spec.specs.Faults.{Among, those_of};
+ghost use Rattle.edif_spec.specs.Keyword.{same};
+ghost use Rattle.edif_spec.specs.Means.{IsNetlist, MeansKind};
+ghost use Rattle.edif_spec.specs.Rows.{has_keyword};
+ghost use Rattle.edif_spec.specs.Stands.{CellFault, CellTypeFault, ContentsFault, TypeFault, ViewFault, is_cell_type};
+ghost use Rattle.edif_spec.specs.declared.keyword.Keyword.TheVariants.{Cell as CellWord, CellType, Contents as ContentsWord, View as ViewWord, ViewType};
+ghost use Rattle.edif_spec.specs.declared.fault.ClashKind.TheVariants.{SecondView};
+ghost use Rattle.edif_spec.specs.declared.fault.MeaningFault.TheVariants.{Clash};
+ghost use Rattle.edif_tree.specs.Nodes.{IsAt, IsNode};
+ghost use Rattle.edif_build.specs.Cells.{OneNode, ReadCell, ReadOnce, ReadView, ViewsFault, body_of, contents_of, names_of};
+ghost use Rattle.edif_grammar.specs.Forms.{Stand};
+ghost use Rattle.edif_contents.specs.Insides.{ReadContents};
+ghost use Rattle.edif_parts.specs.Names.{ids};
+ghost use Rattle.edif_parts.specs.Reading.{Answers};
+ghost use Rattle.edif_parts.specs.declared.error.EdifError.TheVariants.{Fault};
+
+use edif_contents::contents::{Inside, read_contents};
+use edif_contents::known::{KnownCell, Libraries};
+use edif_contents::references::reference_at;
+use edif_parts::error::EdifError;
+use edif_parts::interface::{Interface, read_interface};
+use edif_parts::names::{NameAt, Names, read_name};
+use edif_parts::parts::{bad_form, is_form_of, is_word, read_parts};
+use edif_parts::properties::read_properties;
+use edif_spec::{ClashKind, Keyword, Kind, MeaningFault};
+use edif_tree::{NodeId, Tree};
+use netlist_schema::{CellBody, CellKind, Contents, Ident, Name, Port, Property, Row};
+use std::alloc::Global;
+
+/// What a view says.
+#[derive(Drop)]
+pub struct View {
+    /// Its name.
+    pub name: Name,
+    /// Its own properties.
+    pub properties: Row<Property>,
+    /// Its interface.
+    pub interface: Interface,
+    /// Its contents; a leaf has none.
+    pub inside: Option<Inside>,
+}
+
+/// A cell, and where its identifier stands.
+#[derive(Drop)]
+pub struct CellAt {
+    /// The cell, with the names of its ports and of its instances.
+    pub cell: KnownCell,
+    /// The number of bytes before its identifier.
+    pub place: u64,
+}
+
+/// The type of cell that a word names.
+fn kind_named(word: &Ident) -> Option<CellKind>
+    ensures some { IfSome result (λ kind. IsTrue (same word.now (kind_word kind))) }
+    ensures none { IfNone result (is_cell_type word.now ≡ false) }
+{
+    if is_word(word, b"GENERIC") {
+        Some(CellKind::Generic)
+    } else if is_word(word, b"TIE") {
+        Some(CellKind::Tie)
+    } else if is_word(word, b"RIPPER") {
+        Some(CellKind::Ripper)
+    } else {
+        None
+    }
+}
+
+/// The type that the form at a node means.
+fn read_kind(alloc: Global, tree: &Tree, node: NodeId) -> Result<CellKind, EdifError>
+    requires node { IsNode tree.now.rows node }
+    requires keyword { (t : Placed) → IsAt tree.now.rows node t → has_keyword CellType (bare t) ≡ true }
+    ensures { (t : Placed) → IsAt tree.now.rows node t → Answers (MeansKind (bare t)) (CellTypeFault t) result }
+{
+    let parts = read_parts(alloc, tree, node, Keyword::Cell, Keyword::CellType)?;
+    let word = reference_at(tree, parts.fixed[0]);
+    match kind_named(word.name) {
+        Some(kind) => Ok(kind),
+        None => Err(bad_form(word.place)),
+    }
+}
+
+/// Reads the type of a view, which is to be a netlist.
+fn read_view_type(alloc: Global, tree: &Tree, node: NodeId) -> Result<(), EdifError>
+    requires node { IsNode tree.now.rows node }
+    requires keyword { (t : Placed) → IsAt tree.now.rows node t → has_keyword ViewType (bare t) ≡ true }
+    ensures { (t : Placed) → IsAt tree.now.rows node t → Answers (λ _. IsNetlist (bare t)) (TypeFault t) result }
+{
+    let parts = read_parts(alloc, tree, node, Keyword::View, Keyword::ViewType)?;
+    let word = reference_at(tree, parts.fixed[0]);
+    if is_word(word.name, b"NETLIST") {
+        return Ok(());
+    }
+    Err(EdifError::Fault(MeaningFault::At {
+        kind: Kind::NotNetlist,
+        place: word.place,
+    }))
+}
+
+/// The contents among these followers of a view, where there are some, in a cell with these ports.
+fn read_contents_among(
+    alloc: Global,
+    tree: &Tree,
+    inner: &[NodeId],
+    libs: &Libraries,
+    own: Option<u32>,
+    ports: &[Port],
+    names: &Names,
+) -> Result<Option<Inside>, EdifError>
+    requires nodes { (ts : List Placed) × Stand tree.now.rows inner.now ts × (length (those_of ContentsWord ts) ≤ 1) }
+    requires names { ids names.now ≡ design.port_ids ports.now }
+    ensures { (ts : List Placed) → Stand tree.now.rows inner.now ts
+        → Answers (ReadOnce (ReadContents libs.now.libs own ports.now) (those_of ContentsWord ts)) (Among (ContentsFault libs.now.libs own ports.now) (those_of ContentsWord ts)) result }
+{
+    for node in inner {
+        if is_form_of(tree, *node, Keyword::Contents) {
+            let inside = read_contents(alloc, tree, *node, libs, own, ports, names)?;
+            return Ok(Some(inside));
+        }
+    }
+    Ok(None)
+}
+
+/// The view that a form at a node means, of a cell of the library `own`.
+fn read_view(
+    alloc: Global,
+    tree: &Tree,
+    node: NodeId,
+    libs: &Libraries,
+    own: Option<u32>,
+) -> Result<View, EdifError>
+    requires node { IsNode tree.now.rows node }
+    requires keyword { (t : Placed) → IsAt tree.now.rows node t → has_keyword ViewWord (bare t) ≡ true }
+    ensures { (t : Placed) → IsAt tree.now.rows node t → Answers (ReadView libs.now.libs own t) (ViewFault libs.now.libs own t) result }
+{
+    let parts = read_parts(alloc, tree, node, Keyword::Cell, Keyword::View)?;
+    let name = read_name(alloc, tree, parts.fixed[0])?;
+    read_view_type(alloc, tree, parts.fixed[1])?;
+    let interface = read_interface(alloc, tree, parts.fixed[2])?;
+    let ports = interface.ports.as_slice();
+    let inside = read_contents_among(alloc, tree, parts.inner, libs, own, ports, &interface.names)?;
+    let properties = read_properties(alloc, tree, parts.inner)?;
+    Ok(View {
+        name: name.name,
+        properties,
+        interface,
+        inside,
+    })
+}
+
+/// A second view of a cell.
+fn second_view(place: u64, earlier: u64) -> EdifError
+    ensures { result ≡ Fault (Clash SecondView place earlier) }
+{
+    EdifError::Fault(MeaningFault::Clash {
+        kind: ClashKind::SecondView,
+        place,
+        earlier,
+    })
+}
+
+/// The node of the one view among the followers of a cell at a place. Takes no memory.
+fn one_view(tree: &Tree, inner: &[NodeId], place: u64) -> Result<NodeId, EdifError>
+    requires { (ts : List Placed) × Stand tree.now.rows inner.now ts }
+    ensures { (ts : List Placed) → Stand tree.now.rows inner.now ts
+        → Answers (λ id. OneNode tree.now.rows (those_of ViewWord ts) (Some id)) (ViewsFault (those_of ViewWord ts) place) result }
+{
+    let mut view = None;
+    for node in inner {
+        if !is_form_of(tree, *node, Keyword::View) {
+            continue;
+        }
+        if let Some(first) = view {
+            let place = tree.place(*node);
+            return Err(second_view(place, tree.place(first)));
+        }
+        view = Some(*node);
+    }
+    match view {
+        Some(view) => Ok(view),
+        None => Err(bad_form(place)),
+    }
+}
+
+/// Contents apart from the names of their instances.
+#[derive(Drop)]
+struct Pieces {
+    /// The contents, where there are some.
+    contents: Option<Contents>,
+    /// The names of the instances.
+    insts: Names,
+}
+
+/// Contents apart from the names of their instances. Takes no memory.
+fn apart(alloc: Global, inside: Option<Inside>) -> Pieces
+    ensures contents { result.contents ≡ contents_of inside }
+    ensures insts { ids result.insts ≡ names_of inside }
+{
+    match inside {
+        Some(inside) => {
+            let Inside { contents, insts } = inside;
+            Pieces {
+                contents: Some(contents),
+                insts,
+            }
+        }
+        None => Pieces {
+            contents: None,
+            insts: Names::new(alloc),
+        },
+    }
+}
+
+/// A cell by its parts. Takes no memory.
+fn cell_of(
+    alloc: Global,
+    name: NameAt,
+    kind: CellKind,
+    properties: Row<Property>,
+    view: View,
+) -> CellAt
+    requires ports { ids view.interface.names ≡ design.port_ids view.interface.ports }
+    requires insts { names_of view.inside ≡ design.inst_ids (design.insts_of (body_of view name.name kind properties)) }
+    ensures cell { result.cell ≡ body_of view name.name kind properties }
+    ensures place { result.place ≡ name.place }
+{
+    let NameAt { name, place } = name;
+    let View {
+        name: view,
+        properties: view_properties,
+        interface,
+        inside,
+    } = view;
+    let Interface {
+        ports,
+        properties: interface_properties,
+        names,
+    } = interface;
+    let Pieces { contents, insts } = apart(alloc, inside);
+    let body = CellBody {
+        name,
+        kind,
+        properties,
+        view,
+        view_properties,
+        interface_properties,
+        ports,
+        contents,
+    };
+    let cell = KnownCell::of(body, names, insts);
+    CellAt { cell, place }
+}
+
+/// The cell of the library `own` that a form at a node means.
+pub fn read_cell(
+    alloc: Global,
+    tree: &Tree,
+    node: NodeId,
+    libs: &Libraries,
+    own: u32,
+) -> Result<CellAt, EdifError>
+    requires node { IsNode tree.now.rows node }
+    requires keyword { (t : Placed) → IsAt tree.now.rows node t → has_keyword CellWord (bare t) ≡ true }
+    ensures { (t : Placed) → IsAt tree.now.rows node t → Answers (ReadCell libs.now.libs (Some own) t) (CellFault libs.now.libs (Some own) t) result }
+{
+    let parts = read_parts(alloc, tree, node, Keyword::Library, Keyword::Cell)?;
+    let found = one_view(tree, parts.inner, parts.place)?;
+    let name = read_name(alloc, tree, parts.fixed[0])?;
+    let kind = read_kind(alloc, tree, parts.fixed[1])?;
+    let view = read_view(alloc, tree, found, libs, Some(own))?;
+    let properties = read_properties(alloc, tree, parts.inner)?;
+    Ok(cell_of(alloc, name, kind, properties, view))
+}

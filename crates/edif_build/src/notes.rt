@@ -1,0 +1,310 @@
+//! Notes: properties of occurrences, in a design's form.
+ghost use Rattle.std.specs.Prelude.{◌≡◌, ◌<◌, ◌++◌, [], ◌∷◌, ℕ, IfErr, IfOk, List, None, OnOk, drop, filter, length, true};
+ghost use Rattle.spelling_spec.specs.Tree.{Placed, bare};
+ghost use Rattle.edif_spec.specs.Design as design;
+ghost use Rattle.edif_spec.specs.Faults.{arguments};
+ghost use Rattle.edif_spec.specs.Means.{is_note};
+ghost use Rattle.edif_spec.specs.Stands.{NoteFault, PathFault};
+ghost use Rattle.edif_spec.specs.declared.fault.Kind.TheVariants.{BadPath};
+ghost use Rattle.edif_spec.specs.declared.fault.MeaningFault.TheVariants.{At};
+ghost use Rattle.edif_tree.specs.Nodes.{IsAt, IsNode};
+ghost use Rattle.edif_grammar.specs.Forms.{Stand};
+ghost use Rattle.edif_parts.specs.Names.{DefinesName};
+ghost use Rattle.edif_build.specs.Notes.{AreNoted, FailsBehind, HasNoteParts, IsAgain, IsStep, NotesFail, ReadNote, ReadNotes, ReadPath, ShapeFault, StepFault, flat, is_mark};
+ghost use Rattle.edif_parts.specs.Reading.{Answers, Names as FailsBy};
+ghost use Rattle.edif_parts.specs.declared.error.EdifError.TheVariants.{Fault};
+
+use crate::libraries::duplicate;
+use edif_contents::known::Libraries;
+use edif_names::Meant;
+use edif_parts::error::EdifError;
+use edif_parts::parts::{bad_form, is_form_of, is_word, over_limit};
+use edif_parts::properties::read_property;
+use edif_spec::{Keyword, Kind, MeaningFault};
+use edif_tree::{NodeId, Shape, Tree};
+use indexmap::IndexMap;
+use netlist_schema::{CellId, Copied, Ident, Inst, NoMemory, Note, Row};
+use std::alloc::Global;
+use std::marker::Model;
+
+/// A note, and where the key of its property stands.
+#[derive(Drop)]
+pub struct NoteAt {
+    /// The note.
+    pub note: Note,
+    /// The number of bytes before the identifier of its key.
+    pub place: u64,
+}
+
+/// The parts of a note behind its mark.
+#[derive(Clone, Copy)]
+pub struct NoteParts {
+    /// The node of its path.
+    pub path: NodeId,
+    /// The node of its property.
+    pub property: NodeId,
+}
+
+/// Bytes that tell notes apart, no two equal, each with a place. Contracts see them in order.
+#[derive(Drop)]
+pub struct NoteKeys {
+    places: IndexMap<Vec<u8>, u64>,
+}
+
+impl Model for NoteKeys {
+    ghost use Rattle.std.specs.Prelude.{List, ℕ, map};
+
+    ghost Value = { List (List ℕ × ℕ) };
+
+    ghost view = { λ s. map (λ e. (e.0.items, e.1)) s.places.entries };
+}
+
+impl NoteKeys {
+    /// No keys. Takes no memory.
+    fn new(alloc: Global) -> NoteKeys
+        ensures { result ≡ [] }
+    {
+        NoteKeys {
+            places: IndexMap::new(alloc),
+        }
+    }
+
+    /// Adds a key. Where it is there, the error says so, with the place of the earlier one.
+    fn add(&mut self, key: Vec<u8>, place: u64) -> Result<(), EdifError>
+        ensures ok { OnOk result (DefinesName self.old key.items place self.new None) }
+        ensures err { IfErr result (λ e. FailsBy (IsAgain self.old key.items place) e) }
+    {
+        if let Some(earlier) = self.places.get(key.as_slice()).copied() {
+            return Err(duplicate(place, earlier));
+        }
+        self.places.insert(key, place)?;
+        Ok(())
+    }
+}
+
+/// The path and the key of a note as bytes: each step with a byte 0 behind it, and the key.
+fn key_of(alloc: Global, path: &[Ident], key: &Ident) -> Result<Vec<u8>, NoMemory>
+    ensures { IfOk result (λ bytes. bytes.items ≡ flat path.now key.now) }
+{
+    let mut bytes = Vec::new(alloc);
+    for step in path {
+        bytes.extend_from_slice(step.as_slice())?;
+        bytes.push(0)?;
+    }
+    bytes.extend_from_slice(key.as_slice())?;
+    Ok(bytes)
+}
+
+/// The nodes behind the first. Takes no memory.
+fn rest_of(ids: &[NodeId]) -> &[NodeId]
+    requires { 0 < length ids.now }
+    ensures rest { result.now ≡ drop 1 ids.now }
+    ensures some { 0 < length ids.now }
+{
+    &ids[1..]
+}
+
+/// The nodes of a form's arguments, behind its keyword; none where no form stands. Takes no memory.
+fn arguments_at(tree: &Tree, node: NodeId) -> &[NodeId]
+    requires { IsNode tree.now.rows node }
+    ensures { (t : Placed) → IsAt tree.now.rows node t → Stand tree.now.rows result.now (arguments t) }
+{
+    let Shape::Form(ids) = tree.shape(node) else {
+        return &[];
+    };
+    if ids.is_empty() {
+        return &[];
+    }
+    rest_of(ids)
+}
+
+/// The parts of the note at a node. Takes no memory.
+fn note_parts(tree: &Tree, node: NodeId) -> Result<NoteParts, EdifError>
+    requires { IsNode tree.now.rows node }
+    ensures { (t : Placed) → IsAt tree.now.rows node t → Answers (HasNoteParts tree.now.rows t) (ShapeFault t) result }
+{
+    let inner = arguments_at(tree, node);
+    if inner.len() < 3 {
+        return Err(bad_form(tree.place(node)));
+    }
+    let path = inner[1];
+    if !is_form_of(tree, path, Keyword::Path) {
+        return Err(bad_form(tree.place(path)));
+    }
+    let property = inner[2];
+    if !is_form_of(tree, property, Keyword::Property) {
+        return Err(bad_form(tree.place(property)));
+    }
+    if inner.len() > 3 {
+        return Err(bad_form(tree.place(inner[3])));
+    }
+    Ok(NoteParts { path, property })
+}
+
+/// A path without steps, or a step that means nothing.
+fn bad_path(place: u64) -> EdifError
+    ensures { result ≡ Fault (At BadPath place) }
+{
+    EdifError::Fault(MeaningFault::At {
+        kind: Kind::BadPath,
+        place,
+    })
+}
+
+/// The instances of a cell, none where there is no such cell. Takes no memory.
+fn insts_at(libs: &Libraries, id: CellId) -> &[Inst]
+    ensures { result.now ≡ design.insts_at libs.now.libs id }
+{
+    let Some(cell) = libs.body(id) else {
+        return &[];
+    };
+    match &cell.contents {
+        Some(contents) => contents.insts.as_slice(),
+        None => &[],
+    }
+}
+
+/// The instance that the step at a node means, in a cell. Takes no memory.
+fn read_step<'a>(
+    tree: &Tree,
+    node: NodeId,
+    libs: &'a Libraries,
+    id: CellId,
+) -> Result<&'a Inst, EdifError>
+    requires { IsNode tree.now.rows node }
+    ensures { (t : Placed) → IsAt tree.now.rows node t → Answers (λ x. IsStep libs.now.libs id t x.now) (StepFault libs.now.libs id t) result }
+{
+    let place = tree.place(node);
+    let Shape::Word(name) = tree.shape(node) else {
+        return Err(bad_form(place));
+    };
+    let Meant::Found(index) = libs.inst(id, name) else {
+        return Err(bad_path(place));
+    };
+    match insts_at(libs, id).get(index as usize) {
+        Some(inst) => Ok(inst),
+        None => Err(bad_path(place)),
+    }
+}
+
+/// The identifiers that the steps of the path at a node mean, from the top cell on.
+fn read_path(
+    alloc: Global,
+    tree: &Tree,
+    node: NodeId,
+    libs: &Libraries,
+    top: CellId,
+) -> Result<Row<Ident>, EdifError>
+    requires { IsNode tree.now.rows node }
+    ensures { (t : Placed) → IsAt tree.now.rows node t → Answers (ReadPath libs.now.libs top t) (PathFault libs.now.libs top t) result }
+{
+    let steps = arguments_at(tree, node);
+    if steps.is_empty() {
+        return Err(bad_path(tree.place(node)));
+    }
+    let mut path = Vec::new(alloc);
+    let mut id = top;
+    for step in steps {
+        let inst = read_step(tree, *step, libs, id)?;
+        let name = Copied::copy(&inst.name.id, alloc)?;
+        path.push(name)?;
+        id = inst.of;
+    }
+    Ok(Row::of(path))
+}
+
+/// The note at a node, from the top cell on.
+fn read_note(
+    alloc: Global,
+    tree: &Tree,
+    node: NodeId,
+    libs: &Libraries,
+    top: CellId,
+) -> Result<NoteAt, EdifError>
+    requires node { IsNode tree.now.rows node }
+    requires note { (t : Placed) → IsAt tree.now.rows node t → is_note (bare t) ≡ true }
+    ensures { (t : Placed) → IsAt tree.now.rows node t → Answers (ReadNote libs.now.libs top t) (NoteFault libs.now.libs top t) result }
+{
+    let parts = note_parts(tree, node)?;
+    let path = read_path(alloc, tree, parts.path, libs, top)?;
+    let property = read_property(alloc, tree, parts.property)?;
+    Ok(NoteAt {
+        note: Note {
+            path,
+            property: property.property,
+        },
+        place: property.place,
+    })
+}
+
+/// Whether a note stands at a node. Takes no memory.
+fn is_note(tree: &Tree, node: NodeId) -> bool
+    requires { IsNode tree.now.rows node }
+    ensures { (t : Placed) → IsAt tree.now.rows node t → result ≡ is_note (bare t) }
+{
+    if !is_form_of(tree, node, Keyword::UserData) {
+        return false;
+    }
+    match arguments_at(tree, node).first() {
+        Some(mark) => is_mark(tree, *mark),
+        None => false,
+    }
+}
+
+/// Whether the mark of notes stands at a node. Takes no memory.
+fn is_mark(tree: &Tree, node: NodeId) -> bool
+    requires { IsNode tree.now.rows node }
+    ensures { (t : Placed) → IsAt tree.now.rows node t → result ≡ is_mark (bare t) }
+{
+    match tree.shape(node) {
+        Shape::Word(name) => is_word(name, b"netdb_note"),
+        _ => false,
+    }
+}
+
+/// Adds the note at a node to the notes, whose keys are `keys`.
+fn add_note(
+    alloc: Global,
+    tree: &Tree,
+    node: NodeId,
+    libs: &Libraries,
+    top: CellId,
+    keys: &mut NoteKeys,
+    notes: &mut Vec<Note>,
+) -> Result<(), EdifError>
+    requires node { IsNode tree.now.rows node }
+    requires note { (t : Placed) → IsAt tree.now.rows node t → is_note (bare t) ≡ true }
+    ensures { (ts : List Placed) (t : Placed) → AreNoted libs.now.libs top ts notes.old.items keys.old → IsAt tree.now.rows node t
+        → Answers (λ _. AreNoted libs.now.libs top (ts ++ t ∷ []) notes.new.items keys.new) (FailsBehind libs.now.libs top ts t) result }
+{
+    if notes.len() >= 1_048_576 {
+        return Err(over_limit(1_048_576, tree.place(node)));
+    }
+    let note = read_note(alloc, tree, node, libs, top)?;
+    let key = key_of(alloc, note.note.path.as_slice(), &note.note.property.key.id)?;
+    keys.add(key, note.place)?;
+    notes.push(note.note)?;
+    Ok(())
+}
+
+/// The notes among these followers of a design's form, in order, from the top cell on.
+pub fn read_notes(
+    alloc: Global,
+    tree: &Tree,
+    inner: &[NodeId],
+    libs: &Libraries,
+    top: CellId,
+) -> Result<Row<Note>, EdifError>
+    requires { (ts : List Placed) × Stand tree.now.rows inner.now ts }
+    ensures { (ts : List Placed) → Stand tree.now.rows inner.now ts → Answers (ReadNotes libs.now.libs top (filter (λ u. is_note (bare u)) ts)) (NotesFail libs.now.libs top (filter (λ u. is_note (bare u)) ts)) result }
+{
+    let mut keys = NoteKeys::new(alloc);
+    let mut notes = Vec::new(alloc);
+    for node in inner {
+        if !is_note(tree, *node) {
+            continue;
+        }
+        add_note(alloc, tree, *node, libs, top, &mut keys, &mut notes)?;
+    }
+    Ok(Row::of(notes))
+}

@@ -1,0 +1,75 @@
+-- Contents, from the instances and the nets that are read.
+use Rattle.std.proofs.Common.{◌≡◌, ℕ, List, [], ◌∷◌, map, refl, sym, subst, inl, inr, Option, Some}
+use Rattle.std.specs.List.{All}
+use Rattle.spelling_spec.specs.Tree.{Bare, Placed, bare}
+use Rattle.netlist_schema.specs.Names.{HasDistinctKeys}
+use Rattle.netlist_schema.specs.Typed.{IsTypedInst, IsTypedNet}
+use Rattle.edif_spec.specs.Design as design
+use Rattle.edif_spec.specs.Keyword.{Follower, Many}
+use Rattle.edif_spec.specs.Rows.{Each, those}
+use Rattle.edif_spec.specs.Faults.{followers, those_of}
+use Rattle.edif_spec.specs.Means.{MeansInst, MeansNet}
+use Rattle.edif_spec.specs.Stands.{ContentsFault, insts_in, nets_in}
+use Rattle.edif_spec.specs.declared.keyword.Keyword.TheVariants as keywords
+use Rattle.edif_spec.specs.declared.fault.MeaningFault.{MeaningFault}
+use Rattle.edif_spec.proofs.KnownCells.{parts_bare}
+use Rattle.edif_tree.specs.Nodes.{Row}
+use Rattle.edif_contents.specs.Inners.{InstsFault, ReadInsts}
+use Rattle.edif_contents.specs.Insides.{ReadContents}
+use Rattle.edif_contents.specs.Nets.{MeansNetIn, NetsFaultIn, ReadNets}
+use Rattle.edif_parts.specs.Parts.{ArePartsOf}
+use Rattle.edif_contents.specs.declared.contents.Inside.{Inside}
+use Rattle.edif_contents.specs.declared.ends.Surroundings.{Surroundings}
+use Rattle.edif_grammar.specs.declared.lent.Parts.{Parts}
+use Rattle.edif_contents.specs.declared.insts.Insts.{Insts}
+use Rattle.edif_grammar.proofs.FormLemmas.{fit0}
+
+abbrev follows : List Follower
+follows = Many keywords.Instance ∷ Many keywords.Net ∷ Many keywords.Comment ∷ Many keywords.UserData ∷ []
+
+-- what is wrong with the instances
+pub insts_fail : (libs : List design.Lib) (own : Option ℕ) (ports : List design.Port) (t : Placed) (f : MeaningFault) → InstsFault libs own (insts_in t) f → ContentsFault libs own ports t f
+insts_fail libs own ports t f (inl b) = inr (inl b)
+insts_fail libs own ports t f (inr (inl b)) = inr (inr (inr (inl b)))
+insts_fail libs own ports t f (inr (inr b)) = inr (inr (inr (inr (inr (inl b)))))
+
+-- the instances, seen with places
+each_inst : (libs : List design.Lib) (own : Option ℕ) (t : Placed) (xs : List design.Inst) → Each (MeansInst libs own) (those keywords.Instance (map bare (followers keywords.Contents t))) xs → Each (MeansInst libs own) (map bare (insts_in t)) xs
+each_inst libs own t xs h = let P : List Bare → Type 0 = λ v. Each (MeansInst libs own) v xs in subst P (sym (parts_bare keywords.Contents keywords.Instance t)) h
+
+-- what is wrong with the nets, where the instances are meant
+pub nets_fail : (s : Surroundings) (own : Option ℕ) (t : Placed) (r : Insts) (f : MeaningFault) → ReadInsts s.libs.now.libs own (followers keywords.Contents t) r → s.insts.now ≡ r.list.items → NetsFaultIn s (nets_in t) f → ContentsFault s.libs.now.libs own s.ports.now t f
+nets_fail s own t r f a e b =
+    let P : List design.Inst → Type 0 = λ v. Each (MeansInst s.libs.now.libs own) (map bare (insts_in t)) v in
+    go (subst P (sym e) (each_inst s.libs.now.libs own t r.list.items a.mean)) b
+  where
+    go : Each (MeansInst s.libs.now.libs own) (map bare (insts_in t)) s.insts.now → NetsFaultIn s (nets_in t) f → ContentsFault s.libs.now.libs own s.ports.now t f
+    go m (inl b) = inr (inr (inl (inr (s.insts.now, m, inl b))))
+    go m (inr (inl b)) = inr (inr (inl (inr (s.insts.now, m, inr b))))
+    go m (inr (inr (inl b))) = inr (inr (inr (inr (inl b))))
+    go m (inr (inr (inr (inl b)))) = inr (inr (inr (inr (inr (inr (inl b))))))
+    go m (inr (inr (inr (inr b)))) = inr (inr (inr (inr (inr (inr (inr b))))))
+
+-- the contents
+pub contents_read : (rows : List Row) (s : Surroundings) (own : Option ℕ) (t : Placed) (p : Parts) (r : Insts) (nets : List design.Net) (i : Inside) → ArePartsOf rows keywords.View keywords.Contents t p → ReadInsts s.libs.now.libs own (followers keywords.Contents t) r → s.insts.now ≡ r.list.items
+    → ReadNets s (followers keywords.Contents t) nets → i.contents.insts ≡ r.list.items → i.contents.nets ≡ nets → i.insts ≡ r.names → ReadContents s.libs.now.libs own s.ports.now t i
+contents_read rows s own t p r nets i a x e y d n m =
+    let f = fit0 (Some keywords.View) keywords.Contents follows t refl refl refl a.fits in
+    let P : List design.Inst → Type 0 = λ v. Each (MeansNet s.libs.now.libs s.ports.now v) (those keywords.Net (map bare (followers keywords.Contents t))) nets in
+    let made : Inside = record { contents = record { insts = r.list.items; nets = nets }; insts = r.names } in
+    let whole : ReadContents s.libs.now.libs own s.ports.now t made = record {
+      mean = record { inner = map bare (followers keywords.Contents t); form = f.form; insts = x.mean; nets = subst P e y.mean };
+      typed = record { insts = λ k z l. (x.fine k z l).0; nets = λ k z l. (y.fine k z l).0 };
+      insts = x.count;
+      nets = y.count;
+      ends = y.ends;
+      inst_names = x.distinct;
+      net_names = y.names;
+      inst_keys = λ k z l. (x.fine k z l).1;
+      net_keys = λ k z l. (y.fine k z l).1;
+      joined_once = y.joined_once;
+      names = x.names;
+    } in
+    let same : made ≡ i = λ j. record { contents = record { insts = sym d j; nets = sym n j }; insts = sym m j } in
+    let Q : Inside → Type 0 = λ v. ReadContents s.libs.now.libs own s.ports.now t v in
+    subst Q same whole

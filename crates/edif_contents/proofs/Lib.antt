@@ -1,0 +1,10 @@
+pub mod ContentsLemmas
+pub mod EndLemmas
+pub mod FixedNodes
+pub mod InsideLoops
+pub mod InstLemmas
+pub mod JoinKeys
+pub mod JoinLemmas
+pub mod KnownLemmas
+pub mod NetLemmas
+pub mod RefLemmas

@@ -1,0 +1,6 @@
+pub mod Ends
+pub mod Inners
+pub mod Insides
+pub mod Joins
+pub mod Known
+pub mod Nets

@@ -1,0 +1,67 @@
+//! The contents of a cell: instances and nets.
+ghost use Rattle.std.specs.Prelude.{◌≡◌, true};
+ghost use Rattle.spelling_spec.specs.Tree.{Placed, bare};
+ghost use Rattle.edif_spec.specs.Design as design;
+ghost use Rattle.edif_spec.specs.Rows.{has_keyword};
+ghost use Rattle.edif_spec.specs.Stands.{ContentsFault};
+ghost use Rattle.edif_spec.specs.declared.keyword.Keyword.TheVariants.{Contents as ContentsWord};
+ghost use Rattle.edif_tree.specs.Nodes.{IsAt, IsNode};
+ghost use Rattle.edif_contents.specs.Insides.{ReadContents};
+ghost use Rattle.edif_parts.specs.Names.{ids};
+ghost use Rattle.edif_parts.specs.Reading.{Answers};
+
+use crate::ends::Surroundings;
+use crate::insts::{Insts, read_insts};
+use crate::known::Libraries;
+use crate::nets::read_nets;
+use edif_parts::error::EdifError;
+use edif_parts::names::Names;
+use edif_parts::parts::read_parts;
+use edif_spec::Keyword;
+use edif_tree::{NodeId, Tree};
+use netlist_schema::{Contents, Port, Row};
+use std::alloc::Global;
+
+/// What contents say.
+#[derive(Drop)]
+pub struct Inside {
+    /// The instances and the nets.
+    pub contents: Contents,
+    /// The names of the instances.
+    pub insts: Names,
+}
+
+/// The contents that a form at a node means, in a cell with these ports, whose names are `names`, of the library `own`.
+pub fn read_contents(
+    alloc: Global,
+    tree: &Tree,
+    node: NodeId,
+    libs: &Libraries,
+    own: Option<u32>,
+    ports: &[Port],
+    names: &Names,
+) -> Result<Inside, EdifError>
+    requires node { IsNode tree.now.rows node }
+    requires keyword { (t : Placed) → IsAt tree.now.rows node t → has_keyword ContentsWord (bare t) ≡ true }
+    requires names { ids names.now ≡ design.port_ids ports.now }
+    ensures { (t : Placed) → IsAt tree.now.rows node t → Answers (ReadContents libs.now.libs own ports.now t) (ContentsFault libs.now.libs own ports.now t) result }
+{
+    let parts = read_parts(alloc, tree, node, Keyword::View, Keyword::Contents)?;
+    let insts = read_insts(alloc, tree, parts.inner, libs, own)?;
+    let around = Surroundings {
+        libs,
+        ports,
+        port_names: names,
+        insts: insts.list.as_slice(),
+        inst_names: &insts.names,
+    };
+    let nets = read_nets(alloc, tree, parts.inner, &around)?;
+    let Insts { list, names } = insts;
+    Ok(Inside {
+        contents: Contents {
+            insts: Row::of(list),
+            nets,
+        },
+        insts: names,
+    })
+}

@@ -1,0 +1,220 @@
+//! Ends of nets.
+ghost use Rattle.std.specs.Prelude.{◌≡◌, ◌∷◌, [], ◌≤◌, ◌<◌, ℕ, List, Option, IfNone, IfSome, length, map, pos, true};
+ghost use Rattle.std.specs.List.{AllByRecursion};
+ghost use Rattle.spelling_spec.specs.Tree.{Placed, Word', bare};
+ghost use Rattle.edif_spec.specs.Design as design;
+ghost use Rattle.edif_spec.specs.Faults.{Among};
+ghost use Rattle.edif_spec.specs.Keyword.{AForm, AnIdentifier};
+ghost use Rattle.edif_spec.specs.Means.{MeansBit, MeansInstRef, meant, width_at};
+ghost use Rattle.edif_spec.specs.Rows.{Perhaps, has_keyword, is_one_of};
+ghost use Rattle.edif_spec.specs.Stands.{BitFault, InstRefFault};
+ghost use Rattle.edif_spec.specs.declared.keyword.Keyword.TheVariants.{InstanceRef, Member, PortRef};
+ghost use Rattle.edif_tree.specs.Nodes.{IsAt, IsNode};
+ghost use Rattle.edif_spec.specs.declared.fault.MeaningFault.TheVariants.{At};
+ghost use Rattle.edif_parts.specs.declared.error.EdifError.TheVariants.{Fault};
+ghost use Rattle.edif_contents.specs.Ends.{AreNamed, EndFaultIn, MeansEndIn, ports_for};
+ghost use Rattle.edif_grammar.specs.Forms.{Stand};
+ghost use Rattle.edif_parts.specs.Names.{Tells, ids};
+ghost use Rattle.edif_parts.specs.Reading.{Answers};
+
+use crate::known::Libraries;
+use crate::references::{Reference, read_reference, reference_at, resolve};
+use edif_names::Meant;
+use edif_parts::error::EdifError;
+use edif_parts::names::Names;
+use edif_parts::parts::{integer_at, read_parts};
+use edif_spec::{Keyword, Kind, MeaningFault};
+use edif_tree::{NodeId, Shape, Tree};
+use netlist_schema::{End, Ident, Inst, Port};
+use std::alloc::Global;
+
+/// What the ends of nets are judged by: the libraries, the ports of the cell and its instances, with their names.
+#[derive(Clone, Copy)]
+pub struct Surroundings<'a> {
+    /// The libraries so far.
+    pub libs: &'a Libraries,
+    /// The ports of the cell.
+    pub ports: &'a [Port],
+    /// Their names.
+    pub port_names: &'a Names,
+    /// The instances of the cell.
+    pub insts: &'a [Inst],
+    /// Their names.
+    pub inst_names: &'a Names,
+}
+
+/// A bit among some ports.
+#[derive(Clone, Copy)]
+pub struct Bit {
+    /// The place of the port.
+    pub port: u32,
+    /// The place of the bit in the port.
+    pub bit: u32,
+}
+
+/// A fault at one place.
+fn at(kind: Kind, place: u64) -> EdifError
+    ensures { result ≡ Fault (At kind place) }
+{
+    EdifError::Fault(MeaningFault::At { kind, place })
+}
+
+/// The place of the instance that a reference at a node means.
+fn read_inst_ref(alloc: Global, tree: &Tree, node: NodeId, names: &Names) -> Result<u32, EdifError>
+    requires node { IsNode tree.now.rows node }
+    requires keyword { (t : Placed) → IsAt tree.now.rows node t → has_keyword InstanceRef (bare t) ≡ true }
+    ensures { (t : Placed) (insts : List design.Inst) → IsAt tree.now.rows node t → ids names.now ≡ design.inst_ids insts → Answers (MeansInstRef insts (bare t)) (InstRefFault insts t) result }
+{
+    let name = read_reference(alloc, tree, node, Keyword::PortRef, Keyword::InstanceRef)?;
+    resolve(names.meant(name.name), name.place)
+}
+
+/// The place of the instance that what follows the bit of an end means, where an instance follows.
+fn read_inst_among(
+    alloc: Global,
+    tree: &Tree,
+    inner: &[NodeId],
+    names: &Names,
+) -> Result<Option<u32>, EdifError>
+    requires { (ts : List Placed) × Stand tree.now.rows inner.now ts × AllByRecursion (λ u. has_keyword InstanceRef (bare u) ≡ true) ts × (length ts ≤ 1) }
+    ensures { (ts : List Placed) (insts : List design.Inst) → Stand tree.now.rows inner.now ts → ids names.now ≡ design.inst_ids insts
+        → Answers (Perhaps (MeansInstRef insts) (map bare ts)) (Among (InstRefFault insts) ts) result }
+{
+    match inner.first() {
+        Some(node) => {
+            let inst = read_inst_ref(alloc, tree, *node, names)?;
+            Ok(Some(inst))
+        }
+        None => Ok(None),
+    }
+}
+
+/// What a name means among the ports of an end. Takes no memory.
+fn port_meant(around: &Surroundings, inst: Option<u32>, name: &Ident) -> Meant
+    requires { AreNamed around.now }
+    ensures { Tells (meant (design.port_ids (ports_for around.now inst)) name.now) result }
+{
+    match inst {
+        None => around.port_names.meant(name),
+        Some(inst) => match around.insts.get(inst as usize) {
+            Some(inst) => around.libs.port(inst.of, name),
+            None => Meant::Absent,
+        },
+    }
+}
+
+/// The number of bits of a port, 0 where there is no such port. Takes no memory.
+fn width_of(ports: &[Port], port: u32) -> u32
+    ensures { result ≡ width_at ports.now port }
+{
+    match ports.get(port as usize) {
+        Some(port) => match &port.array {
+            Some(width) => width.get(),
+            None => 1,
+        },
+        None => 0,
+    }
+}
+
+/// The number of bits of a port of an end, 0 where there is no such port. Takes no memory.
+fn port_width(around: &Surroundings, inst: Option<u32>, port: u32) -> u32
+    ensures { result ≡ width_at (ports_for around.now inst) port }
+{
+    let Some(inst) = inst else {
+        return width_of(around.ports, port);
+    };
+    let Some(inst) = around.insts.get(inst as usize) else {
+        return 0;
+    };
+    match around.libs.body(inst.of) {
+        Some(cell) => width_of(cell.ports.as_slice(), port),
+        None => 0,
+    }
+}
+
+/// An index as the place of a bit in a port of this width, where there is such a bit.
+fn bit_below(index: i64, width: u32) -> Option<u32>
+    ensures some { IfSome result (λ bit. (index ≡ pos bit) × (bit < width)) }
+    ensures none { IfNone result ((n : ℕ) → index ≡ pos n → n < width → ⊥) }
+{
+    match u32::try_from(index) {
+        Ok(bit) if bit < width => Some(bit),
+        _ => None,
+    }
+}
+
+/// The bit that a port by itself means, which has to be a port of one bit.
+fn whole_port(around: &Surroundings, inst: Option<u32>, name: Reference) -> Result<Bit, EdifError>
+    requires { AreNamed around.now }
+    ensures { (t : Placed) → t ≡ Word' name.entry.place name.entry.name.now → Answers (λ b. MeansBit (ports_for around.now inst) (bare t) b.port b.bit) (BitFault (ports_for around.now inst) t) result }
+{
+    let port = resolve(port_meant(around, inst, name.name), name.place)?;
+    if port_width(around, inst, port) != 1 {
+        return Err(at(Kind::WholeArray, name.place));
+    }
+    Ok(Bit { port, bit: 0 })
+}
+
+/// The bit that a member of a port means.
+fn read_member(
+    alloc: Global,
+    tree: &Tree,
+    node: NodeId,
+    around: &Surroundings,
+    inst: Option<u32>,
+) -> Result<Bit, EdifError>
+    requires node { IsNode tree.now.rows node }
+    requires keyword { (t : Placed) → IsAt tree.now.rows node t → has_keyword Member (bare t) ≡ true }
+    requires names { AreNamed around.now }
+    ensures { (t : Placed) → IsAt tree.now.rows node t → Answers (λ b. MeansBit (ports_for around.now inst) (bare t) b.port b.bit) (BitFault (ports_for around.now inst) t) result }
+{
+    let parts = read_parts(alloc, tree, node, Keyword::PortRef, Keyword::Member)?;
+    let name = reference_at(tree, parts.fixed[0]);
+    let port = resolve(port_meant(around, inst, name.name), name.place)?;
+    let index = parts.fixed[1];
+    match bit_below(integer_at(tree, index), port_width(around, inst, port)) {
+        Some(bit) => Ok(Bit { port, bit }),
+        None => Err(at(Kind::BadIndex, tree.place(index))),
+    }
+}
+
+/// The bit that a port, or a member of one, at a node means.
+fn read_bit(
+    alloc: Global,
+    tree: &Tree,
+    node: NodeId,
+    around: &Surroundings,
+    inst: Option<u32>,
+) -> Result<Bit, EdifError>
+    requires node { IsNode tree.now.rows node }
+    requires choice { (t : Placed) → IsAt tree.now.rows node t → is_one_of (AnIdentifier ∷ AForm Member ∷ []) (bare t) ≡ true }
+    requires names { AreNamed around.now }
+    ensures { (t : Placed) → IsAt tree.now.rows node t → Answers (λ b. MeansBit (ports_for around.now inst) (bare t) b.port b.bit) (BitFault (ports_for around.now inst) t) result }
+{
+    match tree.shape(node) {
+        Shape::Word(_) => whole_port(around, inst, reference_at(tree, node)),
+        _ => read_member(alloc, tree, node, around, inst),
+    }
+}
+
+/// The end that a form at a node means.
+pub fn read_end(
+    alloc: Global,
+    tree: &Tree,
+    node: NodeId,
+    around: &Surroundings,
+) -> Result<End, EdifError>
+    requires node { IsNode tree.now.rows node }
+    requires keyword { (t : Placed) → IsAt tree.now.rows node t → has_keyword PortRef (bare t) ≡ true }
+    requires names { AreNamed around.now }
+    ensures { (t : Placed) → IsAt tree.now.rows node t → Answers (MeansEndIn around.now (bare t)) (EndFaultIn around.now t) result }
+{
+    let parts = read_parts(alloc, tree, node, Keyword::Joined, Keyword::PortRef)?;
+    let inst = read_inst_among(alloc, tree, parts.inner, around.inst_names)?;
+    let found = read_bit(alloc, tree, parts.fixed[0], around, inst)?;
+    Ok(End {
+        inst,
+        port: found.port,
+        bit: found.bit,
+    })
+}

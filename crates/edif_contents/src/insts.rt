@@ -1,0 +1,94 @@
+//! Instances.
+ghost use Rattle.std.specs.Prelude.{◌≡◌, List, true};
+ghost use Rattle.spelling_spec.specs.Tree.{Placed, bare};
+ghost use Rattle.edif_spec.specs.Faults.{those_of};
+ghost use Rattle.edif_spec.specs.Rows.{has_keyword};
+ghost use Rattle.edif_spec.specs.Stands.{InstFault};
+ghost use Rattle.edif_spec.specs.declared.keyword.Keyword.TheVariants.{Instance};
+ghost use Rattle.edif_tree.specs.Nodes.{IsAt, IsNode};
+ghost use Rattle.edif_grammar.specs.Forms.{Stand};
+ghost use Rattle.edif_contents.specs.Inners.{InstsFault, ReadInst, ReadInsts};
+ghost use Rattle.edif_parts.specs.Reading.{Answers};
+
+use crate::known::Libraries;
+use crate::limits::{MOST_INSIDE, room};
+use crate::references::read_view_ref;
+use edif_parts::error::EdifError;
+use edif_parts::names::{Names, read_name};
+use edif_parts::parts::{is_form_of, read_parts};
+use edif_parts::properties::read_properties;
+use edif_parts::texts::read_text_among;
+use edif_spec::Keyword;
+use edif_tree::{NodeId, Tree};
+use netlist_schema::Inst;
+use std::alloc::Global;
+
+/// An instance, and where its name stands.
+#[derive(Drop)]
+pub struct InstAt {
+    /// The instance.
+    pub inst: Inst,
+    /// The number of bytes before the identifier of its name.
+    pub place: u64,
+}
+
+/// The instance that a form at a node means, in the library `own`.
+pub fn read_inst(
+    alloc: Global,
+    tree: &Tree,
+    node: NodeId,
+    libs: &Libraries,
+    own: Option<u32>,
+) -> Result<InstAt, EdifError>
+    requires node { IsNode tree.now.rows node }
+    requires keyword { (t : Placed) → IsAt tree.now.rows node t → has_keyword Instance (bare t) ≡ true }
+    ensures { (t : Placed) → IsAt tree.now.rows node t → Answers (ReadInst libs.now.libs own t) (InstFault libs.now.libs own t) result }
+{
+    let parts = read_parts(alloc, tree, node, Keyword::Contents, Keyword::Instance)?;
+    let name = read_name(alloc, tree, parts.fixed[0])?;
+    let of = read_view_ref(alloc, tree, parts.fixed[1], libs, own)?;
+    let designator = read_text_among(alloc, tree, parts.inner, Keyword::Designator)?;
+    let properties = read_properties(alloc, tree, parts.inner)?;
+    Ok(InstAt {
+        inst: Inst {
+            name: name.name,
+            of,
+            designator,
+            properties,
+        },
+        place: name.place,
+    })
+}
+
+/// Instances, in order, and their names.
+#[derive(Drop)]
+pub struct Insts {
+    /// The instances.
+    pub list: Vec<Inst>,
+    /// Their names.
+    pub names: Names,
+}
+
+/// The instances among these followers of a form, in order, with names that differ.
+pub fn read_insts(
+    alloc: Global,
+    tree: &Tree,
+    inner: &[NodeId],
+    libs: &Libraries,
+    own: Option<u32>,
+) -> Result<Insts, EdifError>
+    requires { (ts : List Placed) × Stand tree.now.rows inner.now ts }
+    ensures { (ts : List Placed) → Stand tree.now.rows inner.now ts → Answers (ReadInsts libs.now.libs own ts) (InstsFault libs.now.libs own (those_of Instance ts)) result }
+{
+    let mut names = Names::new(alloc);
+    let mut list = Vec::new(alloc);
+    for node in inner {
+        if is_form_of(tree, *node, Keyword::Instance) {
+            room(list.len(), MOST_INSIDE, tree.place(*node))?;
+            let read = read_inst(alloc, tree, *node, libs, own)?;
+            names.add(&read.inst.name.id, read.place)?;
+            list.push(read.inst)?;
+        }
+    }
+    Ok(Insts { list, names })
+}

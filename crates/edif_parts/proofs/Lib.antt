@@ -1,0 +1,14 @@
+pub mod Answering
+pub mod Keywords
+pub mod NameForms
+pub mod NameLists
+pub mod NameTables
+pub mod NamedForms
+pub mod PartLemmas
+pub mod PortForms
+pub mod PortLists
+pub mod PropertyForms
+pub mod Steps
+pub mod TextLemmas
+pub mod ValueForms
+pub mod WordLemmas

@@ -1,0 +1,66 @@
+-- What a rename means, and the name in a rename or an array.
+use Rattle.std.proofs.Common.{◌≡◌, ℕ, List, [], ◌∷◌, map, refl, ap, ◌∙◌, subst, inr, true, None, Some}
+use Rattle.std.specs.Prelude.{cond, slice_get}
+use Rattle.netlist_schema.specs.Ident.{IsIdentifier}
+use Rattle.netlist_schema.specs.Typed.{IsBytes, IsTypedName}
+use Rattle.netlist_schema.specs.declared.property.Name.{Name}
+use Rattle.spelling_spec.specs.Tree.{Placed, Trees, Form', Word', Integer', String', End, More, bare}
+use Rattle.edif_spec.specs.Keyword.{spelling_of, same, identifier, string}
+use Rattle.edif_spec.specs.Means.{MeansName}
+use Rattle.edif_spec.specs.Rows.{has_keyword, IsFormOf}
+use Rattle.edif_spec.specs.Faults.{arguments, followers, name_of, holds_name, defined}
+use Rattle.edif_spec.specs.declared.keyword.Keyword.TheVariants as keywords
+use Rattle.edif_spec.proofs.KnownRows.{follow_none}
+use Rattle.edif_tree.specs.Nodes.{Row}
+use Rattle.edif_grammar.specs.declared.lent.Parts.{Parts}
+use Rattle.edif_grammar.proofs.KeywordLemmas.{or_left, or_right}
+use Rattle.edif_parts.proofs.PartLemmas.{TwoNodes}
+
+-- the name, typed, with the place of its identifier
+pub record NamedAt (t : Placed) (n : Name) (p : ℕ) : Type 0 where
+  pub means : MeansName (bare t) n
+  pub typed : IsTypedName n
+  pub at : name_of t ≡ Some (n.id, p)
+
+-- the name in a rename or an array is that of its first argument
+first_named : (name : List ℕ) (p q : ℕ) (ts : Trees ℕ) (u : Placed) → holds_name name ≡ true → slice_get (arguments (Form' p (More (Word' q name) ts))) 0 ≡ Some u → name_of (Form' p (More (Word' q name) ts)) ≡ name_of u
+first_named name p q End u h e = absurd (cc e)
+first_named name p q (More t ts) u h e = let s : t ≡ u = cc e in ap (λ b. cond b (name_of t) None) h ∙ ap name_of s
+
+pub rename_names : (t u : Placed) → has_keyword keywords.Rename (bare t) ≡ true → slice_get (arguments t) 0 ≡ Some u → name_of t ≡ name_of u
+rename_names (Form' p (More (Word' q name) ts)) u h e = first_named name p q ts u (or_left (same name (spelling_of keywords.Rename)) (same name (spelling_of keywords.Array)) h) e
+rename_names (Form' p (More (Form' q us) ts)) u h e = absurd (cc h)
+rename_names (Form' p (More (Integer' q z) ts)) u h e = absurd (cc h)
+rename_names (Form' p (More (String' q s) ts)) u h e = absurd (cc h)
+rename_names (Form' p End) u h e = absurd (cc h)
+rename_names (Word' p w) u h e = absurd (cc h)
+rename_names (Integer' p z) u h e = absurd (cc h)
+rename_names (String' p s) u h e = absurd (cc h)
+
+pub array_names : (t u : Placed) → has_keyword keywords.Array (bare t) ≡ true → slice_get (arguments t) 0 ≡ Some u → name_of t ≡ name_of u
+array_names (Form' p (More (Word' q name) ts)) u h e = first_named name p q ts u (or_right (same name (spelling_of keywords.Rename)) (same name (spelling_of keywords.Array)) h) e
+array_names (Form' p (More (Form' q us) ts)) u h e = absurd (cc h)
+array_names (Form' p (More (Integer' q z) ts)) u h e = absurd (cc h)
+array_names (Form' p (More (String' q s) ts)) u h e = absurd (cc h)
+array_names (Form' p End) u h e = absurd (cc h)
+array_names (Word' p w) u h e = absurd (cc h)
+array_names (Integer' p z) u h e = absurd (cc h)
+array_names (String' p s) u h e = absurd (cc h)
+
+-- the name that a form defines is that of its first argument
+pub defined_first : (t u : Placed) → slice_get (arguments t) 0 ≡ Some u → defined t ≡ name_of u
+defined_first (Form' p (More k (More v ts))) u e = let s : v ≡ u = cc e in ap name_of s
+defined_first (Form' p (More k End)) u e = absurd (cc e)
+defined_first (Form' p End) u e = absurd (cc e)
+defined_first (Word' p w) u e = absurd (cc e)
+defined_first (Integer' p z) u e = absurd (cc e)
+defined_first (String' p s) u e = absurd (cc e)
+
+-- a rename
+pub rename_named : (rows : List Row) (t : Placed) (parts : Parts) (n : TwoNodes rows keywords.Rename identifier string t parts) (w s : List ℕ) (p q : ℕ) → has_keyword keywords.Rename (bare t) ≡ true → n.a ≡ Word' p w → n.b ≡ String' q s → IsIdentifier w → IsBytes s
+    → NamedAt t (record { id = w; shown = Some s }) p
+rename_named rows t parts n w s p q k a b i y =
+    let f : IsFormOf keywords.Rename (bare t) (bare n.a ∷ bare n.b ∷ []) [] = follow_none keywords.Rename (identifier ∷ string ∷ []) (bare t) (bare n.a ∷ bare n.b ∷ []) (map bare (followers keywords.Rename t)) refl n.form in
+    let P : Placed → Placed → Type 0 = λ x y. IsFormOf keywords.Rename (bare t) (bare x ∷ bare y ∷ []) [] in
+    let g : P (Word' p w) (String' q s) = subst (λ y. P (Word' p w) y) b (subst (λ x. P x n.b) a f) in
+    record { means = inr (s, g, refl); typed = record { id = i; shown = y }; at = rename_names t n.a k n.at_a ∙ ap name_of a }

@@ -1,0 +1,110 @@
+-- What a port means, with its name and its direction.
+use Rattle.std.proofs.Common.{◌≡◌, ◌≤◌, ◌<◌, ◌^◌, ℕ, ℤ, pos, negsuc, nat_abs, List, [], ◌∷◌, map, length, refl, sym, ap, ◌∙◌, subst, inl, inr, Bool, true, false, Option, None, Some, arith}
+use Rattle.std.specs.Prelude.{IfSome, IfNone, IsSome, ◌||◌}
+use Rattle.std.specs.Int.{FitsUnsignedBits}
+use Rattle.spelling_spec.specs.Tree.{Bare, Placed, Word', Integer', integer, bare}
+use Rattle.netlist_schema.specs.Typed.{IsTypedName}
+use Rattle.netlist_schema.specs.Types.{Direction, Name, Port}
+use Rattle.netlist_schema.specs.Width.{IsWidth}
+use Rattle.edif_spec.specs.Canonical.{direction_word}
+use Rattle.edif_spec.specs.Keyword.{same, identifier, Choice, Follower, Many, One, name_definition}
+use Rattle.edif_spec.specs.Keyword as table
+use Rattle.edif_spec.specs.Means.{MeansName, MeansPortName, MeansDirection, MeansText, MeansProperties, MeansPort}
+use Rattle.edif_spec.specs.Rows.{Perhaps, those, has_keyword, is_choice, is_one_of, IsFormOf}
+use Rattle.edif_spec.specs.Faults.{InPart, defined, name_of, followers, those_of}
+use Rattle.edif_spec.specs.Stands.{is_direction, DirectionFault, SizeFault}
+use Rattle.edif_spec.specs.declared.fault.Kind.TheVariants.{BadForm, BadIndex}
+use Rattle.edif_spec.specs.declared.fault.MeaningFault.TheVariants.{At}
+use Rattle.edif_spec.specs.declared.keyword.Keyword.{Keyword}
+use Rattle.edif_spec.specs.declared.keyword.Keyword.TheVariants as keywords
+use Rattle.edif_spec.proofs.KnownRows.{follow_none}
+use Rattle.edif_tree.specs.Nodes as nodes
+use Rattle.edif_parts.specs.Parts.{ArePartsOf}
+use Rattle.edif_parts.specs.Ports.{ReadPortName, port_names}
+use Rattle.edif_grammar.specs.declared.lent.Parts.{Parts}
+use Rattle.edif_grammar.proofs.FormLemmas.{once_fits}
+use Rattle.edif_parts.proofs.NameForms.{array_names, defined_first}
+use Rattle.edif_parts.proofs.PartLemmas.{OneNode, TwoNodes, one_node, two_nodes}
+
+-- directions
+pub direction_node : (rows : List nodes.Row) (parent : Keyword) (t : Placed) (p : Parts) → ArePartsOf rows parent keywords.Direction t p → OneNode rows keywords.Direction identifier t p
+direction_node rows parent t p a = one_node rows parent keywords.Direction identifier [] t p refl refl refl a
+
+pub direction_means : (rows : List nodes.Row) (t : Placed) (p : Parts) (n : OneNode rows keywords.Direction identifier t p) (q : ℕ) (w : List ℕ) (d : Direction) → n.a ≡ Word' q w → same w (direction_word d) ≡ true → MeansDirection (bare t) d
+direction_means rows t p n q w d e h =
+    let P : Placed → Type 0 = λ v. IsFormOf keywords.Direction (bare t) (bare v ∷ []) [] in
+    (w, subst P e (follow_none keywords.Direction (identifier ∷ []) (bare t) (bare n.a ∷ []) (map bare (followers keywords.Direction t)) refl n.form), h)
+
+pub direction_fault : (rows : List nodes.Row) (t : Placed) (p : Parts) (n : OneNode rows keywords.Direction identifier t p) (q : ℕ) (w : List ℕ) → n.a ≡ Word' q w → is_direction w ≡ false → DirectionFault t (At BadForm q)
+direction_fault rows t p n q w e h = inr (n.a, n.at_a, (w, q, e, h, refl))
+
+pub no_direction : (w : List ℕ) (a b d : Bool) → a ≡ false → b ≡ false → d ≡ false → (a || (b || d)) ≡ false
+no_direction w a b d x y z = rw (x, y, z) refl
+
+-- arrays
+pub array_nodes : (rows : List nodes.Row) (parent : Keyword) (t : Placed) (p : Parts) → ArePartsOf rows parent keywords.Array t p → TwoNodes rows keywords.Array name_definition table.integer t p
+array_nodes rows parent t p a = two_nodes rows parent keywords.Array name_definition table.integer [] t p refl refl refl a
+
+pub array_means : (rows : List nodes.Row) (t : Placed) (p : Parts) (n : TwoNodes rows keywords.Array name_definition table.integer t p) (x : Name) (q : ℕ) (z : ℤ) (width place : ℕ) → has_keyword keywords.Array (bare t) ≡ true
+    → MeansName (bare n.a) x → IsTypedName x → name_of n.a ≡ Some (x.id, place) → n.b ≡ Integer' q z → z ≡ pos width → IsWidth width → ReadPortName t (record { name = x; array = Some width; place = place })
+array_means rows t p n x q z width place k m y d e v w =
+    let P : Placed → Type 0 = λ u. IsFormOf keywords.Array (bare t) (bare n.a ∷ bare u ∷ []) [] in
+    let Q : ℤ → Type 0 = λ u. IsFormOf keywords.Array (bare t) (bare n.a ∷ integer u ∷ []) [] in
+    let f : P n.b = follow_none keywords.Array (name_definition ∷ table.integer ∷ []) (bare t) (bare n.a ∷ bare n.b ∷ []) (map bare (followers keywords.Array t)) refl n.form in
+    let l : 1 ≤ width = w.0 in
+    record { means = (bare n.a, subst Q v (subst P e f), m, (omega arith), w.1); typed = y; width = w; at = array_names t n.a k n.at_a ∙ d }
+
+pub size_fault : (rows : List nodes.Row) (t : Placed) (p : Parts) (n : TwoNodes rows keywords.Array name_definition table.integer t p) (q : ℕ) (z : ℤ) → n.b ≡ Integer' q z → ((w : ℕ) → z ≡ pos w → IsWidth w → ⊥) → InPart 1 SizeFault t (At BadIndex q)
+size_fault rows t p n q z e h = (n.b, n.at_b, (z, q, e, h, refl))
+
+-- the width of so many bits
+pub too_wide : (z : ℤ) (n : ℕ) → (FitsUnsignedBits 32 z → ⊥) → z ≡ pos n → IsWidth n → ⊥
+too_wide z n h e w =
+    let P : ℤ → Type 0 = λ v. FitsUnsignedBits 32 v → ⊥ in
+    let l : n ≤ 65536 = w.1 in
+    let m : n < 2 ^ 32 = omega (arith, l) in subst P e h m
+
+pub fitting : (z : ℤ) (b : ℕ) → FitsUnsignedBits 32 z → b ≡ nat_abs z → z ≡ pos b
+fitting (pos n) b f e = ap pos (sym e)
+fitting (negsuc n) b f e = absurd f
+
+pub width_none : (o : Option ℕ) (b : ℕ) (z : ℤ) → (IsWidth b → IsSome o) → z ≡ pos b → IfNone o ((n : ℕ) → z ≡ pos n → IsWidth n → ⊥)
+width_none (Some w) b z s e = tt
+width_none None b z s e = λ n d w. let q : n ≡ b = (let both = sym d ∙ e in cc both) in let P : ℕ → Type 0 = IsWidth in absurd (cc (s (subst P q w)))
+
+pub width_some : (o : Option ℕ) (b : ℕ) (z : ℤ) → (IsSome o → IsWidth b) → IfSome o (λ w. w ≡ b) → z ≡ pos b → IfSome o (λ w. (z ≡ pos w) × IsWidth w)
+width_some None b z s v e = tt
+width_some (Some w) b z s v e = let P : ℕ → Type 0 = λ n. (z ≡ pos n) × IsWidth n in subst P (sym v) (e, s refl)
+
+-- a name that is no array
+pub plain_choice : (t : Bare) → is_one_of port_names t ≡ true → has_keyword keywords.Array t ≡ false → is_one_of name_definition t ≡ true
+plain_choice t h n = go (is_choice table.AnIdentifier t) (has_keyword keywords.Rename t) (has_keyword keywords.Array t) h n
+  where
+    go : (a b d : Bool) → (a || (b || (d || false))) ≡ true → d ≡ false → (a || (b || false)) ≡ true
+    go true b d h n = refl
+    go false true d h n = refl
+    go false false true h n = absurd (cc n)
+    go false false false h n = h
+
+pub plain_means : (t : Placed) (x : Name) (place : ℕ) → MeansName (bare t) x → IsTypedName x → name_of t ≡ Some (x.id, place) → ReadPortName t (record { name = x; array = None; place = place })
+plain_means t x place m y d = record { means = m; typed = y; width = tt; at = d }
+
+-- ports
+abbrev pub port_followers : List Follower
+port_followers = One keywords.Direction ∷ One keywords.Designator ∷ Many keywords.Property ∷ Many keywords.Comment ∷ Many keywords.UserData ∷ []
+
+pub port_node : (rows : List nodes.Row) (parent : Keyword) (t : Placed) (p : Parts) → ArePartsOf rows parent keywords.Port t p → OneNode rows keywords.Port port_names t p
+port_node rows parent t p a = one_node rows parent keywords.Port port_names port_followers t p refl refl refl a
+
+pub one_direction : (rows : List nodes.Row) (parent : Keyword) (t : Placed) (p : Parts) → ArePartsOf rows parent keywords.Port t p → length (those_of keywords.Direction (followers keywords.Port t)) ≤ 1
+one_direction rows parent t p a = once_fits (Some parent) keywords.Port keywords.Direction (port_names ∷ []) port_followers t refl (inl refl) refl a.fits
+
+pub one_designator : (rows : List nodes.Row) (parent : Keyword) (t : Placed) (p : Parts) → ArePartsOf rows parent keywords.Port t p → length (those_of keywords.Designator (followers keywords.Port t)) ≤ 1
+one_designator rows parent t p a = once_fits (Some parent) keywords.Port keywords.Designator (port_names ∷ []) port_followers t refl (inr (inl refl)) refl a.fits
+
+pub port_means : (rows : List nodes.Row) (t : Placed) (p : Parts) (n : OneNode rows keywords.Port port_names t p) (x : Port) → MeansPortName (bare n.a) x.name x.array → Perhaps MeansDirection (those keywords.Direction (map bare (followers keywords.Port t))) x.direction
+    → Perhaps (MeansText keywords.Designator) (those keywords.Designator (map bare (followers keywords.Port t))) x.designator → MeansProperties (map bare (followers keywords.Port t)) x.properties → MeansPort (bare t) x
+port_means rows t p n x m d g ps = record { name_part = bare n.a; inner = map bare (followers keywords.Port t); form = n.form; name = m; direction = d; designator = g; properties = ps }
+
+pub port_defines : (rows : List nodes.Row) (t : Placed) (p : Parts) (n : OneNode rows keywords.Port port_names t p) (d : List ℕ × ℕ) → name_of n.a ≡ Some d → defined t ≡ Some d
+port_defines rows t p n d e = defined_first t n.a n.at_a ∙ e

@@ -1,0 +1,50 @@
+-- What is read of an interface.
+use Rattle.std.specs.Prelude.{◌≡◌, ◌<◌, ◌≤◌, ◌⊎◌, ℕ, List, [], map, length, sum_by}
+use Rattle.std.specs.List.{All}
+use Rattle.spelling_spec.specs.Tree.{Placed, bare}
+use Rattle.netlist_schema.specs.Design.{port_width}
+use Rattle.netlist_schema.specs.Names.{AreDistinct, HasDistinctKeys}
+use Rattle.netlist_schema.specs.Typed.{IsTypedPort, IsTypedProperty}
+use Rattle.edif_spec.specs.Design as design
+use Rattle.edif_spec.specs.Faults.{Among, Repeats, Beyond, BeyondBits, followers}
+use Rattle.edif_spec.specs.Means.{MeansPort, MeansProperties}
+use Rattle.edif_spec.specs.Rows.{IsFormOf, Each, those}
+use Rattle.edif_spec.specs.Stands.{PortFault}
+use Rattle.edif_spec.specs.declared.fault.MeaningFault.{MeaningFault}
+use Rattle.edif_spec.specs.declared.fault.MeaningFault.TheVariants.{OverLimit}
+use Rattle.edif_spec.specs.declared.keyword.Keyword.TheVariants as keywords
+use Rattle.edif_parts.specs.Names.{ids}
+use Rattle.edif_parts.specs.declared.interface.Interface.{Interface}
+use Rattle.edif_parts.specs.declared.interface.Ports.{Ports}
+
+-- The ports among the followers of an interface, and their names.
+pub record ReadPorts (ts : List Placed) (p : Ports) : Type 0 where
+  pub ports : Each MeansPort (those keywords.Port (map bare ts)) p.ports
+  pub typed : All IsTypedPort p.ports
+  pub port_keys : All (λ (p : design.Port). HasDistinctKeys p.properties) p.ports
+  pub distinct : AreDistinct (design.port_ids p.ports)
+  pub count : length p.ports ≤ 65536
+  pub bits : sum_by port_width p.ports ≤ 1048576
+  pub names : ids p.names ≡ design.port_ids p.ports
+
+-- in ports: in one of them, a name that repeats, more ports or bits than allowed
+abbrev pub PortsFault : List Placed → MeaningFault → Type 0
+PortsFault us f = Among PortFault us f ⊎ (Repeats us f ⊎ (Beyond 65536 us f ⊎ BeyondBits 1048576 0 us f))
+
+-- a port at a place passes a limit, behind so many others, where so many bits are its own and theirs
+abbrev pub PassesLimit : ℕ → ℕ → ℕ → MeaningFault → Type 0
+PassesLimit ports bits place f = ((65536 ≤ ports) × (f ≡ OverLimit 65536 place)) ⊎ ((1048576 < bits) × (f ≡ OverLimit 1048576 place))
+
+-- The ports and the properties that an interface means, and the names of the ports.
+pub record ReadInterface (t : Placed) (i : Interface) : Type 0 where
+  pub form : IsFormOf keywords.Interface (bare t) [] (map bare (followers keywords.Interface t))
+  pub ports : Each MeansPort (those keywords.Port (map bare (followers keywords.Interface t))) i.ports
+  pub typed : All IsTypedPort i.ports
+  pub port_keys : All (λ (p : design.Port). HasDistinctKeys p.properties) i.ports
+  pub distinct : AreDistinct (design.port_ids i.ports)
+  pub count : length i.ports ≤ 65536
+  pub bits : sum_by port_width i.ports ≤ 1048576
+  pub names : ids i.names ≡ design.port_ids i.ports
+  pub properties : MeansProperties (map bare (followers keywords.Interface t)) i.properties
+  pub typed_properties : All IsTypedProperty i.properties
+  pub keys : HasDistinctKeys i.properties

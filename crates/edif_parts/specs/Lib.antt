@@ -1,0 +1,7 @@
+pub mod Interfaces
+pub mod Names
+pub mod Parts
+pub mod Ports
+pub mod Reading
+pub mod Texts
+pub mod Values

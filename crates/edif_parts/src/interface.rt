@@ -1,0 +1,99 @@
+//! The interface of a cell: its ports, and properties of its own.
+ghost use Rattle.std.specs.Prelude.{◌≡◌, ◌<◌, ◌≤◌, IfErr, List, OnOk, true};
+ghost use Rattle.spelling_spec.specs.Tree.{Placed, bare};
+ghost use Rattle.edif_spec.specs.Faults.{those_of};
+ghost use Rattle.edif_spec.specs.Rows.{has_keyword};
+ghost use Rattle.edif_spec.specs.Stands.{InterfaceFault};
+ghost use Rattle.edif_spec.specs.declared.keyword.Keyword.TheVariants.{Interface as InterfaceWord, Port as PortWord};
+ghost use Rattle.edif_tree.specs.Nodes.{IsAt, IsNode};
+ghost use Rattle.edif_grammar.specs.Forms.{Stand};
+ghost use Rattle.edif_parts.specs.Interfaces.{PassesLimit, PortsFault, ReadInterface, ReadPorts};
+ghost use Rattle.edif_parts.specs.Reading.{Answers, Names as FailsBy};
+
+use crate::error::EdifError;
+use crate::names::Names;
+use crate::parts::{is_form_of, over_limit, read_parts};
+use crate::ports::read_port;
+use crate::properties::read_properties;
+use bus_members::width;
+use edif_spec::Keyword;
+use edif_tree::{NodeId, Tree};
+use netlist_schema::{Port, Property, Row};
+use std::alloc::Global;
+
+/// The most ports of a cell.
+const PORTS: usize = 65_536;
+
+/// The most bits of a cell's ports.
+const BITS: u64 = 1_048_576;
+
+/// What an interface says.
+#[derive(Drop)]
+pub struct Interface {
+    /// The ports, in order.
+    pub ports: Row<Port>,
+    /// The interface's own properties.
+    pub properties: Row<Property>,
+    /// The names of the ports.
+    pub names: Names,
+}
+
+/// The interface that a form at a node means.
+pub fn read_interface(alloc: Global, tree: &Tree, node: NodeId) -> Result<Interface, EdifError>
+    requires node { IsNode tree.now.rows node }
+    requires keyword { (t : Placed) → IsAt tree.now.rows node t → has_keyword InterfaceWord (bare t) ≡ true }
+    ensures { (t : Placed) → IsAt tree.now.rows node t → Answers (ReadInterface t) (InterfaceFault t) result }
+{
+    let parts = read_parts(alloc, tree, node, Keyword::View, Keyword::Interface)?;
+    let Ports { ports, names } = read_ports(alloc, tree, parts.inner)?;
+    let properties = read_properties(alloc, tree, parts.inner)?;
+    Ok(Interface {
+        ports,
+        properties,
+        names,
+    })
+}
+
+/// The ports of an interface, and their names.
+#[derive(Drop)]
+pub struct Ports {
+    /// The ports, in order.
+    pub ports: Row<Port>,
+    /// Their names.
+    pub names: Names,
+}
+
+/// The ports among these followers of an interface.
+fn read_ports(alloc: Global, tree: &Tree, inner: &[NodeId]) -> Result<Ports, EdifError>
+    requires { (ts : List Placed) × Stand tree.now.rows inner.now ts }
+    ensures { (ts : List Placed) → Stand tree.now.rows inner.now ts → Answers (ReadPorts ts) (PortsFault (those_of PortWord ts)) result }
+{
+    let mut names = Names::new(alloc);
+    let mut ports = Vec::new(alloc);
+    let mut bits = 0;
+    for node in inner {
+        if is_form_of(tree, *node, Keyword::Port) {
+            let read = read_port(alloc, tree, *node)?;
+            names.add(&read.port.name.id, read.place)?;
+            bits += u64::from(width(&read.port));
+            within_limits(ports.len(), bits, tree.place(*node))?;
+            ports.push(read.port)?;
+        }
+    }
+    let ports = Row::of(ports);
+    Ok(Ports { ports, names })
+}
+
+/// Whether a port at a place is within the limits, behind so many others, where so many bits are its own and theirs.
+fn within_limits(ports: usize, bits: u64, place: u64) -> Result<(), EdifError>
+    ensures ok { OnOk result ((ports < 65536) × (bits ≤ 1048576)) }
+    ensures err { IfErr result (FailsBy (PassesLimit ports bits place)) }
+{
+    if ports >= PORTS {
+        return Err(over_limit(PORTS as u64, place));
+    }
+    if bits > BITS {
+        return Err(over_limit(BITS, place));
+    }
+    Ok(())
+}
