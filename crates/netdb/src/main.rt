@@ -1,7 +1,7 @@
 //! The program `netdb`: its words, files and output are the system's.
 #![tactic(auto)]
 
-use netdb_cli::{EdifFault, Status, run_netdb};
+use netdb_cli::{EdifFault, Status, fault_text, run_netdb};
 use netdb_outside::{FreeGate, HostFiles, HostOut};
 use std::alloc::Global;
 use std::process::ExitCode;
@@ -41,17 +41,25 @@ fn print_of(rt: &HostRuntime, words: &[String], word: u32, says: &str) -> io::Re
     eprintln!(rt; "netdb: {name}: {says}")
 }
 
+/// Prints what is wrong with a design file.
+fn print_fault(rt: &HostRuntime, words: &[String], fault: &EdifFault) -> io::Result<()> {
+    let Ok(text) = fault_text(rt.alloc(), fault) else {
+        return eprintln!(rt; "netdb: no memory");
+    };
+    let says = String::from_utf8_lossy(rt.alloc(), text.as_slice())?;
+    print_of(rt, words, 1, says.as_str())
+}
+
 /// Prints the line of a status.
-fn print_line(rt: &HostRuntime, words: &[String], status: Status) -> io::Result<()> {
+fn print_line(rt: &HostRuntime, words: &[String], status: &Status) -> io::Result<()> {
     match status {
         Status::Ok => Ok(()),
         Status::Usage => eprintln!(rt; "{USAGE}"),
-        Status::Missing { word } => print_of(rt, words, word, "missing"),
-        Status::ReadFault { word } => print_of(rt, words, word, "read fault"),
+        Status::Missing { word } => print_of(rt, words, *word, "missing"),
+        Status::ReadFault { word } => print_of(rt, words, *word, "read fault"),
         Status::WriteFault => eprintln!(rt; "netdb: write fault"),
-        Status::BadEdif {
-            fault: EdifFault::NotPlain,
-        } => print_of(rt, words, 1, "NotPlain"),
+        Status::BadEdif { fault } => print_fault(rt, words, fault),
+        Status::TooLarge { word } => print_of(rt, words, *word, "too large"),
         Status::NoMemory => eprintln!(rt; "netdb: no memory"),
     }
 }
@@ -72,11 +80,11 @@ fn main(rt: HostRuntime) -> ExitCode {
         Ok(words) => words,
         Err(error) => {
             let status = refused(&error);
-            let _ = print_line(&rt, &[], status);
+            let _ = print_line(&rt, &[], &status);
             return ExitCode::from(status.number());
         }
     };
     let status = run(&rt, rt.alloc(), &words);
-    let _ = print_line(&rt, &words, status);
+    let _ = print_line(&rt, &words, &status);
     ExitCode::from(status.number())
 }

@@ -1,38 +1,35 @@
--- Bytes, their tokens and plain files.
-use Rattle.std.proofs.Common.{◌≡◌, ◌≤◌, List, length, None, Some, sym, subst}
+-- Bytes that are a design file, and what may be wrong with them.
+use Rattle.std.proofs.Common.{◌≡◌, ◌≤◌, inl, inr, List, length, None, Some, sym, subst}
 use Prim.Native.Nat.{ℕ}
-use Rattle.std.specs.Prelude.{IfOk, MatchOption, Option, Result, Ok, Err}
-use Rattle.spelling_spec.specs.declared.token.Token.{Token}
 use Rattle.spelling_spec.specs.Lexing.{tokens, lex_fault}
-use Rattle.spelling_spec.specs.Spelling.{IsForm}
-use Rattle.spelling_spec.specs.Tree.{Bare, listing}
-use Rattle.spelling_spec.proofs.SpelledTokens.{spelled_is_read, read_as}
+use Rattle.spelling_spec.specs.Tree.{Placed, bare}
+use Rattle.spelling_spec.specs.TreeFaults.{IsFile, tree_fault}
+use Rattle.spelling_spec.proofs.PlacedListings.{spelled_file, file_spells, one_placed}
+use Rattle.spelling_spec.proofs.SpelledTokens.{spelled_is_read}
+use Rattle.spelling_spec.proofs.TreeFaultLemmas.{none_of_tree}
+use Rattle.spelling_spec.specs.Tree.{listing}
 use Rattle.edif_spec.specs.Design.{Design}
-use Rattle.edif_spec.specs.Plain.{IsPlainFile, IsPlainTree}
-use Rattle.netdb_cli.specs.Outcome.{IsNoPlainFile}
-use Rattle.netdb_cli.specs.Reading.{kinds, ArePlain}
-use Rattle.netdb_cli.proofs.DepthLemmas.{plain_low}
+use Rattle.edif_spec.specs.Means.{MeansFile}
+use Rattle.edif_spec.specs.Stands.{Stands}
+use Rattle.edif_spec.proofs.FileFaultsApart.{stands_apart}
+use Rattle.netdb_cli.specs.Files.{IsDesignFile, IsWrong}
+use Rattle.netdb_cli.specs.declared.status.EdifFault.{EdifFault}
+use Rattle.netdb_cli.specs.declared.status.EdifFault.TheVariants.{Lex, Tree, Meaning}
 
-plain_form : (t : Bare) (d : Design) → IsPlainTree t d → IsForm t
-plain_form t d h = subst IsForm (sym h.file) tt
+-- bytes whose tokens are those of a tree that means a design
+pub file_of : (bytes : List ℕ) (t : Placed) (d : Design) → length bytes ≤ 134217728 → lex_fault bytes ≡ None → IsFile (tokens bytes) t → MeansFile (bare t) d → IsDesignFile bytes d
+file_of bytes t d size none file means = record { size = size; tree = bare t; spelled = file_spells bytes t none file; means = means }
 
--- bytes whose tokens are plain are a plain file
-pub plain_file : (bytes : List ℕ) (d : Design) → length bytes ≤ 134217728 → lex_fault bytes ≡ None → ArePlain (kinds (tokens bytes)) d → IsPlainFile bytes d
-plain_file bytes d size whole are = record {
-  size = size;
-  tree = are.tree;
-  spelled = record { tokens = read_as bytes (listing are.tree) whole are.tokens; file = plain_form are.tree d are.plain; levels = plain_low are.tree d are.plain };
-  plain = are.plain;
-  valid = are.valid;
-}
-
--- the tokens of a plain file are plain
-pub file_plain : (bytes : List ℕ) (d : Design) → IsPlainFile bytes d → (lex_fault bytes ≡ None) × ArePlain (kinds (tokens bytes)) d
-file_plain bytes d h = let read = spelled_is_read bytes (listing h.tree) h.spelled.tokens in (read.0, record { tree = h.tree; plain = h.plain; valid = h.valid; tokens = read.1 })
-
--- what reading the tokens gives is what reading the bytes gives
-pub tokens_are_bytes : {E : Type 0} (result : Result (Option Design) E) (bytes : List ℕ) (ts : List Token) → length bytes ≤ 134217728 → lex_fault bytes ≡ None → ts ≡ tokens bytes
-    → IfOk result (λ found. MatchOption found ((d : Design) → ArePlain (kinds ts) d → ⊥) (λ d. ArePlain (kinds ts) d)) → IfOk result (λ found. MatchOption found (IsNoPlainFile bytes) (λ d. IsPlainFile bytes d))
-tokens_are_bytes (Err e) bytes ts size whole same read = tt
-tokens_are_bytes (Ok None) bytes ts size whole same none = λ d file. none d (subst (λ (v : List Token). ArePlain (kinds v) d) (sym same) (file_plain bytes d file).1)
-tokens_are_bytes (Ok (Some d)) bytes ts size whole same are = plain_file bytes d size whole (subst (λ (v : List Token). ArePlain (kinds v) d) same are)
+-- nothing is wrong with a design file
+pub not_wrong : (bytes : List ℕ) (d : Design) (fault : EdifFault) → IsDesignFile bytes d → IsWrong bytes fault → ⊥
+not_wrong bytes d (Lex kind place) h wrong = let read = spelled_is_read bytes (listing h.tree) h.spelled.tokens in absurd (cc (read.0, wrong))
+not_wrong bytes d (Tree kind place) h wrong =
+    let read = spelled_file bytes h.tree h.spelled in
+    let none = none_of_tree (tokens bytes) (length bytes) read.0 read.1 in
+    absurd (cc (none, wrong.1))
+not_wrong bytes d (Meaning fault) h wrong =
+    let read = spelled_file bytes h.tree h.spelled in
+    let same : read.0 ≡ wrong.1.0 = one_placed (tokens bytes) read.0 wrong.1.0 read.1.listed wrong.1.1.listed in
+    let P : Placed → Type 0 = λ t. MeansFile (bare t) d in
+    let means : MeansFile (bare read.0) d = subst (λ b. MeansFile b d) (sym read.2) h.means in
+    stands_apart wrong.1.0 d fault (subst P same means) wrong.1.2

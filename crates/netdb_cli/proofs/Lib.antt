@@ -1,13 +1,5 @@
 pub mod BytesLemmas
-pub mod CellLemmas
-pub mod DepthLemmas
-pub mod EachLemmas
-pub mod FileLemmas
-pub mod LeafLemmas
 pub mod LexLemmas
-pub mod LibLemmas
-pub mod NameLemmas
-pub mod PieceLemmas
 pub mod RunLemmas
-pub mod ShapeLemmas
+pub mod TextLemmas
 pub mod WordLemmas

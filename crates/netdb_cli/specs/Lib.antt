@@ -1,5 +1,6 @@
 pub mod Command
+pub mod FaultText
+pub mod Files
 pub mod Outcome
-pub mod Reading
 pub mod StatusNumber
 pub mod Steps

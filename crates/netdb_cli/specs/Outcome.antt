@@ -1,5 +1,5 @@
 -- What a call of the program answers, why, and what it wrote.
-use Rattle.std.specs.Prelude.{◌≡◌, ◌⊎◌, ℕ, List, [], ◌∷◌, drop, Option, None, IfSome, IsSomeAnd, MatchOption, Contains}
+use Rattle.std.specs.Prelude.{◌≡◌, ◌⊎◌, ◌<◌, ◌≤◌, ℕ, List, [], ◌∷◌, drop, length, Option, None, IfSome, IsSomeAnd, MatchOption, Contains}
 use Rattle.netlist_schema.specs.Design.{Design}
 use Rattle.netlist_schema.specs.Valid.{IsValid}
 use Rattle.netdb_outside.specs.Outside.{Shelf, Appends, AppendsFront, Rose, file_named}
@@ -7,32 +7,31 @@ use Rattle.spelling_spec.specs.Spelling.{Spells}
 use Rattle.spelling_spec.specs.Tree.{Bare}
 use Rattle.edif_spec.specs.Arranged.{canonical_text}
 use Rattle.edif_spec.specs.Means.{MeansFile}
-use Rattle.edif_spec.specs.Plain.{IsPlainDesign, IsPlainFile}
+use Rattle.netdb_cli.specs.Files.{IsDesignFile, IsNoDesignFile, IsWrong}
+use Rattle.netdb_cli.specs.declared.status.EdifFault.{EdifFault}
 use Rattle.netdb_cli.specs.declared.status.Status.{Status}
 use Rattle.netdb_cli.specs.declared.status.Status.TheVariants as status
-use Rattle.netdb_cli.specs.declared.status.EdifFault.TheVariants.{NotPlain}
-
--- these bytes are no plain file
-abbrev pub IsNoPlainFile : List ℕ → Type 0
-IsNoPlainFile bytes = (d : Design) → IsPlainFile bytes d → ⊥
 
 -- where files are told: there is none of this name
 abbrev pub IsMissing : Option Shelf → List ℕ → Type 0
 IsMissing told name = IfSome told (λ shelf. file_named shelf.files name ≡ None)
 
--- where files are told: the file of this name is no plain file
-abbrev pub IsNotPlain : Option Shelf → List ℕ → Type 0
-IsNotPlain told name = IfSome told (λ shelf. IsSomeAnd (file_named shelf.files name) IsNoPlainFile)
+-- where files are told: there is a file of this name, and its bytes are such
+abbrev pub IsFile : Option Shelf → List ℕ → (List ℕ → Type 0) → Type 0
+IsFile told name P = IfSome told (λ shelf. IsSomeAnd (file_named shelf.files name) P)
 
--- where files are told: the file of this name is a plain file of this design
-abbrev pub IsFileOf : Option Shelf → List ℕ → Design → Type 0
-IsFileOf told name d = IfSome told (λ shelf. IsSomeAnd (file_named shelf.files name) (λ bytes. IsPlainFile bytes d))
+-- more bytes than a design file may have
+abbrev pub IsTooLarge : List ℕ → Type 0
+IsTooLarge bytes = 134217728 < length bytes
 
--- a design that was read from the file: it is plain and valid, and the file, where it is told, is a plain file of it
+-- as many bytes as a design file may have, of which this is wrong
+abbrev pub IsBad : EdifFault → List ℕ → Type 0
+IsBad fault bytes = (length bytes ≤ 134217728) × IsWrong bytes fault
+
+-- a design that was read from the file: it is valid, and the file, where it is told, is a design file of it
 pub record IsRead (told : Option Shelf) (name : List ℕ) (d : Design) : Type 0 where
-  pub plain : IsPlainDesign d
   pub valid : IsValid d
-  pub file : IsFileOf told name d
+  pub file : IsFile told name (λ bytes. IsDesignFile bytes d)
 
 -- the bytes spell a tree that means the design
 abbrev pub ReadsBack : List ℕ → Design → Type 0
@@ -65,7 +64,8 @@ WriteGives name old new status.Usage = ⊥
 WriteGives name old new (status.Missing word) = (word ≡ 1) × IsMissing new.files name × (new.written ≡ old.written)
 WriteGives name old new (status.ReadFault word) = (word ≡ 1) × Rose old.read_faults new.read_faults × (new.written ≡ old.written)
 WriteGives name old new status.WriteFault = WritesFront new.files name old.written new.written × IsReadThrough new.files name × Rose old.write_faults new.write_faults
-WriteGives name old new (status.BadEdif fault) = (fault ≡ NotPlain) × IsNotPlain new.files name × IsReadThrough new.files name × (new.written ≡ old.written)
+WriteGives name old new (status.BadEdif fault) = IsFile new.files name (IsBad fault) × IsReadThrough new.files name × (new.written ≡ old.written)
+WriteGives name old new (status.TooLarge word) = (word ≡ 1) × IsFile new.files name IsTooLarge × IsReadThrough new.files name × (new.written ≡ old.written)
 WriteGives name old new status.NoMemory = (new.written ≡ old.written) ⊎ WritesFront new.files name old.written new.written
 
 -- a status behind a fault in reading in the order of causes: it comes only where no such fault was counted
@@ -74,12 +74,26 @@ IsBehindReadFault status.Ok = Unit {0}
 IsBehindReadFault (status.Missing word) = Unit {0}
 IsBehindReadFault status.WriteFault = Unit {0}
 IsBehindReadFault (status.BadEdif fault) = Unit {0}
+IsBehindReadFault (status.TooLarge word) = Unit {0}
 IsBehindReadFault _ = ⊥
 
--- Where files are told: where there is no file of this name, its being missing is answered, or a fault in reading it, or want of
--- memory; where it is no plain file, that is answered, or a fault in reading it, or want of memory; and where it is one, neither.
+-- a fault in reading, or want of memory
+abbrev pub IsExcuse : Status → Type 0
+IsExcuse (status.ReadFault word) = word ≡ 1
+IsExcuse status.NoMemory = Unit {0}
+IsExcuse _ = ⊥
+
+-- something is wrong with the file
+abbrev pub IsBadFile : Status → Type 0
+IsBadFile (status.BadEdif fault) = Unit {0}
+IsBadFile _ = ⊥
+
+-- Where files are told: which status a file asks for, unless a fault in reading it or want of memory comes in its place. No such
+-- file is missing; one of too many bytes is too large; of any other, something is wrong with it where it is no design file; and
+-- where it is one, it is written, or a fault in writing comes.
 abbrev pub IsDue : Option Shelf → List ℕ → Status → Type 0
 IsDue told name result = IfSome told (λ shelf. MatchOption (file_named shelf.files name)
-    (Contains (status.Missing 1 ∷ status.ReadFault 1 ∷ status.NoMemory ∷ []) result)
-    (λ bytes. (IsNoPlainFile bytes → Contains (status.BadEdif NotPlain ∷ status.ReadFault 1 ∷ status.NoMemory ∷ []) result)
-    × ((d : Design) → IsPlainFile bytes d → Contains (status.Ok ∷ status.ReadFault 1 ∷ status.WriteFault ∷ status.NoMemory ∷ []) result)))
+    ((result ≡ status.Missing 1) ⊎ IsExcuse result)
+    (λ bytes. (IsTooLarge bytes → (result ≡ status.TooLarge 1) ⊎ IsExcuse result)
+    × (length bytes ≤ 134217728 → IsNoDesignFile bytes → IsBadFile result ⊎ IsExcuse result)
+    × ((d : Design) → IsDesignFile bytes d → (result ≡ status.Ok) ⊎ ((result ≡ status.WriteFault) ⊎ IsExcuse result))))

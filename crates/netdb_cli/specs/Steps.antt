@@ -3,11 +3,37 @@ use Rattle.std.specs.Prelude.{◌≡◌, ◌⊎◌, ℕ, List, Option}
 use Rattle.netdb_outside.specs.Outside.{Appends, AppendsFront, Rose}
 use Rattle.edif_spec.specs.Arranged.{canonical_text}
 use Rattle.edif_spec.specs.Design.{Design}
-use Rattle.edif_spec.specs.Plain.{IsPlainFile}
-use Rattle.netdb_cli.specs.Outcome.{IsNoPlainFile}
+use Rattle.edif_parts.specs.declared.error.EdifError.{EdifError}
+use Rattle.edif_parts.specs.declared.error.EdifError.TheVariants as reader
+use Rattle.edif_lexer.specs.declared.errors.LexError.{LexError}
+use Rattle.edif_lexer.specs.declared.errors.LexError.TheVariants as lexer
+use Rattle.edif_tree.specs.declared.errors.TreeError.{TreeError}
+use Rattle.edif_tree.specs.declared.errors.TreeError.TheVariants as tree
+use Rattle.netdb_cli.specs.Files.{IsDesignFile, IsWrong}
+use Rattle.netdb_cli.specs.declared.reading.NoDesign.{NoDesign}
+use Rattle.netdb_cli.specs.declared.reading.NoDesign.TheVariants as answers
+use Rattle.netdb_cli.specs.declared.status.EdifFault.{EdifFault}
+use Rattle.netdb_cli.specs.declared.status.EdifFault.TheVariants as faults
 use Rattle.netdb_cli.specs.declared.status.Status.{Status}
 use Rattle.netdb_cli.specs.declared.status.Status.TheVariants as status
-use Rattle.netdb_cli.specs.declared.status.EdifFault.TheVariants.{NotPlain}
+
+-- a fault that is named is one of these; want of memory says nothing
+abbrev pub Says : (EdifFault → Type 0) → NoDesign → Type 0
+Says P (answers.Fault fault) = P fault
+Says P answers.NoMemory = Unit {0}
+
+-- the error of each step as the fault of a file
+abbrev pub said_by_lexer : LexError → NoDesign
+said_by_lexer (lexer.At kind place) = answers.Fault (faults.Lex kind place)
+said_by_lexer lexer.NoMemory = answers.NoMemory
+
+abbrev pub said_by_tree : TreeError → NoDesign
+said_by_tree (tree.At kind place) = answers.Fault (faults.Tree kind place)
+said_by_tree tree.NoMemory = answers.NoMemory
+
+abbrev pub said_by_reader : EdifError → NoDesign
+said_by_reader (reader.Fault fault) = answers.Fault (faults.Meaning fault)
+said_by_reader reader.NoMemory = answers.NoMemory
 
 -- a sink before and after: what was written, and the count of its faults
 pub record Written : Type 0 where
@@ -23,8 +49,8 @@ TextGives text old new _ = ⊥
 
 -- writing the design of these bytes
 abbrev pub BytesGive : List ℕ → Written → Written → Status → Type 0
-BytesGive bytes old new status.Ok = (d : Design) × IsPlainFile bytes d × Appends old.bytes new.bytes (canonical_text d)
-BytesGive bytes old new status.WriteFault = (d : Design) × IsPlainFile bytes d × AppendsFront old.bytes new.bytes (canonical_text d) × Rose old.faults new.faults
-BytesGive bytes old new (status.BadEdif fault) = (fault ≡ NotPlain) × IsNoPlainFile bytes × (new.bytes ≡ old.bytes)
-BytesGive bytes old new status.NoMemory = (new.bytes ≡ old.bytes) ⊎ ((d : Design) × IsPlainFile bytes d × AppendsFront old.bytes new.bytes (canonical_text d))
+BytesGive bytes old new status.Ok = (d : Design) × IsDesignFile bytes d × Appends old.bytes new.bytes (canonical_text d)
+BytesGive bytes old new status.WriteFault = (d : Design) × IsDesignFile bytes d × AppendsFront old.bytes new.bytes (canonical_text d) × Rose old.faults new.faults
+BytesGive bytes old new (status.BadEdif fault) = IsWrong bytes fault × (new.bytes ≡ old.bytes)
+BytesGive bytes old new status.NoMemory = (new.bytes ≡ old.bytes) ⊎ ((d : Design) × IsDesignFile bytes d × AppendsFront old.bytes new.bytes (canonical_text d))
 BytesGive bytes old new _ = ⊥

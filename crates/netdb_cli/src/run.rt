@@ -2,14 +2,13 @@
 ghost use Rattle.std.specs.Prelude.{◌≡◌, ◌↔◌, ◌≤◌, ℕ, List, length};
 ghost use Rattle.netdb_outside.specs.Outside.{SameFiles};
 ghost use Rattle.edif_spec.specs.Arranged.{canonical_text};
-ghost use Rattle.edif_spec.specs.Plain.{IsPlainDesign};
 ghost use Rattle.netdb_cli.specs.Command.{IsCommand, IsWrite};
 ghost use Rattle.netdb_cli.specs.Outcome.{IsBehindReadFault, IsDue, WriteGives};
-ghost use Rattle.netdb_cli.specs.Steps.{TextGives, BytesGive};
+ghost use Rattle.netdb_cli.specs.Steps.{BytesGive, TextGives};
 
-use crate::bytes::read_bytes;
 use crate::command::file_to_write;
-use crate::status::{EdifFault, Status};
+use crate::reading::{NoDesign, read_bytes};
+use crate::status::Status;
 use edif_writer::{WriteError, write_design};
 use netdb_outside::{Contents, Files, Gate, Sink, read_file};
 use netlist_schema::Design;
@@ -24,8 +23,7 @@ const DESIGN_FILE_LIMIT: u64 = 134_217_728;
 const FILE_WORD: u32 = 1;
 
 /// Writes the canonical text of a design.
-fn write_plain<K: Sink>(alloc: Global, design: &Design, out: &mut K) -> Status
-    requires { IsPlainDesign design.now }
+fn write_text<K: Sink>(alloc: Global, design: &Design, out: &mut K) -> Status
     ensures gives { TextGives (canonical_text design.now) (record { bytes = K.written out.old; faults = K.faults out.old }) (record { bytes = K.written out.new; faults = K.faults out.new }) result }
     ensures never_falls { K.faults out.old ≤ K.faults out.new }
 {
@@ -36,18 +34,16 @@ fn write_plain<K: Sink>(alloc: Global, design: &Design, out: &mut K) -> Status
     }
 }
 
-/// Writes the canonical text of the design of a plain file with these bytes.
+/// Writes the canonical text of the design of a design file with these bytes.
 fn write_bytes<K: Sink>(alloc: Global, bytes: &[u8], out: &mut K) -> Status
     requires { length bytes.now ≤ 134217728 }
     ensures gives { BytesGive bytes.now (record { bytes = K.written out.old; faults = K.faults out.old }) (record { bytes = K.written out.new; faults = K.faults out.new }) result }
     ensures never_falls { K.faults out.old ≤ K.faults out.new }
 {
     match read_bytes(alloc, bytes) {
-        Ok(Some(design)) => write_plain(alloc, &design, out),
-        Ok(None) => Status::BadEdif {
-            fault: EdifFault::NotPlain,
-        },
-        Err(_) => Status::NoMemory,
+        Ok(design) => write_text(alloc, &design, out),
+        Err(NoDesign::Fault(fault)) => Status::BadEdif { fault },
+        Err(NoDesign::NoMemory) => Status::NoMemory,
     }
 }
 
@@ -63,9 +59,7 @@ fn write_file<F: Files, K: Sink>(alloc: Global, name: &str, files: &mut F, out: 
 {
     match read_file(alloc, files, name, DESIGN_FILE_LIMIT) {
         Contents::Bytes(text) => write_bytes(alloc, text.as_slice(), out),
-        Contents::TooLarge => Status::BadEdif {
-            fault: EdifFault::NotPlain,
-        },
+        Contents::TooLarge => Status::TooLarge { word: FILE_WORD },
         Contents::Missing => Status::Missing { word: FILE_WORD },
         Contents::Failed => Status::ReadFault { word: FILE_WORD },
         Contents::NoMemory => Status::NoMemory,
@@ -77,7 +71,8 @@ fn write_file<F: Files, K: Sink>(alloc: Global, name: &str, files: &mut F, out: 
 /// `write F` reads the design file F and writes its canonical text. Whatever it answers, it changes no file. At `Ok` the
 /// whole text was written, and it spells a tree that means the design that was read; at `WriteFault` and `NoMemory` a front
 /// of that text, or nothing; at each other status nothing. Of several causes the first of these is answered: the words are
-/// no command, a fault in reading, no such file, no plain file, a fault in writing; `NoMemory` may come at any point.
+/// no command, a fault in reading, no such file, too many bytes, bytes without a meaning, a fault in writing; `NoMemory` may come
+/// at any point.
 pub fn run_netdb<R: Threads + Wait + Sync, F: Files, K: Sink, G: Gate + Sync>(
     _rt: &R,
     alloc: Global,

@@ -1,16 +1,33 @@
 //! What a call of the program answers.
 ghost use Rattle.std.specs.Prelude.{◌≡◌};
 
-/// What is wrong with a design file.
-#[derive(Clone, Copy, Debug, PartialEq, Eq)]
+use edif_lexer::LexKind;
+use edif_spec::MeaningFault;
+use spelling_spec::TreeKind;
+
+/// What is wrong with a design file. A place counts the bytes before it.
+#[derive(Debug, PartialEq, Eq, Drop)]
 pub enum EdifFault {
-    /// The file is no plain file: at most 134,217,728 bytes that spell libraries of leaf cells with scalar ports, whose
-    /// names differ and whose counts are within the limits.
-    NotPlain,
+    /// The first lexical fault of the file.
+    Lex {
+        /// What it is.
+        kind: LexKind,
+        /// Where it stands.
+        place: u64,
+    },
+    /// The first fault of the tokens, where no lexical fault stands in the file.
+    Tree {
+        /// What it is.
+        kind: TreeKind,
+        /// Where it stands.
+        place: u64,
+    },
+    /// A fault that stands in the tree of the file.
+    Meaning(MeaningFault),
 }
 
 /// The status of a call. `word` is the position of a file's name among the words, from 0.
-#[derive(Clone, Copy, Debug, PartialEq, Eq)]
+#[derive(Debug, PartialEq, Eq, Drop)]
 pub enum Status {
     /// All was read and written.
     Ok,
@@ -24,6 +41,8 @@ pub enum Status {
     WriteFault,
     /// The design file has no meaning.
     BadEdif { fault: EdifFault },
+    /// The file has more bytes than its limit.
+    TooLarge { word: u32 },
     /// An allocation was refused.
     NoMemory,
 }
@@ -32,8 +51,8 @@ impl Status {
     ghost use Rattle.netdb_cli.specs.StatusNumber.{number_of};
 
     /// The number with which the program ends.
-    pub fn number(self) -> u8
-        ensures { result ≡ number_of self }
+    pub fn number(&self) -> u8
+        ensures { result ≡ number_of self.now }
     {
         match self {
             Status::Ok => 0,
@@ -42,6 +61,7 @@ impl Status {
             Status::ReadFault { .. } => 4,
             Status::WriteFault => 5,
             Status::BadEdif { .. } => 6,
+            Status::TooLarge { .. } => 8,
             Status::NoMemory => 11,
         }
     }

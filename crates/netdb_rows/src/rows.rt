@@ -1,5 +1,6 @@
 //! Words, a file and what comes of them.
-use netdb_cli::{EdifFault, Status, run_netdb};
+use crate::texts::{COUNTER, COUNTER_TEXT, EMPTY, HEAD, INVERTER, INVERTER_TEXT, LIB, NAMES_TEXT};
+use netdb_cli::{Status, fault_text, run_netdb};
 use netdb_outside::{FreeGate, MemFiles, MemSink, NamedFile, names_differ};
 use netlist_schema::{Row, Text};
 use std::alloc::{AllocError, Global};
@@ -8,16 +9,20 @@ use std::sync::Wait;
 use std::test::Fail;
 use std::thread::Threads;
 
-const HEAD: &str = "(edif e (edifVersion 2 0 0) (edifLevel 0) (keywordMap (keywordLevel 0))";
-
-/// A file, the words, the calls that fail, how many bytes the sink takes, and what is wanted.
+/// A file, the words, the calls that fail, and how many bytes the sink takes.
 #[derive(Clone, Copy)]
 struct Case<'a> {
     file: &'a str,
     words: &'a [&'a str],
     failing: &'a [u64],
     length: Option<u64>,
-    status: Status,
+}
+
+/// What is wanted: the status, the text of its fault where it has one, and what was written.
+#[derive(Clone, Copy)]
+struct Want<'a> {
+    number: u8,
+    fault: &'a str,
     written: &'a str,
 }
 
@@ -34,8 +39,20 @@ fn words(alloc: Global, words: &[&str]) -> Result<Vec<String>, AllocError> {
     Ok(made)
 }
 
+/// The text of a status's fault, of no bytes where it has none.
+fn fault_of(alloc: Global, status: &Status) -> Result<Text, Fail> {
+    match status {
+        Status::BadEdif { fault } => Ok(fault_text(alloc, fault)?),
+        _ => Ok(Text::of(Vec::new(alloc))),
+    }
+}
+
 /// Runs a case on the top call, with one file named F.
-fn check<R: Abort + Threads + Wait + Sync>(rt: &R, alloc: Global, case: &Case) -> Result<(), Fail> {
+fn run<R: Abort + Threads + Wait + Sync>(
+    rt: &R,
+    alloc: Global,
+    case: &Case,
+) -> Result<(Status, MemSink), Fail> {
     let file = NamedFile {
         name: text(alloc, "F")?,
         bytes: text(alloc, case.file)?,
@@ -46,52 +63,66 @@ fn check<R: Abort + Threads + Wait + Sync>(rt: &R, alloc: Global, case: &Case) -
     let mut out = MemSink::new(alloc, case.length);
     let words = words(alloc, case.words)?;
     let status = run_netdb(rt, alloc, &words, &mut files, &mut out, &FreeGate);
+    Ok((status, out))
+}
+
+/// Runs a case, and compares what came of it.
+fn check<R: Abort + Threads + Wait + Sync>(
+    rt: &R,
+    alloc: Global,
+    case: &Case,
+    want: &Want,
+) -> Result<(), Fail> {
+    let (status, out) = run(rt, alloc, case)?;
+    let fault = fault_of(alloc, &status)?;
     assert_eq!(rt;
-        status,
-        case.status,
-        "the status of {:?} on {:?}",
-        words, case.file
+        status.number(),
+        want.number,
+        "the status of {:?}",
+        case.file
+    );
+    assert_eq!(rt;
+        fault.as_slice(),
+        want.fault.as_bytes(),
+        "the fault of {:?}",
+        case.file
     );
     assert_eq!(rt;
         out.written(),
-        case.written.as_bytes(),
+        want.written.as_bytes(),
         "what was written of {:?}",
         case.file
     );
     Ok(())
 }
 
-const EMPTY: &str =
-    "(edif e\n (edifVersion 2 0 0)\n (edifLevel 0)\n (keywordMap (keywordLevel 0)))\n";
-
-const INVERTER: &str =
-    " (library w (edifLevel 0) (technology) (cell INV (cellType GENERIC) (view v (viewType NETLIST) (interface (port A (direction INPUT)) (port Y))))))";
-
-const INVERTER_TEXT: &str = "(edif e
- (edifVersion 2 0 0)
- (edifLevel 0)
- (keywordMap (keywordLevel 0))
- (library w
-  (edifLevel 0)
-  (technology (numberDefinition))
-  (cell INV (cellType GENERIC)
-   (view v (viewType NETLIST)
-    (interface
-     (port A (direction INPUT))
-     (port Y))))))
-";
-
 const WRITE: [&str; 2] = ["write", "F"];
 
 /// A case of `write F` with no fault.
-fn of<'a>(file: &'a str, status: Status, written: &'a str) -> Case<'a> {
+fn of(file: &str) -> Case<'_> {
     Case {
         file,
         words: &WRITE,
         failing: &[],
         length: None,
-        status,
-        written,
+    }
+}
+
+/// The whole text was written.
+fn written(text: &str) -> Want<'_> {
+    Want {
+        number: 0,
+        fault: "",
+        written: text,
+    }
+}
+
+/// The file has this fault.
+fn bad(fault: &str) -> Want<'_> {
+    Want {
+        number: 6,
+        fault,
+        written: "",
     }
 }
 
@@ -99,63 +130,172 @@ fn of<'a>(file: &'a str, status: Status, written: &'a str) -> Case<'a> {
 fn files_are_written(rt: HostRuntime) -> Result<(), Fail> {
     let alloc = rt.alloc();
     let empty = format!(in alloc; "{HEAD})")?;
-    let inverter = format!(in alloc; "{HEAD}{INVERTER}")?;
     let comment = format!(in alloc; "{HEAD} (comment \"c\"))")?;
-    let twice = format!(in alloc;
-        "{HEAD} (library w (edifLevel 0) (technology)) (library w (edifLevel 0) (technology)))"
+    let inverter = format!(in alloc; "{HEAD}{INVERTER}")?;
+    let any_case =
+        "(EDIF e (EdifVersion 2 0 0) (ediflevel 0) (KEYWORDMAP (keywordlevel 0)) (status (written (timeStamp 2020 01 01 12 00 00) (program \"p\" (version \"1\")))) (comment \"c\") (userData x (anything 1)))";
+    let names = format!(in alloc;
+        "{HEAD}{LIB} (cell &1 (cellType GENERIC) (view v (viewType NETLIST) (interface (port (rename a_0_ \"a[0]\") (direction INPUT))) (property K (string \"%34 37%\"))))))"
     )?;
-    let not_plain = Status::BadEdif {
-        fault: EdifFault::NotPlain,
-    };
-    check(&rt, rt.alloc(), &of(empty.as_str(), Status::Ok, EMPTY))?;
-    check(
-        &rt,
-        rt.alloc(),
-        &of(inverter.as_str(), Status::Ok, INVERTER_TEXT),
+    check(&rt, alloc, &of(empty.as_str()), &written(EMPTY))?;
+    check(&rt, alloc, &of(comment.as_str()), &written(EMPTY))?;
+    check(&rt, alloc, &of(any_case), &written(EMPTY))?;
+    check(&rt, alloc, &of(inverter.as_str()), &written(INVERTER_TEXT))?;
+    check(&rt, alloc, &of(names.as_str()), &written(NAMES_TEXT))?;
+    check(&rt, alloc, &of(COUNTER), &written(COUNTER_TEXT))?;
+    check(&rt, alloc, &of(COUNTER_TEXT), &written(COUNTER_TEXT))
+}
+
+/// Whether a text has a line, without the blanks before it and the parentheses behind it.
+fn has_line(text: &[u8], line: &str) -> bool {
+    if line.is_empty() {
+        return true;
+    }
+    text.windows(line.len()).any(|part| part == line.as_bytes())
+}
+
+/// A cell without contents and without ports.
+fn leaf(alloc: Global, name: &str) -> Result<String, AllocError> {
+    format!(in alloc; " (cell {name} (cellType GENERIC) (view v (viewType NETLIST) (interface)))")
+}
+
+#[test]
+fn references_go_by_name(rt: HostRuntime) -> Result<(), Fail> {
+    let alloc = rt.alloc();
+    let (a, upper, b) = (leaf(alloc, "a")?, leaf(alloc, "A")?, leaf(alloc, "b")?);
+    let file = format!(in alloc;
+        "{HEAD}{LIB}{a}{upper}{b} (cell t (cellType GENERIC) (view v (viewType NETLIST) (interface) (contents (instance i (viewRef v (cellRef a))) (instance j (viewRef V (cellRef B))))))))"
     )?;
-    check(&rt, rt.alloc(), &of(comment.as_str(), not_plain, ""))?;
-    check(&rt, rt.alloc(), &of(twice.as_str(), not_plain, ""))?;
-    check(&rt, rt.alloc(), &of(HEAD, not_plain, ""))
+    let (status, out) = run(&rt, alloc, &of(file.as_str()))?;
+    assert_eq!(rt; status.number(), 0);
+    assert!(rt;
+        has_line(
+            out.written(),
+            "(instance i (viewRef v (cellRef a (libraryRef w))))"
+        )
+    );
+    assert!(rt;
+        has_line(
+            out.written(),
+            "(instance j (viewRef v (cellRef b (libraryRef w))))"
+        )
+    );
+    let (first, second) = (leaf(alloc, "ab")?, leaf(alloc, "aB")?);
+    let front = format!(in alloc;
+        "{HEAD}{LIB}{first}{second} (cell t (cellType GENERIC) (view v (viewType NETLIST) (interface) (contents (instance i (viewRef v (cellRef "
+    )?;
+    let file = format!(in alloc; "{front}AB))))))))")?;
+    let place = front.len();
+    let fault = format!(in alloc; "Ambiguous at {place}")?;
+    check(&rt, alloc, &of(file.as_str()), &bad(fault.as_str()))
+}
+
+#[test]
+fn members_and_references_are_judged(rt: HostRuntime) -> Result<(), Fail> {
+    let alloc = rt.alloc();
+    let front = format!(in alloc;
+        "{HEAD}{LIB} (cell c (cellType GENERIC) (view v (viewType NETLIST) (interface (port (array (rename d \"d[3:0]\") 4) (direction OUTPUT))) (contents (net n (joined (portRef "
+    )?;
+    let past = format!(in alloc; "{front}(member d 4)))))))))")?;
+    let last = format!(in alloc; "{front}(member d 3)))))))))")?;
+    let whole = format!(in alloc; "{front}d))))))))")?;
+    check(&rt, alloc, &of(past.as_str()), &bad("BadIndex at 276"))?;
+    let (status, out) = run(&rt, alloc, &of(last.as_str()))?;
+    assert_eq!(rt; status.number(), 0);
+    assert!(rt; has_line(out.written(), "(net n (joined (portRef (member d 3))))"));
+    let place = front.len();
+    let fault = format!(in alloc; "WholeArray at {place}")?;
+    check(&rt, alloc, &of(whole.as_str()), &bad(fault.as_str()))?;
+    let z = leaf(alloc, "z")?;
+    for cell in ["z", "t"] {
+        let file = format!(in alloc;
+            "{HEAD}{LIB} (cell t (cellType GENERIC) (view v (viewType NETLIST) (interface) (contents (instance i (viewRef v (cellRef {cell})))))){z}))"
+        )?;
+        check(&rt, alloc, &of(file.as_str()), &bad("Unresolved at 218"))?;
+    }
+    Ok(())
+}
+
+/// So many copies of a piece.
+fn repeated(alloc: Global, piece: &str, count: u32) -> Result<String, AllocError> {
+    let mut made = String::new(alloc);
+    for _ in 0..count {
+        made.push_str(piece)?;
+    }
+    Ok(made)
+}
+
+#[test]
+fn spelling_and_nesting_are_judged(rt: HostRuntime) -> Result<(), Fail> {
+    let alloc = rt.alloc();
+    for (rest, fault) in [
+        ("", "Unended at 71"),
+        (" (comment \"x", "BadString at 81"),
+        (") (comment \"y\")", "Trailing at 73"),
+        ("))", "ExtraClose at 72"),
+        (" 99999999999999999999)", "BadNumber at 72"),
+        (" (comment \"%256%\"))", "BadEscape at 82"),
+    ] {
+        let file = format!(in alloc; "{HEAD}{rest}")?;
+        check(&rt, alloc, &of(file.as_str()), &bad(fault))?;
+    }
+    check(&rt, alloc, &of(""), &bad("Unended at 0"))?;
+    for (levels, want) in [(254, written(EMPTY)), (255, bad("TooDeep at 846"))] {
+        let (opened, closed) = (
+            repeated(alloc, "(a ", levels)?,
+            repeated(alloc, ")", levels)?,
+        );
+        let file = format!(in alloc; "{HEAD} (userData x {opened}{closed}))")?;
+        check(&rt, alloc, &of(file.as_str()), &want)?;
+    }
+    Ok(())
 }
 
 #[test]
 fn refusals_have_their_causes(rt: HostRuntime) -> Result<(), Fail> {
     let file = format!(in rt.alloc(); "{HEAD})")?;
-    let case = |words, failing, length, status, written| Case {
-        file: file.as_str(),
-        words,
-        failing,
-        length,
-        status,
-        written,
+    let (missing, fault, large) = (["write", "nosuch"], ["write"], ["flat", "F", "limit", "0"]);
+    let cases: [(&[&str], &[u64], Option<u64>, u8, &str); 7] = [
+        (&[], &[], None, 2, ""),
+        (&fault, &[], None, 2, ""),
+        (&large, &[], None, 2, ""),
+        (&missing, &[], None, 3, ""),
+        (&missing, &[1], None, 4, ""),
+        (&WRITE, &[2], None, 4, ""),
+        (&WRITE, &[], Some(10), 5, "(edif e\n ("),
+    ];
+    for (words, failing, length, number, text) in cases {
+        let case = Case {
+            file: file.as_str(),
+            words,
+            failing,
+            length,
+        };
+        let want = Want {
+            number,
+            fault: "",
+            written: text,
+        };
+        check(&rt, rt.alloc(), &case, &want)?;
+    }
+    let counter = Case {
+        length: Some(10),
+        ..of(COUNTER)
     };
-    let fault = Status::ReadFault { word: 1 };
-    let missing = Status::Missing { word: 1 };
-    check(&rt, rt.alloc(), &case(&[], &[], None, Status::Usage, ""))?;
-    check(
+    let want = Want {
+        number: 5,
+        fault: "",
+        written: "(edif coun",
+    };
+    check(&rt, rt.alloc(), &counter, &want)?;
+    let (status, _) = run(
         &rt,
         rt.alloc(),
-        &case(&["write"], &[], None, Status::Usage, ""),
+        &Case {
+            words: &missing,
+            ..of("")
+        },
     )?;
-    check(
-        &rt,
-        rt.alloc(),
-        &case(&["flat", "F", "limit", "0"], &[], None, Status::Usage, ""),
-    )?;
-    check(
-        &rt,
-        rt.alloc(),
-        &case(&["write", "nosuch"], &[], None, missing, ""),
-    )?;
-    check(&rt, rt.alloc(), &case(&WRITE, &[2], None, fault, ""))?;
-    check(
-        &rt,
-        rt.alloc(),
-        &case(&["write", "nosuch"], &[1], None, fault, ""),
-    )?;
-    check(
-        &rt,
-        rt.alloc(),
-        &case(&WRITE, &[], Some(10), Status::WriteFault, "(edif e\n ("),
-    )
+    assert!(rt; status == Status::Missing { word: 1 });
+    Ok(())
 }
