@@ -1,0 +1,7 @@
+//! Worked designs, as they are written.
+#![tactic(auto)]
+
+#[cfg(test)]
+mod designs;
+#[cfg(test)]
+mod rows;
