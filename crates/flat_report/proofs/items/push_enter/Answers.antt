@@ -1,0 +1,27 @@
+use Rattle.std.proofs.Common.{◌≡◌, ◌∙◌, [], ◌∷◌, ◌++◌, ap, map}
+use Rattle.std.specs.Prelude.{codes}
+use Rattle.std.proofs.lemmas.Result.{on_ok_weaker}
+use Rattle.edif_names.specs.PropertyText.{property_text}
+use Rattle.report_spec.specs.Lines.{cell_text, lib_text, path_text}
+use Rattle.flat_report.specs.Parts.{behind_blanks}
+use Rattle.flat_report.proofs.LineLemmas.{one_word, more_words}
+use Rattle.flat_report.proofs.items.push_enter.Goals as goal
+
+pub returns-clause-ok : goal.returns-clause-ok
+returns-clause-ok g c =
+    let d = g.S.Shown.design c.args.design.now in
+    let old = c.args.out.now.items in
+    let begun = c.extend_from_slice.new.self.items in
+    let placed = c.push_place.new.out.items in
+    let named = c.push_cell.new.out.items in
+    let whole = c.push_properties.new.out.items in
+    let path = path_text d c.args.path.now in
+    let library = lib_text d c.args.cell in
+    let cell = cell_text d c.args.cell in
+    let place = more_words old begun placed (codes "inst") [] (path ∷ []) c.in_ok-extend_from_slice.ensures.items (c.in_ok-push_place.ensures.text ∙ ap (λ text. begun ++ text) (one_word path)) in
+    let names = more_words old placed named (codes "inst") (path ∷ []) (library ∷ cell ∷ []) place c.in_ok-push_cell.ensures.ok in
+    on_ok_weaker c.push_properties.result
+    (λ (last : whole ≡ named ++ behind_blanks (map property_text c.as_slice.result.now)).
+    more_words old named whole (codes "inst") (path ∷ library ∷ cell ∷ []) (map property_text c.args.properties.now) names
+    (last ∙ ap (λ ps. named ++ behind_blanks (map property_text ps)) c.as_slice.ensures))
+    c.push_properties.ensures.ok

@@ -1,0 +1,9 @@
+//! The items of a flattening, as lines of text.
+#![tactic(auto)]
+
+pub mod items;
+mod names;
+mod paths;
+mod words;
+
+pub use items::item_text;
