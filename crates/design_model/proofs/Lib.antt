@@ -1,0 +1,8 @@
+pub mod LabelLemmas
+pub mod MeetLemmas
+pub mod SettledLemmas
+pub mod ItemLemmas
+pub mod PinLemmas
+pub mod RunLemmas
+pub mod TableLemmas
+pub mod WalkLemmas

@@ -1,0 +1,5 @@
+pub mod Firsts
+pub mod Labels
+pub mod Items
+pub mod Tables
+pub mod Walk

@@ -1,0 +1,15 @@
+//! The plain flattening of a design.
+#![tactic(auto)]
+
+mod ends;
+pub mod firsts;
+mod items;
+mod labels;
+mod meets;
+mod pins;
+pub mod plain;
+mod tree_nets;
+mod walk;
+
+pub use flat_spec::{Item, NetAt, Path};
+pub use plain::{PlainError, plain_flat};
