@@ -5,13 +5,14 @@ mod cell;
 mod contents;
 pub mod error;
 mod library;
-mod page;
+pub mod page;
 mod reference;
 mod small;
 mod top;
 pub mod whole;
 
 pub use error::WriteError;
+pub use page::Page;
 pub use whole::write_design;
 
 #[cfg(test)]

@@ -60,6 +60,7 @@ fn print_line(rt: &HostRuntime, words: &[String], status: &Status) -> io::Result
         Status::WriteFault => eprintln!(rt; "netdb: write fault"),
         Status::BadEdif { fault } => print_fault(rt, words, fault),
         Status::TooLarge { word } => print_of(rt, words, *word, "too large"),
+        Status::NoTop => eprintln!(rt; "netdb: no top"),
         Status::NoMemory => eprintln!(rt; "netdb: no memory"),
     }
 }

@@ -1,16 +1,15 @@
 -- Bytes that are a design file, and what may be wrong with them.
-use Rattle.std.proofs.Common.{◌≡◌, ◌≤◌, inl, inr, List, length, None, Some, sym, subst}
+use Rattle.std.proofs.Common.{◌≡◌, ◌≤◌, List, length, None, sym, subst}
 use Prim.Native.Nat.{ℕ}
 use Rattle.spelling_spec.specs.Lexing.{tokens, lex_fault}
 use Rattle.spelling_spec.specs.Tree.{Placed, bare}
-use Rattle.spelling_spec.specs.TreeFaults.{IsFile, tree_fault}
+use Rattle.spelling_spec.specs.TreeFaults.{IsFile}
 use Rattle.spelling_spec.proofs.PlacedListings.{spelled_file, file_spells, one_placed}
 use Rattle.spelling_spec.proofs.SpelledTokens.{spelled_is_read}
 use Rattle.spelling_spec.proofs.TreeFaultLemmas.{none_of_tree}
 use Rattle.spelling_spec.specs.Tree.{listing}
 use Rattle.edif_spec.specs.Design.{Design}
 use Rattle.edif_spec.specs.Means.{MeansFile}
-use Rattle.edif_spec.specs.Stands.{Stands}
 use Rattle.edif_spec.proofs.FileFaultsApart.{stands_apart}
 use Rattle.netdb_cli.specs.Files.{IsDesignFile, IsWrong}
 use Rattle.netdb_cli.specs.declared.status.EdifFault.{EdifFault}

@@ -1,5 +1,5 @@
 -- A text that is fed whole.
-use Rattle.std.proofs.Common.{◌≡◌, List, [], ◌++◌, None, Some, sym, ◌∙◌, subst, append-nil}
+use Rattle.std.proofs.Common.{◌≡◌, List, [], Some, sym, subst, append-nil}
 use Prim.Native.Nat.{ℕ}
 use Rattle.std.specs.Prelude.{Err, IfErr, Ok, Result}
 use Rattle.std.specs.Result.{IsErrAnd}

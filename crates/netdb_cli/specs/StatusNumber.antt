@@ -12,4 +12,5 @@ number_of (status.ReadFault word) = 4
 number_of status.WriteFault = 5
 number_of (status.BadEdif fault) = 6
 number_of (status.TooLarge word) = 8
+number_of status.NoTop = 9
 number_of status.NoMemory = 11

@@ -2,6 +2,7 @@
 #![tactic(auto)]
 
 mod command;
+mod flat;
 mod reading;
 mod run;
 pub mod status;

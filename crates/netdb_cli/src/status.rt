@@ -43,6 +43,8 @@ pub enum Status {
     BadEdif { fault: EdifFault },
     /// The file has more bytes than its limit.
     TooLarge { word: u32 },
+    /// A flattening is wanted, and the design has no top.
+    NoTop,
     /// An allocation was refused.
     NoMemory,
 }
@@ -62,6 +64,7 @@ impl Status {
             Status::WriteFault => 5,
             Status::BadEdif { .. } => 6,
             Status::TooLarge { .. } => 8,
+            Status::NoTop => 9,
             Status::NoMemory => 11,
         }
     }

@@ -1,5 +1,8 @@
 //! Words, a file and what comes of them.
-use crate::texts::{COUNTER, COUNTER_TEXT, EMPTY, HEAD, INVERTER, INVERTER_TEXT, LIB, NAMES_TEXT};
+use crate::texts::{
+    COUNTER, COUNTER_FRONT, COUNTER_ITEMS, COUNTER_TEXT, EMPTY, HEAD, INVERTER, INVERTER_TEXT, LIB,
+    NAMES_TEXT, NOTED, NOTED_ITEMS, THROUGH, THROUGH_ITEMS,
+};
 use netdb_cli::{Status, fault_text, run_netdb};
 use netdb_outside::{FreeGate, MemFiles, MemSink, NamedFile, names_differ};
 use netlist_schema::{Row, Text};
@@ -252,10 +255,39 @@ fn spelling_and_nesting_are_judged(rt: HostRuntime) -> Result<(), Fail> {
 }
 
 #[test]
+fn designs_are_flattened(rt: HostRuntime) -> Result<(), Fail> {
+    let cases: [(&str, &[&str], u8, &str); 8] = [
+        (THROUGH, &["flat", "F"], 0, THROUGH_ITEMS),
+        (NOTED, &["flat", "F"], 0, NOTED_ITEMS),
+        (COUNTER, &["flat", "F"], 0, COUNTER_ITEMS),
+        (COUNTER, &["flat", "F", "limit", "2"], 0, COUNTER_FRONT),
+        (COUNTER, &["flat", "F", "limit", "14"], 0, COUNTER_ITEMS),
+        (
+            COUNTER,
+            &["flat", "F", "limit", "4294967295"],
+            0,
+            COUNTER_ITEMS,
+        ),
+        (COUNTER, &["flat", "F", "limit", "4294967296"], 2, ""),
+        (COUNTER, &["flat", "F", "limit", "02"], 2, ""),
+    ];
+    for (file, words, number, text) in cases {
+        let want = Want {
+            number,
+            fault: "",
+            written: text,
+        };
+        check(&rt, rt.alloc(), &Case { words, ..of(file) }, &want)?;
+    }
+    Ok(())
+}
+
+#[test]
 fn refusals_have_their_causes(rt: HostRuntime) -> Result<(), Fail> {
     let file = format!(in rt.alloc(); "{HEAD})")?;
     let (missing, fault, large) = (["write", "nosuch"], ["write"], ["flat", "F", "limit", "0"]);
-    let cases: [(&[&str], &[u64], Option<u64>, u8, &str); 7] = [
+    let flat = ["flat", "F"];
+    let cases: [(&[&str], &[u64], Option<u64>, u8, &str); 8] = [
         (&[], &[], None, 2, ""),
         (&fault, &[], None, 2, ""),
         (&large, &[], None, 2, ""),
@@ -263,6 +295,7 @@ fn refusals_have_their_causes(rt: HostRuntime) -> Result<(), Fail> {
         (&missing, &[1], None, 4, ""),
         (&WRITE, &[2], None, 4, ""),
         (&WRITE, &[], Some(10), 5, "(edif e\n ("),
+        (&flat, &[], None, 9, ""),
     ];
     for (words, failing, length, number, text) in cases {
         let case = Case {

@@ -1,0 +1,31 @@
+use Rattle.std.proofs.Common.{◌≡◌, ◌∙◌, sym, ap, arith, true, false}
+use Rattle.std.specs.Prelude.{not}
+use Rattle.std.specs.Cmp.Lexicographic.{bytes_decides}
+use Rattle.std.specs.Fmt.{decimal}
+use Rattle.netdb_cli.proofs.WordLemmas.{read_limit}
+use Rattle.netdb_cli.proofs.command.limit_of.Goals as goal
+
+pub returns-in_default : goal.returns-in_default
+returns-in_default c = λ n limit is.
+    let read = read_limit c.args.word.now n c.parse.result limit is c.parse.ensures.value.0 in
+    let bad = c.in_default.is in
+    cc
+
+pub returns-then-limit-eq0 : goal.returns-then-limit-eq0
+returns-then-limit-eq0 c = λ n limit is.
+    let read = read_limit c.args.word.now n c.parse.result limit is c.parse.ensures.value.0 in
+    let good = c.in-Ok.is in
+    let same : c.in-Ok.limit ≡ n = cc (read, good) in
+    let least = limit.0 in
+    let zero = c.if-limit-eq0.true in
+    absurd (omega (arith, same, least, zero))
+
+pub returns-then-ne : goal.returns-then-ne
+returns-then-ne c = λ n limit is.
+    let read = read_limit c.args.word.now n c.parse.result limit is c.parse.ensures.value.0 in
+    let good = c.in-Ok.is in
+    let same : c.in-Ok.limit ≡ n = cc (read, good) in
+    let shown : c.format.result.now ≡ c.args.word.now = c.format.ensures.text ∙ (ap decimal same ∙ sym is) in
+    let alike = (bytes_decides c.format.result.now c.args.word.now).1 shown in
+    let wrong : true ≡ false = sym c.if-ne.true ∙ (c.ne.ensures ∙ ap not alike) in
+    cc

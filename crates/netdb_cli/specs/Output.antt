@@ -1,0 +1,22 @@
+-- What is written of a design.
+use Rattle.std.specs.Prelude.{◌≡◌, ℕ, List, ◌++◌, None}
+use Rattle.netlist_schema.specs.Design.{Design}
+use Rattle.edif_spec.specs.Arranged.{canonical_text}
+use Rattle.flat_spec.specs.Types.{Item}
+use Rattle.report_spec.specs.Lines.{flattening_text, item_lines, last_line, shown_items}
+use Rattle.netdb_cli.specs.declared.command.Wanted.{Wanted}
+use Rattle.netdb_cli.specs.declared.command.Wanted.TheVariants.{Text, Items}
+
+-- what is wanted of the design, as bytes
+abbrev pub output : Wanted → Design → List ℕ
+output Text d = canonical_text d
+output (Items limit) d = flattening_text d limit
+
+-- a flattening is wanted, and the design has no top
+abbrev pub LacksTop : Wanted → Design → Type 0
+LacksTop Text d = ⊥
+LacksTop (Items limit) d = d.top ≡ None
+
+-- the design has all that is wanted
+abbrev pub HasTop : Wanted → Design → Type 0
+HasTop wanted d = LacksTop wanted d → ⊥
