@@ -3,7 +3,6 @@ ghost use Rattle.std.specs.Prelude.{◌≡◌, [], ◌∷◌, ◌++◌, codes, O
 ghost use Rattle.std.specs.Fmt.{decimal};
 ghost use Rattle.std.specs.Option.{option_map_or};
 ghost use Rattle.edif_names.specs.Parts.{Grows};
-ghost use Rattle.flat_spec.specs.Paths.{at_path};
 ghost use Rattle.report_spec.specs.Lines.{cell_text, item_line, item_words, lib_text, net_words, spaced};
 ghost use Rattle.flat_report.specs.Parts.{behind_blanks};
 

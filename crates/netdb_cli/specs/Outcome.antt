@@ -1,5 +1,5 @@
 -- What a call of the program answers, why, and what it wrote.
-use Rattle.std.specs.Prelude.{◌≡◌, ◌⊎◌, ◌<◌, ◌≤◌, ℕ, List, [], ◌∷◌, drop, length, Option, None, IfSome, IsSomeAnd, MatchOption, Contains}
+use Rattle.std.specs.Prelude.{◌≡◌, ◌⊎◌, ◌<◌, ◌≤◌, ℕ, List, drop, length, Option, None, IfSome, IsSomeAnd, MatchOption}
 use Rattle.netlist_schema.specs.Design.{Design}
 use Rattle.netlist_schema.specs.Valid.{IsValid}
 use Rattle.netdb_outside.specs.Outside.{Shelf, Appends, AppendsFront, Rose, file_named}

@@ -1,9 +1,8 @@
 -- What is written of a design.
-use Rattle.std.specs.Prelude.{◌≡◌, ℕ, List, ◌++◌, None}
+use Rattle.std.specs.Prelude.{◌≡◌, ℕ, List, None}
 use Rattle.netlist_schema.specs.Design.{Design}
 use Rattle.edif_spec.specs.Arranged.{canonical_text}
-use Rattle.flat_spec.specs.Types.{Item}
-use Rattle.report_spec.specs.Lines.{flattening_text, item_lines, last_line, shown_items}
+use Rattle.report_spec.specs.Lines.{flattening_text}
 use Rattle.netdb_cli.specs.declared.command.Wanted.{Wanted}
 use Rattle.netdb_cli.specs.declared.command.Wanted.TheVariants.{Text, Items}
 

@@ -1,9 +1,9 @@
 -- Worked designs.
 use Rattle.std.specs.Prelude.{ℕ, List, [], ◌∷◌, Option, Some, None, codes, false}
 use Rattle.netlist_schema.specs.Design.{Design}
-use Rattle.netlist_schema.specs.Types.{CellBody, Contents, Direction, End, Inst, Lib, Name, Net, Note, Port, Property, TopHead}
+use Rattle.netlist_schema.specs.Types.{CellBody, Contents, Direction, End, Inst, Lib, Name, Net, Port, Property}
 use Rattle.netlist_schema.specs.declared.cell.CellKind.TheVariants.{Generic}
-use Rattle.netlist_schema.specs.declared.cell.Direction.TheVariants.{Input, Output}
+use Rattle.netlist_schema.specs.declared.cell.Direction.TheVariants.{Input}
 use Rattle.netlist_schema.specs.declared.property.Value.TheVariants.{Text}
 
 -- a name with no shown text, and one with one
