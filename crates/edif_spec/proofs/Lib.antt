@@ -26,6 +26,8 @@ pub mod Meanings
 pub mod Once
 pub mod OnceFile
 pub mod Order
+pub mod PlainLemmas
+pub mod PlainMeanings
 pub mod ReadBack
 pub mod Ready
 pub mod SameLemmas

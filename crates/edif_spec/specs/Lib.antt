@@ -7,6 +7,7 @@ pub mod Faults
 pub mod InTime
 pub mod Keyword
 pub mod Means
+pub mod Plain
 pub mod Rows
 pub mod Stands
 pub mod Writable

@@ -26,7 +26,7 @@ pub fn faults_of_small_files()
     ensures path { Stands empty_path (At BadPath 237) }
 {}
 
-/// Limits that are passed, however many more there are. In a file of more than 1,024 numbered libraries it is passed at that of number
+/// Limits that are passed, whatever stands behind. In a file of more than 1,024 numbered libraries it is passed at that of number
 /// 1,024, counted from 0; in one of more than 16 ports of 65,536 bits each, at the port of number 16, since 16 of them are just
 /// the 1,048,576 bits that are allowed.
 pub fn faults_of_large_files()

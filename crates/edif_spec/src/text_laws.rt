@@ -7,6 +7,7 @@ ghost use Rattle.edif_spec.specs.Canonical.{layout, text, tree_of};
 ghost use Rattle.edif_spec.specs.Defined.{AllAfter, DefinedBefore};
 ghost use Rattle.edif_spec.specs.Design.{CellBody, Design, Lib};
 ghost use Rattle.edif_spec.specs.InTime.{ComesInTime, NoneEarlier};
+ghost use Rattle.edif_spec.specs.Plain.{IsPlainDesign};
 ghost use Rattle.edif_spec.specs.Writable.{IsWritable};
 ghost use Rattle.netlist_schema.specs.Valid.{IsValid};
 ghost use Rattle.spelling_spec.specs.Spelling.{IsForm, Spells};
@@ -16,6 +17,18 @@ ghost use Rattle.spelling_spec.specs.Tree.{Bare, depth};
 /// is deeper than level 256.
 pub fn layout_reads_back()
     ensures { (t : Bare) → IsForm t → depth t ≤ 256 → IsWritable t → Spells (layout 1 t ++ 10 ∷ []) t }
+{}
+
+/// A plain design is arranged already, so its canonical text has its cells in the order of the directories.
+pub fn plain_design_is_arranged()
+    ensures arranged { (d : Design) → IsPlainDesign d → arranged d ≡ d }
+    ensures text { (d : Design) → IsPlainDesign d → canonical_text d ≡ text d }
+{}
+
+/// The canonical text of a valid plain design spells the design's tree, and no other.
+pub fn plain_text_spells()
+    ensures spells { (d : Design) → IsPlainDesign d → IsValid d → Spells (canonical_text d) (tree_of d) }
+    ensures only { (d : Design) (t : Bare) → IsPlainDesign d → IsValid d → Spells (canonical_text d) t → t ≡ tree_of d }
 {}
 
 /// The canonical text of a valid design spells the tree of the arranged design, and no other.

@@ -1,4 +1,4 @@
--- A design of one leaf cell with two ports is valid.
+-- A design of one leaf cell with two ports is valid and plain.
 use Rattle.std.proofs.Common.{◌≡◌, ◌≢◌, ◌≤◌, false, List, [], ◌∷◌, length, map, Option, None, refl, ap, sym, ◌∙◌, subst, arith, lit≤}
 use Rattle.std.specs.List.{All}
 use Rattle.std.proofs.lemmas.List.Elements.{All-cons, All-nil}
@@ -12,6 +12,7 @@ use Rattle.netlist_schema.specs.Typed.{IsTypedName, IsTypedPort, IsTypedProperty
 use Rattle.netlist_schema.specs.Types.{CellBody, Direction, Inst, Lib, Name, Net, Note, Port}
 use Rattle.netlist_schema.specs.Valid.{IsValid}
 use Rattle.netlist_schema.specs.declared.cell.CellKind.TheVariants.{Generic}
+use Rattle.edif_spec.specs.Plain.{IsPlainCell, IsPlainDesign, IsPlainLib, IsPlainPort}
 
 abbrev pub port_of : Name → Option Direction → Port
 port_of name direction = record { name = name; array = None; direction = direction; designator = None; properties = [] }
@@ -94,6 +95,17 @@ one_leaf_is_valid title lib cell view a b d e t l c v p q differ =
       no_notes = refl;
     }
 
+plain_port : (name : Name) (direction : Option Direction) → IsBare name → IsPlainPort (port_of name direction)
+plain_port name direction h = record { name = h.1; scalar = refl; designator = refl; properties = refl }
+
+one_leaf_is_plain : (title lib cell view a b : Name) (d e : Option Direction) → IsBare title → IsBare lib → IsBare cell → IsBare view → IsBare a → IsBare b
+    → IsPlainDesign (design_of title (lib_of lib (leaf_of cell view (port_of a d ∷ port_of b e ∷ []))))
+one_leaf_is_plain title lib cell view a b d e t l c v p q =
+    let body = leaf_of cell view (port_of a d ∷ port_of b e ∷ []) in
+    let ports = All-cons IsPlainPort (port_of a d) (port_of b e ∷ []) (plain_port a d p) (one IsPlainPort (port_of b e) (plain_port b e q)) in
+    let plain : IsPlainCell body = record { name = c.1; kind = refl; properties = refl; view = v.1; view_properties = refl; interface_properties = refl; ports = ports; leaf = refl } in
+    record { title = t.1; libs = one IsPlainLib (lib_of lib body) record { name = l.1; library = refl; cells = one IsPlainCell body plain }; no_top = refl; no_notes = refl }
+
 -- the same of parts that are equal to these
 same_design : (title lib cell view a b : Name) (d e : Option Direction) (libs : List Lib) (notes : List Note) (body : CellBody) (ports : List Port) (p q : Port)
     → libs ≡ lib_of lib body ∷ [] → body ≡ leaf_of cell view ports → ports ≡ p ∷ q ∷ [] → p ≡ port_of a d → q ≡ port_of b e → notes ≡ []
@@ -108,3 +120,9 @@ pub parts_are_valid : (title lib cell view a b : Name) (d e : Option Direction) 
     → IsBare title → IsBare lib → IsBare cell → IsBare view → IsBare a → IsBare b → a.id ≢ b.id → IsValid (record { title = title; libs = libs; top = None; notes = notes })
 parts_are_valid title lib cell view a b d e libs notes body ports p q r s t u v w i j k l m n differ =
     subst IsValid (same_design title lib cell view a b d e libs notes body ports p q r s t u v w) (one_leaf_is_valid title lib cell view a b d e i j k l m n differ)
+
+pub parts_are_plain : (title lib cell view a b : Name) (d e : Option Direction) (libs : List Lib) (notes : List Note) (body : CellBody) (ports : List Port) (p q : Port)
+    → libs ≡ lib_of lib body ∷ [] → body ≡ leaf_of cell view ports → ports ≡ p ∷ q ∷ [] → p ≡ port_of a d → q ≡ port_of b e → notes ≡ []
+    → IsBare title → IsBare lib → IsBare cell → IsBare view → IsBare a → IsBare b → IsPlainDesign (record { title = title; libs = libs; top = None; notes = notes })
+parts_are_plain title lib cell view a b d e libs notes body ports p q r s t u v w i j k l m n =
+    subst IsPlainDesign (same_design title lib cell view a b d e libs notes body ports p q r s t u v w) (one_leaf_is_plain title lib cell view a b d e i j k l m n)

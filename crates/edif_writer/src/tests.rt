@@ -1,4 +1,5 @@
 ghost use Rattle.std.specs.Prelude.{◌≡◌, [], None, IfOk};
+ghost use Rattle.edif_spec.specs.Plain.{IsPlainDesign};
 ghost use Rattle.netlist_schema.specs.Ident.{IsIdentifier};
 ghost use Rattle.netlist_schema.specs.declared.cell.CellKind.TheVariants.{Generic};
 
@@ -43,7 +44,9 @@ fn leaf(name: Name, view: Name, ports: Row<Port>, alloc: Global) -> CellBody
 }
 
 /// A design `e` with a library `w` of one cell `INV`.
-fn inverter_design(alloc: Global) -> Result<Design, Fail> {
+fn inverter_design(alloc: Global) -> Result<Design, Fail>
+    ensures { IfOk result IsPlainDesign }
+{
     let title = plain_name(alloc, b"e")?;
     let lib_name = plain_name(alloc, b"w")?;
     let cell_name = plain_name(alloc, b"INV")?;
