@@ -5,7 +5,7 @@ ghost use Rattle.netlist_schema.specs.Typed.{IsBytes, IsTypedCellData, IsTypedCo
 
 use crate::cell::{CellBody, Contents, End, Inst, Net, Port};
 use crate::ident::Ident;
-use crate::library::{LibHead, Note, TopHead};
+use crate::library::{Lib, LibHead, Note, TopHead};
 use crate::memory::NoMemory;
 use crate::property::{Name, Num, Property, Value};
 use crate::row::Row;
@@ -191,6 +191,17 @@ impl Copied for LibHead {
         Ok(LibHead {
             name: self.name.copy(alloc)?,
             external: self.external,
+        })
+    }
+}
+
+impl Copied for Lib {
+    ghost typed = { λ lib. IsTypedName lib.head.name × All IsTypedCellData lib.cells };
+
+    fn copy(&self, alloc: Global) -> Result<Lib, NoMemory> {
+        Ok(Lib {
+            head: self.head.copy(alloc)?,
+            cells: self.cells.copy(alloc)?,
         })
     }
 }

@@ -1,12 +1,15 @@
 //! `Design`: a valid netlist.
-ghost use Rattle.std.specs.Prelude.{◌≡◌};
+ghost use Rattle.std.specs.Prelude.{◌≡◌, ◌≤◌, IsSomeAnd, OnErr, OnOk, length, unwrap_or};
+ghost use Rattle.netlist_schema.specs.Change.{with_inside, with_inst_put, with_net_put};
 ghost use Rattle.std.specs.Option.{option_copied};
 ghost use Rattle.netlist_schema.specs.Design.{cell_at};
 ghost use Rattle.netlist_schema.specs.Valid.{IsValid};
 
-use crate::cell::CellBody;
+use crate::cell::{CellBody, Inst, Net};
 use crate::ids::{CellId, LibId};
+use crate::inside::{put_inst_in, put_net_in};
 use crate::library::{Lib, LibHead, Note, TopHead};
+use crate::memory::NoMemory;
 use crate::property::Name;
 use crate::row::Row;
 use crate::shown::Shown;
@@ -63,6 +66,49 @@ impl Design {
             notes,
         } = self;
         (title, libs, top, notes)
+    }
+
+    /// Lends the libraries, in order.
+    pub fn libs(&self) -> &Row<Lib>
+        ensures value { result.now ≡ self.now.libs }
+        ensures valid { IsValid self.now }
+    {
+        &self.libs
+    }
+
+    /// Puts other libraries and notes in place, with which the design has to be valid. Takes no memory.
+    pub fn put(&mut self, libs: Row<Lib>, notes: Option<Row<Note>>)
+        requires { IsValid (record self.old { libs = libs; notes = unwrap_or notes self.old.notes }) }
+        ensures { self.new ≡ record self.old { libs = libs; notes = unwrap_or notes self.old.notes } }
+    {
+        self.libs = libs;
+        if let Some(notes) = notes {
+            self.notes = notes;
+        }
+    }
+
+    /// Puts a net at a place in the contents of a cell that is no leaf: it replaces the one there, or goes behind the last,
+    /// where the place is their number. The design has to be valid with it. Only a net behind the last takes memory, and
+    /// where it is refused, the design stays.
+    pub fn put_net(&mut self, id: CellId, place: usize, net: Net) -> Result<(), NoMemory>
+        requires there { IsSomeAnd (cell_at self.old id) (λ body. IsSomeAnd body.contents (λ contents. place ≤ length contents.nets)) }
+        requires valid { IsValid (with_inside self.old id (with_net_put place net)) }
+        ensures ok { OnOk result (self.new ≡ with_inside self.old id (with_net_put place net)) }
+        ensures err { OnErr result (self.new ≡ self.old) }
+    {
+        put_net_in(&mut self.libs, id, place, net)
+    }
+
+    /// Puts an instance at a place in the contents of a cell that is no leaf: it replaces the one there, or goes behind the
+    /// last, where the place is their number. The design has to be valid with it. Only an instance behind the last takes
+    /// memory, and where it is refused, the design stays.
+    pub fn put_inst(&mut self, id: CellId, place: usize, inst: Inst) -> Result<(), NoMemory>
+        requires there { IsSomeAnd (cell_at self.old id) (λ body. IsSomeAnd body.contents (λ contents. place ≤ length contents.insts)) }
+        requires valid { IsValid (with_inside self.old id (with_inst_put place inst)) }
+        ensures ok { OnOk result (self.new ≡ with_inside self.old id (with_inst_put place inst)) }
+        ensures err { OnErr result (self.new ≡ self.old) }
+    {
+        put_inst_in(&mut self.libs, id, place, inst)
     }
 
     /// A cell, where there is such a cell.

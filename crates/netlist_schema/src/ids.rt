@@ -1,4 +1,5 @@
 //! Places of libraries and cells, and the objects of a design.
+ghost use Rattle.std.specs.Prelude.{◌≡◌, ◌↔◌, IsTrue};
 
 /// A library, by its place in the design, from 0.
 #[derive(Clone, Copy, Debug, PartialEq, Eq, PartialOrd, Ord)]
@@ -11,10 +12,22 @@ pub struct CellId {
     pub slot: u32,
 }
 
-/// A part of a design that is read and written as a whole. Directories come first, then cells, then the notes.
+/// A part of a design that is read and written as a whole: the identifiers of a library's cells, a cell as seen from
+/// outside, what is inside a cell, or the notes. Directories come first, then interfaces, contents and the notes; each by
+/// its number.
 #[derive(Clone, Copy, Debug, PartialEq, Eq, PartialOrd, Ord)]
 pub enum Object {
     Directory(LibId),
-    Cell(CellId),
+    Interface(CellId),
+    Contents(CellId),
     Notes,
+}
+
+impl Object {
+    /// Whether the two are one object.
+    pub fn is(self, other: Object) -> bool
+        ensures { IsTrue result ↔ (self ≡ other) }
+    {
+        self == other
+    }
 }

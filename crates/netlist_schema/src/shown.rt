@@ -7,6 +7,7 @@ ghost use Rattle.netlist_schema.specs.Valid.{IsValid, IsValidCell};
 use crate::cell::CellBody;
 use crate::ids::{CellId, LibId};
 use crate::library::{LibHead, Note, TopHead};
+use crate::limits::{MOST_CELLS, MOST_LIBS};
 use crate::property::Name;
 use crate::row::Row;
 
@@ -19,20 +20,20 @@ pub trait Shown {
     fn title(&self) -> &Name
         ensures { result.now ≡ (design self.now).title };
 
-    /// The number of libraries, at most 1,024.
+    /// The number of libraries, at most `MOST_LIBS`.
     fn lib_count(&self) -> u32
         ensures value { result ≡ length (design self.now).libs }
-        ensures limit { result ≤ 1024 }
+        ensures limit { result ≤ MOST_LIBS }
         ensures valid { IsValid (design self.now) };
 
     /// The head of a library: `None` exactly where there is no such library.
     fn lib(&self, lib: LibId) -> Option<&LibHead>
         ensures { option_copied result ≡ option_map (λ l. l.head) (lib_at (design self.now) lib) };
 
-    /// The number of cells of a library, at most 65,536; 0 where there is no such library.
+    /// The number of cells of a library, at most `MOST_CELLS`; 0 where there is no such library.
     fn cell_count(&self, lib: LibId) -> u32
         ensures value { result ≡ length (cells_in (design self.now) lib) }
-        ensures limit { result ≤ 65536 };
+        ensures limit { result ≤ MOST_CELLS };
 
     /// A cell: `None` exactly where there is no such cell.
     fn cell(&self, id: CellId) -> Option<&CellBody>

@@ -3,11 +3,12 @@ ghost use Rattle.std.specs.Prelude.{◌≡◌, ◌↔◌, IsSome, IfSome};
 ghost use Rattle.netlist_schema.specs.Width.{IsWidth};
 
 use crate::copied::Copied;
+use crate::limits::MOST_WIDTH;
 use crate::memory::NoMemory;
 use std::alloc::Global;
 use std::marker::Model;
 
-/// The number of bits of an array port, from 1 to 65,536.
+/// The number of bits of an array port, from 1 to `MOST_WIDTH`.
 #[derive(Clone, Copy, Debug, PartialEq, Eq)]
 pub struct Width {
     bits: u32,
@@ -27,12 +28,12 @@ impl Model for Width {
 }
 
 impl Width {
-    /// The width of `n` bits: `None` exactly where `n` is not from 1 to 65,536.
+    /// The width of `n` bits: `None` exactly where `n` is not from 1 to `MOST_WIDTH`.
     pub fn of(n: u32) -> Option<Width>
         ensures some { IsSome result ↔ IsWidth n }
         ensures value { IfSome result (λ width. width ≡ n) }
     {
-        if n == 0 || n > 65_536 {
+        if n == 0 || n > MOST_WIDTH {
             return None;
         }
         Some(Width { bits: n })
