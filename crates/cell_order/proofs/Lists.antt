@@ -3,8 +3,8 @@ use Rattle.std.proofs.Common.{◌≡◌, ℕ, zero, suc, ◌<◌, List, [], ◌�
 use Rattle.std.specs.Prelude.{◌||◌, nat_eq}
 use Rattle.std.specs.List.{AllByRecursion, list_all, list_any}
 use Rattle.std.proofs.lemmas.Bool.{and_from, and_parts, or_parts}
-use Rattle.cell_order.specs.Desk.{names}
-use Rattle.cell_order.specs.declared.desk.Waiting.{Waiting}
+use Rattle.cell_order.specs.ReadyQueue.{names}
+use Rattle.cell_order.specs.declared.ready_queue.Waiting.{Waiting}
 
 -- what holds of each place of a list, and of one more element, holds of each place of the longer list
 pub get_more : {A B : Type 0} (f : Option A → B) (b : B) (xs : List A) (x : A) (s : ℕ) → f None ≡ b → f (Some x) ≡ b → f (slice_get xs s) ≡ b → f (slice_get (xs ++ x ∷ []) s) ≡ b

@@ -3,12 +3,12 @@ use Rattle.std.proofs.Common.{◌≡◌, ℕ, zero, suc, ◌+◌, ◌<◌, ◌�
 use Rattle.std.specs.Prelude.{cond, nat_eq}
 use Rattle.std.specs.List.{list_all, list_any}
 use Rattle.std.proofs.lemmas.Bool.{and_parts, eqb-true, not-true}
-use Rattle.edif_spec.specs.Arranged.{is_written, is_ready, first_ready, order_from}
-use Rattle.edif_spec.proofs.CellPlaces.{get_below}
+use Rattle.order_spec.specs.Order.{is_written, is_ready, first_ready, order_from}
+use Rattle.order_spec.proofs.Places.{get_below}
 use Rattle.netlist_schema.specs.Design.{insts_of}
 use Rattle.netlist_schema.specs.Types.{CellBody}
-use Rattle.cell_order.specs.Desk.{Fits, IsKept, WaitsFor, at_ready, at_child, at_hand}
-use Rattle.cell_order.specs.declared.desk.Waiting.{Waiting}
+use Rattle.cell_order.specs.ReadyQueue.{Fits, IsKept, WaitsFor, at_ready, at_child, at_hand}
+use Rattle.cell_order.specs.declared.ready_queue.Waiting.{Waiting}
 use Rattle.cell_order.proofs.Lists.{all_at, named}
 
 -- no cell is ready

@@ -3,12 +3,12 @@ use Rattle.std.proofs.Common.{◌≡◌, ◌≢◌, ℕ, zero, suc, ◌<◌, ◌
 use Rattle.std.specs.Prelude.{◌||◌, cond, nat_eq}
 use Rattle.std.specs.List.{AllByRecursion, list_all, list_any}
 use Rattle.std.proofs.lemmas.Bool.{and_from, and_parts, or_parts, cases_order, eqb-true, eqb-false, eq-eqb}
-use Rattle.edif_spec.specs.Arranged.{is_written}
-use Rattle.edif_spec.proofs.CellPlaces.{all_weaker, get_there}
+use Rattle.order_spec.specs.Order.{is_written}
+use Rattle.order_spec.proofs.Places.{all_weaker, get_there}
 use Rattle.netlist_schema.specs.Design.{insts_of}
 use Rattle.netlist_schema.specs.Types.{CellBody, Inst}
-use Rattle.cell_order.specs.Desk.{Fits, IsKept, IsNext, IsWaiting, WaitsFor, AllPast, first_cells, is_past, names, at_ready, at_child, at_hand}
-use Rattle.cell_order.specs.declared.desk.Waiting.{Waiting}
+use Rattle.cell_order.specs.ReadyQueue.{Fits, IsKept, IsNext, IsWaiting, WaitsFor, AllPast, first_cells, is_past, names, at_ready, at_child, at_hand}
+use Rattle.cell_order.specs.declared.ready_queue.Waiting.{Waiting}
 use Rattle.cell_order.proofs.Lists.{all_more, any_left, any_right, any_none, any_front, all_from_places}
 use Rattle.cell_order.proofs.Search.{not_ready}
 

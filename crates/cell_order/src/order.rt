@@ -1,10 +1,10 @@
 //! The order of a library's cells.
 ghost use Rattle.std.specs.Prelude.{◌≡◌, IfOk};
-ghost use Rattle.edif_spec.specs.Arranged.{order_of};
+ghost use Rattle.order_spec.specs.Order.{order_of};
 ghost use Rattle.netlist_schema.specs.Design.{cells_in};
-ghost use Rattle.cell_order.specs.Desk.{first_cells};
+ghost use Rattle.cell_order.specs.ReadyQueue.{first_cells};
 
-use crate::desk::{Desk, Waiting};
+use crate::ready_queue::{ReadyQueue, Waiting};
 use netlist_schema::{LibId, NoMemory, Shown};
 use std::alloc::Global;
 
@@ -17,17 +17,17 @@ pub fn cell_order<S: Shown>(alloc: Global, design: &S, lib: LibId) -> Result<Vec
     ensures { IfOk result (λ order. order.items ≡ order_of lib.0 (cells_in (S.design design.now) lib)) }
 {
     let count = design.cell_count(lib);
-    let mut desk = Desk::new(alloc, count)?;
+    let mut queue = ReadyQueue::new(alloc, count)?;
     let all = all_cells(alloc, count)?;
-    desk.settle(design, lib, all.as_slice())?;
+    queue.settle(design, lib, all.as_slice())?;
     let mut order = Vec::new(alloc);
     for _ in 0..count {
-        let Some(slot) = desk.next() else {
+        let Some(slot) = queue.next() else {
             break;
         };
         order.push(slot)?;
-        let freed = desk.take(alloc, slot);
-        desk.settle(design, lib, freed.as_slice())?;
+        let freed = queue.take(alloc, slot);
+        queue.settle(design, lib, freed.as_slice())?;
     }
     Ok(order)
 }

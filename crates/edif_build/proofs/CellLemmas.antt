@@ -1,19 +1,20 @@
 -- Types of cells and of views, views and cells, from their parts.
-use Rattle.std.proofs.Common.{◌≡◌, ℕ, suc, ◌+◌, ◌<◌, ◌≤◌, List, [], ◌∷◌, ◌++◌, map, length, take, drop, get_or, refl, ap, sym, ◌∙◌, subst, ◌⊎◌, inl, inr, Bool, true, false, Option, Some, None, arith}
-use Rattle.std.specs.Prelude.{IsTrue, cond, slice_get, sum_by, option_map}
-use Rattle.std.specs.List.{All, AllByRecursion, flat_map}
+use Rattle.std.proofs.Common.{◌≡◌, ℕ, suc, ◌<◌, List, [], ◌∷◌, ◌++◌, map, length, take, drop, get_or, refl, ap, sym, ◌∙◌, subst, inl, inr, Bool, true, false, Option, Some, None, arith}
+use Rattle.std.specs.Prelude.{IsTrue, cond, slice_get}
+use Rattle.std.specs.List.{All, AllByRecursion}
 use Rattle.std.proofs.lemmas.List.Elements.{All-from_recursion}
-use Rattle.netlist_schema.specs.Design.{insts_of, nets_of, ends_of, insts_in, nets_in}
-use Rattle.netlist_schema.specs.Names.{AreDistinct, HasDistinctKeys}
+use Rattle.netlist_schema.specs.Design.{insts_of, nets_of, insts_in, nets_in}
+use Rattle.netlist_schema.specs.Names.{HasDistinctKeys}
 use Rattle.netlist_schema.specs.Typed.{IsTypedName, IsTypedProperty, IsTypedInst, IsTypedNet}
-use Rattle.spelling_spec.specs.Tree.{Bare, Placed, Form', Word', Integer', String', End, More, word, bare}
-use Rattle.edif_spec.specs.Keyword.{same, row, Takes, Choice, Follower, Many, One, name_definition, identifier, the}
-use Rattle.edif_spec.specs.Rows.{has_keyword, those, is_one_of, IsFormOf, Each, Perhaps, Just}
+use Rattle.spelling_spec.specs.Tree.{Bare, Placed, Word', bare}
+use Rattle.edif_spec.specs.Keyword.{same, row, Takes, Choice, Follower, name_definition, identifier, the}
+use Rattle.edif_spec.specs.Rows.{has_keyword, those, IsFormOf, Each, Perhaps, Just}
 use Rattle.edif_spec.specs.Canonical.{kind_word}
 use Rattle.edif_spec.specs.Design as design
 use Rattle.edif_spec.specs.Means.{IsNetlist, MeansCell, MeansContents, MeansKind, MeansName, MeansPort, MeansProperties, MeansView}
-use Rattle.edif_spec.specs.Faults.{AtTwo, Among, place_of, arguments, defined, fixed_count, followers, name_of, parts, those_of, token_kind, InPart}
+use Rattle.edif_spec.specs.Faults.{AtTwo, Among, place_of, arguments, defined, followers, name_of, those_of, token_kind}
 use Rattle.edif_spec.specs.Stands.{CellTypeFault, ContentsFault, TypeFault, ViewFault, CellFault, is_cell_type, is_netlist, ports_in}
+use Rattle.edif_spec.specs.Stands as stands
 use Rattle.edif_spec.specs.declared.keyword.Keyword.{Keyword}
 use Rattle.edif_spec.specs.declared.keyword.Keyword.TheVariants as keywords
 use Rattle.edif_spec.specs.declared.fault.ClashKind.TheVariants.{SecondView}
@@ -49,7 +50,7 @@ kind_means t a w p k f e h =
     (w, subst P e g, h)
 
 pub kind_fails : (t a : Placed) (w : List ℕ) (p : ℕ) → slice_get (arguments t) 0 ≡ Some a → a ≡ Word' p w → is_cell_type w ≡ false → CellTypeFault t (At BadForm p)
-kind_fails t a w p g e n = inr (a, g, (w, p, e, n, refl))
+kind_fails t a w p g e n = stands.other_cell_type (a, g, (w, p, e, n, refl))
 
 pub netlist_means : (t a : Placed) (w : List ℕ) (p : ℕ) → IsFormOf keywords.ViewType (bare t) (bare a ∷ []) (map bare (followers keywords.ViewType t)) → a ≡ Word' p w → is_netlist w ≡ true → IsNetlist (bare t)
 netlist_means t a w p f e h =
@@ -58,7 +59,7 @@ netlist_means t a w p f e h =
     (w, subst P e g, h)
 
 pub netlist_fails : (t a : Placed) (w : List ℕ) (p : ℕ) → slice_get (arguments t) 0 ≡ Some a → a ≡ Word' p w → is_netlist w ≡ false → TypeFault t (At NotNetlist p)
-netlist_fails t a w p g e n = inr (a, g, (w, p, e, n, refl))
+netlist_fails t a w p g e n = stands.other_view_type (a, g, (w, p, e, n, refl))
 
 -- three fixed arguments, and their nodes
 pub record HasThree (rows : List nodes.Row) (k : Keyword) (c e g : List Choice) (t : Placed) (ids : List NodeId) : Type 0 where
@@ -124,29 +125,20 @@ those_views (t ∷ ts) = go (has_keyword keywords.View (bare t)) refl (those_vie
 pub is_view : (ts : List Placed) (u : Placed) → those_of keywords.View ts ≡ u ∷ [] → has_keyword keywords.View (bare u) ≡ true
 is_view ts u e = let P : List Placed → Type 0 = λ v. AllByRecursion (λ u. has_keyword keywords.View (bare u) ≡ true) v in let h = subst P e (those_views ts) in h.0
 
--- a form defines what its first argument names
-pub defined_first : (t u : Placed) → slice_get (arguments t) 0 ≡ Some u → defined t ≡ name_of u
-defined_first (Form' p (More k (More v vs))) u e = let w : v ≡ u = cc e in ap name_of w
-defined_first (Form' p (More k End)) u e = absurd (cc e)
-defined_first (Form' p End) u e = absurd (cc e)
-defined_first (Word' p w) u e = absurd (cc e)
-defined_first (Integer' p z) u e = absurd (cc e)
-defined_first (String' p s) u e = absurd (cc e)
-
 -- what is wrong with the views is wrong with the cell
 pub views_fail : (libs : List design.Lib) (own : Option ℕ) (t : Placed) (place : ℕ) (f : MeaningFault) → place ≡ place_of t → ViewsFault (those_of keywords.View (followers keywords.Cell t)) place f → CellFault libs own t f
-views_fail libs own t place f e (inl b) = inl (inr (inr (inl b)))
-views_fail libs own t place f e (inr b) = inr (inr (inr (inr (inl (b.0, b.1 ∙ ap (λ v. At BadForm v) e)))))
+views_fail libs own t place f e (inl b) = stands.cell_row (inr (inr (inl b)))
+views_fail libs own t place f e (inr b) = stands.without_view b.0 (b.1 ∙ ap (λ v. At BadForm v) e)
 
 pub view_fails_there : (libs : List design.Lib) (own : Option ℕ) (t u : Placed) (f : MeaningFault) → those_of keywords.View (followers keywords.Cell t) ≡ u ∷ [] → ViewFault libs own u f → CellFault libs own t f
-view_fails_there libs own t u f e b = let P : List Placed → Type 0 = λ v. Among (ViewFault libs own) v f in inr (inr (inr (inl (subst P (sym e) (inl b)))))
+view_fails_there libs own t u f e b = let P : List Placed → Type 0 = λ v. Among (ViewFault libs own) v f in stands.cell_view (subst P (sym e) (inl b))
 
 -- what is wrong with the contents is wrong with the view
-pub inside_fails : (libs : List design.Lib) (own : Option ℕ) (t u : Placed) (ports : List design.Port) (f : MeaningFault) → slice_get (arguments t) 2 ≡ Some u → Each MeansPort (those keywords.Port (map bare (followers keywords.Interface u))) ports
+pub inside_fails : (libs : List design.Lib) (own : Option ℕ) (t u : Placed) (ports : List design.Port) (f : MeaningFault) → slice_get (arguments t) 2 ≡ Some u → IsTrue (has_keyword keywords.Interface (bare u)) → Each MeansPort (those keywords.Port (map bare (followers keywords.Interface u))) ports
     → Among (ContentsFault libs own ports) (those_of keywords.Contents (followers keywords.View t)) f → ViewFault libs own t f
-inside_fails libs own t u ports f g m b =
+inside_fails libs own t u ports f g k m b =
     let P : List Bare → Type 0 = λ v. Each MeansPort v ports in
-    inr (inr (inr (inr (inl (u, ports, g, subst P (sym (parts_bare keywords.Interface keywords.Port u)) m, b)))))
+    stands.view_contents (record { interface = u; ports = ports; there = g; is_interface = k; means = subst P (sym (parts_bare keywords.Interface keywords.Port u)) m; fault = b })
 
 -- what is inside a cell
 inside_means : (libs : List design.Lib) (own : Option ℕ) (ports : List design.Port) (us : List Placed) (o : Option Inside) → ReadOnce (ReadContents libs own ports) us o → Perhaps (MeansContents libs own ports) (map bare us) (contents_of o)

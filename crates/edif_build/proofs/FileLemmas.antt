@@ -1,17 +1,16 @@
 -- The form of a file: its design, its libraries and its top.
-use Rattle.std.proofs.Common.{◌≡◌, ℕ, zero, suc, ◌+◌, ◌<◌, ◌≤◌, List, [], ◌∷◌, ◌++◌, map, length, take, drop, get_or, refl, ap, sym, ◌∙◌, subst, ◌⊎◌, inl, inr, Bool, true, false, Option, Some, None, arith, append-nil, add-one}
-use Rattle.std.specs.Prelude.{cond, filter, slice_get, ◌||◌}
+use Rattle.std.proofs.Common.{◌≡◌, ℕ, zero, suc, ◌+◌, ◌<◌, ◌≤◌, List, [], ◌∷◌, ◌++◌, map, length, take, drop, get_or, refl, ap, sym, ◌∙◌, subst, inl, inr, Bool, true, false, Option, Some, None, arith, append-nil, add-one}
+use Rattle.std.specs.Prelude.{IsTrue, cond, slice_get, ◌||◌}
 use Rattle.spelling_spec.specs.Tree.{Bare, Placed, bare}
-use Rattle.edif_spec.specs.Keyword.{name_definition, row, the}
+use Rattle.edif_spec.specs.Keyword.{row}
 use Rattle.edif_spec.specs.Rows.{EachAfter, has_keyword}
 use Rattle.edif_spec.specs.Means.{MeansLibrary, is_library}
-use Rattle.edif_spec.specs.Faults.{AtTwo, Among, arguments, fixed_count, followers, misplaced, place_of, row_has, those_of, RowFault}
+use Rattle.edif_spec.specs.Faults.{AtTwo, arguments, fixed_count, followers, place_of, those_of}
 use Rattle.edif_spec.specs.Stands.{DesignFault, FileFault, Stands, before_the_design, file_row, libraries}
-use Rattle.edif_spec.specs.Design as design
+use Rattle.edif_spec.specs.Stands as stands
 use Rattle.edif_spec.specs.declared.keyword.Keyword.{Keyword}
 use Rattle.edif_spec.specs.declared.keyword.Keyword.TheVariants as keywords
 use Rattle.edif_spec.specs.declared.fault.ClashKind.TheVariants.{SecondDesign}
-use Rattle.edif_spec.specs.declared.fault.Kind.TheVariants.{BadForm}
 use Rattle.edif_spec.specs.declared.fault.MeaningFault.{MeaningFault}
 use Rattle.edif_spec.specs.declared.fault.MeaningFault.TheVariants.{Clash}
 use Rattle.edif_spec.proofs.FaultForms.{map_length}
@@ -22,19 +21,19 @@ use Rattle.edif_spec.proofs.OnceFile.{library_once}
 use Rattle.edif_tree.specs.Nodes as nodes
 use Rattle.edif_tree.specs.declared.node.NodeId.{NodeId}
 use Rattle.edif_tree.proofs.OneTree.{one_at}
-use Rattle.edif_build.specs.Files.{DesignAt, FollowersFail, HasFixed, ReadFollowers, ReadForm, ReadRoot, SecondDesigns, TopIs}
-use Rattle.edif_grammar.specs.Forms.{Fails, Fits, HasParts, Stand}
+use Rattle.edif_build.specs.Files.{DesignAt, FollowersFail, HasFixed, ReadFollowers, ReadRoot, SecondDesigns}
+use Rattle.edif_grammar.specs.Forms.{Fails, HasParts, Stand}
 use Rattle.edif_contents.specs.Known.{KnownLibs}
 use Rattle.edif_build.specs.Libraries.{FailsIn, LibsAre, LibsFail}
 use Rattle.edif_build.specs.Notes.{ReadTop}
 use Rattle.edif_grammar.specs.declared.lent.Parts.{Parts}
 use Rattle.edif_build.specs.declared.top.Top.{Top}
 use Rattle.edif_grammar.proofs.FormLemmas.{fit_edif}
-use Rattle.edif_grammar.proofs.KeywordLemmas.{fits_as, keyword_is, file_breach, one_keyword}
+use Rattle.edif_grammar.proofs.KeywordLemmas.{breach, fits_as, keyword_is, one_keyword}
 use Rattle.edif_parts.proofs.NameLists.{none_distinct}
 use Rattle.edif_contents.proofs.RefLemmas.{place_same}
 use Rattle.edif_grammar.proofs.StandLemmas.{stand_read}
-use Rattle.edif_parts.proofs.Steps.{Step, here, kept, skipped, step_at}
+use Rattle.edif_parts.proofs.Steps.{Step, here, kept, skipped}
 
 -- the design so far
 abbrev pub FoundSo : List Placed → ℕ → Option ℕ → Type 0
@@ -78,10 +77,14 @@ root_is rows t p h =
     record { fits = fits_as None p.keyword keywords.Edif t h.fits k; fixed = subst F e h.fixed; inner = subst I e h.inner }
 
 pub root_fails : (t : Placed) (f : MeaningFault) → Fails None t f → Stands t f
-root_fails t f h = elim (file_breach t f h) [ inl b ↦ inl b | inr b ↦ inr (inl b) ]
+root_fails t f h = go (has_keyword keywords.Edif (bare t)) refl
+  where
+    go : (b : Bool) → has_keyword keywords.Edif (bare t) ≡ b → Stands t f
+    go true e = stands.in_file e (stands.edif_row (breach None keywords.Edif t f refl e h))
+    go false e = elim h [ inl b ↦ stands.no_file e b.1 | inr b ↦ absurd (cc (sym e ∙ edif_choice (has_keyword keywords.Edif (bare t)) b.3)) ]
 
-pub second_stands : (t : Placed) (f : MeaningFault) → SecondDesigns (followers keywords.Edif t) f → Stands t f
-second_stands t f b = inr (inl (inr (inr (inl b))))
+pub second_stands : (t : Placed) (f : MeaningFault) → IsTrue (has_keyword keywords.Edif (bare t)) → SecondDesigns (followers keywords.Edif t) f → Stands t f
+second_stands t f k b = stands.in_file k (stands.edif_row (inr (inr (inl b))))
 
 at_most_one : (ts : List Placed) (o : Option ℕ) → DesignAt ts o → length (those_of keywords.Design ts) ≤ 1
 at_most_one ts None h = let l : length (those_of keywords.Design ts) ≡ 0 = ap length h in omega (arith, l)
@@ -168,8 +171,7 @@ fails_back ts i f d b = let P : List Placed → Type 0 = λ v. LibsFail v f in i
 pub fails_design : (ts : List Placed) (i : ℕ) (before : KnownLibs) (f : MeaningFault) → (d : DesignAt ts (Some i)) → LibsAre (libraries (take i ts)) before → DesignFault before.libs d.0 f → FollowersFail ts f
 fails_design ts i before f d h b =
     let P : List Placed → Type 0 = λ v. LibsAre v before in
-    let Q : List Placed → Type 0 = λ v. Among (DesignFault before.libs) v f in
-    inr (before, subst P (sym (libraries_front ts i d)) h, subst Q (sym d.3) (inl b))
+    inr (before, subst P (sym (libraries_front ts i d)) h, d.0, ap (λ v. slice_get v 0) d.3, b)
 
 -- the libraries before the design are the first of all
 first_libs : (us vs : List Placed) (before known : KnownLibs) → LibsAre us before → LibsAre (us ++ vs) known → before.libs ≡ take (length us) known.libs
@@ -197,11 +199,11 @@ followers_read ts i before known x d h r k =
     }
 
 -- what is wrong with the followers is wrong with the file
-pub followers_stand : (t : Placed) (f : MeaningFault) → FollowersFail (followers keywords.Edif t) f → Stands t f
-followers_stand t f (inl (inl b)) = inr (inr (inr (inr (inr (inr (inl b))))))
-followers_stand t f (inl (inr (inl b))) = inr (inr (inr (inr (inr (inr (inr (inl b)))))))
-followers_stand t f (inl (inr (inr b))) = inr (inr (inr (inr (inr (inr (inr (inr (inl b))))))))
-followers_stand t f (inr b) = inr (inr (inr (inr (inr (inr (inr (inr (inr (b.0.libs, b.1.mean, b.2)))))))))
+pub followers_stand : (t : Placed) (f : MeaningFault) → IsTrue (has_keyword keywords.Edif (bare t)) → FollowersFail (followers keywords.Edif t) f → Stands t f
+followers_stand t f k (inl (inl b)) = stands.in_file k (stands.edif_library b)
+followers_stand t f k (inl (inr (inl b))) = stands.in_file k (stands.library_again b)
+followers_stand t f k (inl (inr (inr b))) = stands.in_file k (stands.many_libraries b)
+followers_stand t f k (inr b) = stands.in_file k (stands.edif_design (record { libs = b.0.libs; means = b.1.mean; first = b.2; there = b.3; fault = b.4 }))
 
 -- no libraries yet
 pub no_libraries : (known : KnownLibs) → known ≡ record { libs = []; lib_names = []; cell_names = [] } → LibsAre [] known

@@ -1,87 +1,29 @@
 -- A file whose parts are meant means a valid design.
-use Rattle.std.proofs.Common.{◌≡◌, ℕ, zero, suc, ◌≤◌, List, [], ◌∷◌, ◌++◌, map, length, take, refl, ap, sym, ◌∙◌, subst, Option, Some, None, arith}
-use Rattle.std.specs.Prelude.{filter, slice_get, IfSome, IfNone, IsSome, is_some}
-use Rattle.std.specs.List.{AllByRecursion, All}
-use Rattle.std.proofs.lemmas.List.Elements.{All-from_recursion}
-use Rattle.netlist_schema.specs.Hierarchy.{IsCell}
-use Rattle.netlist_schema.specs.Names.{AreDistinct, HasDistinctKeys, note_key, lib_names, cell_names}
-use Rattle.netlist_schema.specs.Typed.{IsTypedName, IsTypedProperty, IsTypedCell, IsTypedNote}
-use Rattle.netlist_schema.specs.Valid.{IsValid, IsNoteBelow}
+use Rattle.std.proofs.Common.{◌≡◌, ℕ, List, [], ◌∷◌, map, length, take, refl, ap, sym, ◌∙◌, subst, Option, Some, None, arith}
+use Rattle.std.specs.Prelude.{filter}
+use Rattle.std.specs.List.{AllByRecursion}
+use Rattle.netlist_schema.specs.Names.{AreDistinct}
+use Rattle.netlist_schema.specs.Typed.{IsTypedName, IsTypedCell}
+use Rattle.netlist_schema.specs.Valid.{IsValid}
 use Rattle.spelling_spec.specs.Tree.{Bare, Placed, bare}
 use Rattle.edif_spec.specs.Rows.{has_keyword, those, EachAfter, Perhaps}
-use Rattle.edif_spec.specs.Means.{MeansLibrary, is_library, is_note, MeansDesign, MeansCellRef, before_design, libs_before_design, MeansFile}
-use Rattle.edif_spec.specs.Faults.{followers, those_of}
+use Rattle.edif_spec.specs.Means.{MeansLibrary, is_library, MeansDesign, before_design, libs_before_design, MeansFile}
+use Rattle.edif_spec.specs.Faults.{followers}
 use Rattle.edif_spec.specs.Stands.{before_the_design, libraries}
 use Rattle.edif_spec.specs.Design as design
 use Rattle.edif_spec.specs.declared.keyword.Keyword.TheVariants as keywords
 use Rattle.edif_spec.proofs.CellFaultsApart.{FineCell}
-use Rattle.edif_spec.proofs.Defined.{meant_there, cell_there}
 use Rattle.edif_spec.proofs.FaultForms.{filter_bare, map_length}
-use Rattle.edif_spec.proofs.FileFaultsApart.{before_bare, FineTop}
+use Rattle.edif_spec.proofs.FileFaultsApart.{before_bare}
 use Rattle.edif_spec.proofs.FromValid.{weaker}
+use Rattle.edif_spec.proofs.KnownDesigns.{design_is_valid}
 use Rattle.edif_spec.proofs.KnownFile.{FineLib, FineNote}
-use Rattle.edif_spec.proofs.KnownValid.{front_cell, cell_form, valid_cell, no_cycle, notes_below, KnownCell}
-use Rattle.edif_spec.proofs.Scopes.{some_of}
 use Rattle.edif_build.specs.Cells.{IsSoundCell}
 use Rattle.edif_build.specs.Files.{ReadFollowers, ReadHeads, TopIs, head_of, notes_of}
 use Rattle.edif_contents.specs.Known.{KnownLibs}
 use Rattle.edif_build.specs.Libraries.{IsSoundLib, LibsAre}
 use Rattle.edif_build.specs.Notes.{IsSoundNote}
 use Rattle.edif_build.specs.declared.top.Top.{Top}
-
--- the top cell is there
-top_cell : (libs scope : List design.Lib) → ((id : design.CellId) (c : design.CellBody) → design.cell_at scope id ≡ Some c → design.cell_at libs id ≡ Some c) → (t : Bare) (id : design.CellId) → MeansCellRef scope None t id → IsSome (design.cell_at libs id)
-top_cell libs scope sub t id h =
-    let c = some_of (design.cell_at scope id) (cell_there scope id (meant_there (design.cell_ids scope id.lib.0) h.spelled id.slot h.cell)) in
-    ap is_some (sub id c.0 c.1)
-
--- what a design's form gives the design
-tops : (d : design.Design) (scope : List design.Lib) → ((id : design.CellId) (c : design.CellBody) → design.cell_at scope id ≡ Some c → design.cell_at d.libs id ≡ Some c) → (ts : List Bare) (o : Option design.TopHead) → Perhaps (MeansDesign scope d.notes) ts o
-    → IfSome o (λ x. FineTop d.notes x × IsTypedName x.name × All IsTypedProperty x.properties) → AllByRecursion FineNote d.notes
-    → IfSome o (λ x. (IsCell d x.cell × HasDistinctKeys x.properties) × All (IsNoteBelow d x.cell) d.notes × (IsTypedName x.name × All IsTypedProperty x.properties))
-tops d scope sub [] None h f n = tt
-tops d scope sub [] (Some x) h f n = absurd h
-tops d scope sub (t ∷ []) None h f n = absurd h
-tops d scope sub (t ∷ u ∷ ts) None h f n = absurd h
-tops d scope sub (t ∷ u ∷ ts) (Some x) h f n = absurd h
-tops d scope sub (t ∷ []) (Some x) h f n =
-    ((top_cell d.libs scope sub h.cell_part x.cell h.cell, f.0.keys), All-from_recursion (IsNoteBelow d x.cell) d.notes (notes_below d scope sub x.cell (filter is_note h.inner) d.notes h.noted n), (f.1, f.2))
-
-some_weaker : {A : Type 0} (o : Option A) (P Q : A → Type 0) → ((x : A) → P x → Q x) → IfSome o P → IfSome o Q
-some_weaker None P Q f h = tt
-some_weaker (Some x) P Q f h = f x h
-
-design_is_valid : (d : design.Design) (ts us : List Bare) (n : ℕ) → IsTypedName d.title → EachAfter MeansLibrary [] ts d.libs → AllByRecursion FineLib d.libs → AreDistinct (lib_names d.libs) → length d.libs ≤ 1024
-    → Perhaps (MeansDesign (take n d.libs) d.notes) us d.top → IfSome d.top (λ x. FineTop d.notes x × IsTypedName x.name × All IsTypedProperty x.properties) → IfNone d.top (d.notes ≡ []) → AllByRecursion FineNote d.notes → length d.notes ≤ 1048576 → AreDistinct (map note_key d.notes)
-    → IsValid d
-design_is_valid d ts us n title libs fine names count top ft none fn nc nd =
-    let k : (id : design.CellId) (body : design.CellBody) → design.cell_at d.libs id ≡ Some body → KnownCell d.libs id body = λ id body e. cell_form d.libs ts libs fine id body e in
-    let r = tops d (take n d.libs) (λ id c e. front_cell d.libs n id c e) us d.top top ft fn in
-    let P : design.TopHead → Type 0 = λ x. (IsCell d x.cell × HasDistinctKeys x.properties) × All (IsNoteBelow d x.cell) d.notes × (IsTypedName x.name × All IsTypedProperty x.properties) in
-    record {
-      typed = record {
-        title = title;
-        libs = All-from_recursion (λ (l : design.Lib). IsTypedName l.head.name) d.libs (weaker FineLib (λ (l : design.Lib). IsTypedName l.head.name) d.libs (λ l h. h.name) fine);
-        cells = All-from_recursion (λ (l : design.Lib). All IsTypedCell l.cells) d.libs (weaker FineLib (λ (l : design.Lib). All IsTypedCell l.cells) d.libs (λ l h. All-from_recursion IsTypedCell l.cells h.typed) fine);
-        top = some_weaker d.top P (λ x. IsTypedName x.name × All IsTypedProperty x.properties) (λ x h. h.2) r;
-        notes = All-from_recursion IsTypedNote d.notes (weaker FineNote IsTypedNote d.notes (λ m h. h.typed) fn);
-      };
-      limits = record {
-        libs = count;
-        cells = All-from_recursion (λ (l : design.Lib). length l.cells ≤ 65536) d.libs (weaker FineLib (λ (l : design.Lib). length l.cells ≤ 65536) d.libs (λ l h. h.count) fine);
-        notes = nc;
-      };
-      names = record {
-        libs = names;
-        cells = All-from_recursion (λ (l : design.Lib). AreDistinct (cell_names l.cells)) d.libs (weaker FineLib (λ (l : design.Lib). AreDistinct (cell_names l.cells)) d.libs (λ l h. h.names) fine);
-      };
-      cells = λ id body e. valid_cell d id body (k id body e);
-      no_cycle = no_cycle d k;
-      top = some_weaker d.top P (λ x. IsCell d x.cell × HasDistinctKeys x.properties) (λ x h. h.0) r;
-      notes = some_weaker d.top P (λ x. All (IsNoteBelow d x.cell) d.notes) (λ x h. h.1) r;
-      notes_need_top = none;
-      notes_differ = nd;
-    }
 
 -- what was read is fine
 fine_lib : (l : design.Lib) → IsSoundLib l → FineLib l

@@ -1,13 +1,13 @@
 -- Levels, the version and the keyword map, from their parts.
-use Rattle.std.proofs.Common.{◌≡◌, ℕ, ◌<◌, ℤ, pos, List, [], ◌∷◌, map, length, refl, ap, sym, ◌∙◌, subst, ◌⊎◌, inl, inr, Bool, true, Option, Some, arith, get_or, Result, Ok, Err, Bor}
-use Rattle.std.specs.Prelude.{slice_get}
+use Rattle.std.proofs.Common.{◌≡◌, ℕ, ℤ, pos, List, [], ◌∷◌, map, length, refl, ap, sym, ◌∙◌, subst, ◌⊎◌, inl, inr, true, Some, get_or, Result, Ok, Err}
 use Rattle.spelling_spec.specs.Tree.{Bare, Placed, Form', Word', Integer', String', integer, bare}
 use Rattle.edif_spec.specs.Keyword.{row, Takes}
 use Rattle.edif_spec.specs.Keyword as keyword
-use Rattle.edif_spec.specs.Rows.{has_keyword, is_one_of, IsFormOf}
+use Rattle.edif_spec.specs.Rows.{is_one_of, IsFormOf}
 use Rattle.edif_spec.specs.Means.{IsLevel}
-use Rattle.edif_spec.specs.Faults.{place_of, arguments, fixed_count, followers, token_kind, RowFault, InPart}
+use Rattle.edif_spec.specs.Faults.{place_of, followers, token_kind, RowFault}
 use Rattle.edif_spec.specs.Stands.{ValueFault, LevelFault, VersionFault, MapFault}
+use Rattle.edif_spec.specs.Stands as stands
 use Rattle.edif_spec.specs.declared.keyword.Keyword.{Keyword}
 use Rattle.edif_spec.specs.declared.keyword.Keyword.TheVariants as keywords
 use Rattle.edif_spec.specs.declared.fault.Kind.{Kind}
@@ -20,10 +20,10 @@ use Rattle.edif_tree.specs.Nodes as nodes
 use Rattle.edif_tree.specs.declared.node.NodeId.{NodeId}
 use Rattle.edif_tree.specs.declared.node.Shape.{Shape}
 use Rattle.edif_tree.specs.declared.node.Shape.TheVariants as shapes
-use Rattle.edif_grammar.specs.Forms.{Fits, Stand}
+use Rattle.edif_grammar.specs.Forms.{Stand}
 use Rattle.edif_parts.specs.Parts.{ArePartsOf}
-use Rattle.edif_parts.specs.Reading.{Answers, Names}
-use Rattle.edif_build.specs.Levels.{IsOther, IsLevelForm, IsKeywordMap}
+use Rattle.edif_parts.specs.Reading.{Answers}
+use Rattle.edif_build.specs.Levels.{IsOther, IsLevelForm}
 use Rattle.edif_grammar.specs.declared.lent.Parts.{Parts}
 use Rattle.edif_parts.specs.declared.error.EdifError.{EdifError}
 use Rattle.edif_parts.specs.declared.error.EdifError.TheVariants as errors
@@ -97,7 +97,7 @@ level_means k t x l e =
     subst P e f
 
 pub level_fails : (k : Keyword) (t : Placed) (x : LevelFits k t) (f : MeaningFault) → IsLevelForm k → IsOther (pos 0) BadLevel x.a f → LevelFault k t f
-level_fails k t x f l o = elim (number_fault k t x.a (pos 0) BadLevel f (level_kind k l) x.or_a o) [ inl b ↦ inl b | inr b ↦ inr (x.a, x.at_a, b) ]
+level_fails k t x f l o = elim (number_fault k t x.a (pos 0) BadLevel f (level_kind k l) x.or_a o) [ inl b ↦ stands.level_row b | inr b ↦ stands.other_level (x.a, x.at_a, b) ]
 
 -- the version
 pub record VersionNodes (rows : List nodes.Row) (t : Placed) (p : Parts) : Type 0 where
@@ -124,10 +124,10 @@ version_means t x e g h =
     subst P (λ i. e i ∷ g i ∷ h i ∷ []) w
 
 pub version_a : (t : Placed) (x : VersionFits t) (f : MeaningFault) → IsOther (pos 2) BadVersion x.a f → VersionFault t f
-version_a t x f o = elim (number_fault keywords.EdifVersion t x.a (pos 2) BadVersion f refl x.or_a o) [ inl b ↦ inl b | inr b ↦ inr (inl (x.a, x.at_a, b)) ]
+version_a t x f o = elim (number_fault keywords.EdifVersion t x.a (pos 2) BadVersion f refl x.or_a o) [ inl b ↦ stands.version_row b | inr b ↦ stands.first_number (x.a, x.at_a, b) ]
 
 pub version_b : (t : Placed) (x : VersionFits t) (f : MeaningFault) → IsOther (pos 0) BadVersion x.b f → VersionFault t f
-version_b t x f o = elim (number_fault keywords.EdifVersion t x.b (pos 0) BadVersion f refl x.or_b o) [ inl b ↦ inl b | inr b ↦ inr (inr (inl (x.b, x.at_b, b))) ]
+version_b t x f o = elim (number_fault keywords.EdifVersion t x.b (pos 0) BadVersion f refl x.or_b o) [ inl b ↦ stands.version_row b | inr b ↦ stands.second_number (x.b, x.at_b, b) ]
 
 pub version_x : (t : Placed) (x : VersionFits t) (f : MeaningFault) → IsOther (pos 0) BadVersion x.x f → VersionFault t f
-version_x t x f o = elim (number_fault keywords.EdifVersion t x.x (pos 0) BadVersion f refl x.or_x o) [ inl b ↦ inl b | inr b ↦ inr (inr (inr (x.x, x.at_x, b))) ]
+version_x t x f o = elim (number_fault keywords.EdifVersion t x.x (pos 0) BadVersion f refl x.or_x o) [ inl b ↦ stands.version_row b | inr b ↦ stands.third_number (x.x, x.at_x, b) ]

@@ -1,17 +1,18 @@
 -- The cells of a library, and libraries, one more at a time.
-use Rattle.std.proofs.Common.{◌≡◌, ◌≢◌, ℕ, zero, suc, ◌+◌, ◌<◌, ◌≤◌, List, [], ◌∷◌, ◌++◌, map, length, take, drop, refl, ap, sym, ◌∙◌, subst, ◌⊎◌, inl, inr, Bool, true, false, Option, Some, None, arith, length-append}
+use Rattle.std.proofs.Common.{◌≡◌, ℕ, zero, suc, ◌+◌, ◌<◌, ◌≤◌, List, [], ◌∷◌, ◌++◌, map, length, refl, ap, sym, ◌∙◌, subst, inl, inr, Bool, true, false, Option, Some, None, arith, length-append}
 use Rattle.std.specs.Prelude.{slice_get, ◌||◌}
 use Rattle.std.specs.List.{AllByRecursion, Contains}
 use Rattle.std.proofs.lemmas.List.{map-append}
 use Rattle.netlist_schema.specs.Names.{AreDistinct, cell_names, lib_names}
 use Rattle.spelling_spec.specs.Tree.{Bare, Placed, bare}
-use Rattle.edif_spec.specs.Keyword.{Choice, row, Takes, name_definition, the, Many}
+use Rattle.edif_spec.specs.Keyword.{row, Takes, name_definition, the, Many}
 use Rattle.edif_spec.specs.Canonical.{library_keyword}
 use Rattle.edif_spec.specs.Design as design
-use Rattle.edif_spec.specs.Faults.{Beyond, Repeats, arguments, defined, followers, place_of, those_of, token_kind, RowFault}
-use Rattle.edif_spec.specs.Means.{MeansCell, MeansLibrary, MeansName, is_library}
-use Rattle.edif_spec.specs.Rows.{EachAfter, IsFormOf, has_keyword, those}
+use Rattle.edif_spec.specs.Faults.{followers, place_of, those_of, token_kind, RowFault}
+use Rattle.edif_spec.specs.Means.{MeansCell, MeansLibrary, is_library}
+use Rattle.edif_spec.specs.Rows.{EachAfter, IsFormOf, has_keyword}
 use Rattle.edif_spec.specs.Stands.{AmongAfter, CellFault, LibraryFault, CellsFault, cells_in}
+use Rattle.edif_spec.specs.Stands as stands
 use Rattle.edif_spec.specs.declared.keyword.Keyword.{Keyword}
 use Rattle.edif_spec.specs.declared.keyword.Keyword.TheVariants as keywords
 use Rattle.edif_spec.specs.declared.fault.ClashKind.TheVariants.{Duplicate}
@@ -27,11 +28,11 @@ use Rattle.edif_parts.specs.Parts.{ArePartsOf, holds}
 use Rattle.edif_grammar.specs.declared.lent.Parts.{Parts}
 use Rattle.edif_build.proofs.CellLemmas.{HasThree, three_of}
 use Rattle.edif_contents.specs.Known.{KnownLibs, OpensLib, AddsCell, with_cell}
-use Rattle.edif_build.specs.Libraries.{CellsAre, CellsFail, FailsAt, FailsIn, IsSoundLib, LibsAre, LibsFail, ReadHead}
+use Rattle.edif_build.specs.Libraries.{CellsAre, CellsFail, FailsAt, IsSoundLib, LibsAre, LibsFail, ReadHead}
 use Rattle.edif_parts.specs.Names.{Define, ids}
 use Rattle.edif_build.specs.declared.cells.CellAt.{CellAt}
 use Rattle.edif_build.specs.declared.libraries.Head.{Head}
-use Rattle.edif_build.proofs.FilterSteps.{after_push, all_push, append_assoc_to}
+use Rattle.edif_build.proofs.FilterSteps.{after_push, all_push}
 use Rattle.edif_contents.proofs.KnownLemmas.{with_pushed}
 use Rattle.edif_parts.proofs.NameLists.{define_push, ids_named, name_repeats, distinct_push, none_distinct}
 
@@ -181,9 +182,9 @@ library_beyond ts t old place h l p = λ rest.
 
 -- what is wrong with its cells
 pub library_cells : (rows : List nodes.Row) (before : List design.Lib) (t : Placed) (h : Head) (f : MeaningFault) → ReadHead rows t h → CellsFail before h.head (those_of keywords.Cell (followers keywords.Library t)) f → LibraryFault before t f
-library_cells rows before t h f r (inl b) = inr (inr (inr (inr (inl (r.name_part, h.head, r.at_name, r.name, r.external, b)))))
-library_cells rows before t h f r (inr (inl b)) = inr (inr (inr (inr (inr (inl b)))))
-library_cells rows before t h f r (inr (inr b)) = inr (inr (inr (inr (inr (inr b)))))
+library_cells rows before t h f r (inl b) = stands.library_cells (record { name_part = r.name_part; head = h.head; there = r.at_name; name = r.name; external = r.external; fault = b })
+library_cells rows before t h f r (inr (inl b)) = stands.cell_again b
+library_cells rows before t h f r (inr (inr b)) = stands.many_cells b
 
 -- the keyword of a library
 pub its_row : (e : Bool) → row (library_keyword e) ≡ Takes (name_definition ∷ the keywords.EdifLevel ∷ the keywords.Technology ∷ []) (Many keywords.Status ∷ Many keywords.Cell ∷ Many keywords.Comment ∷ Many keywords.UserData ∷ [])
@@ -208,8 +209,8 @@ its_keyword false t h k = go (has_keyword keywords.Library t) (has_keyword keywo
     go false false h k = h
 
 pub its_rows_fault : (e : Bool) (before : List design.Lib) (t : Placed) (f : MeaningFault) → has_keyword (library_keyword e) (bare t) ≡ true → RowFault (library_keyword e) t f → LibraryFault before t f
-its_rows_fault false before t f h b = inl (h, b)
-its_rows_fault true before t f h b = inr (inl (h, b))
+its_rows_fault false before t f h b = stands.library_row h b
+its_rows_fault true before t f h b = stands.external_row h b
 
 pub its_held : (e : Bool) → holds (row keywords.Edif) (library_keyword e) ≡ true
 its_held true = refl

@@ -1,6 +1,6 @@
 -- Paths and keys as bytes, and a table of them.
-use Rattle.std.proofs.Common.{◌≡◌, ℕ, zero, suc, ◌<◌, List, [], ◌∷◌, ◌++◌, map, length, take, drop, get_or, refl, sym, ap, ◌∙◌, subst, Bool, true, false, ◌&&◌, nat_eq, Option, None, Some, arith, true≢false, eqb-true, eq-eqb}
-use Rattle.std.specs.Prelude.{cond, IsTrue, ◌||◌}
+use Rattle.std.proofs.Common.{◌≡◌, ℕ, zero, suc, ◌<◌, List, [], ◌∷◌, ◌++◌, map, length, drop, get_or, refl, sym, ap, ◌∙◌, Bool, true, false, ◌&&◌, nat_eq, None, Some, arith, true≢false, eqb-true, eq-eqb}
+use Rattle.std.specs.Prelude.{cond}
 use Rattle.std.specs.Map.{lookup}
 use Rattle.std.specs.List.{AllByRecursion, Contains}
 use Rattle.std.proofs.lemmas.List.Elements.{recursion_from_All}

@@ -1,30 +1,21 @@
 -- Notes, their paths step by step, and their keys one more at a time.
-use Rattle.std.proofs.Common.{◌≡◌, ◌≢◌, ℕ, zero, suc, ◌+◌, ◌<◌, ◌≤◌, List, [], ◌∷◌, ◌++◌, map, length, take, drop, get_or, refl, ap, sym, ◌∙◌, subst, ◌⊎◌, inl, inr, Bool, true, false, ◌&&◌, Option, Some, None, arith, length-append, append-nil, Bor}
-use Rattle.std.specs.Prelude.{IsTrue, ◌||◌, slice_get, filter, codes}
-use Rattle.std.specs.List.{All, AllByRecursion, AllZip, Contains}
-use Rattle.std.proofs.lemmas.List.{map-append}
-use Rattle.std.proofs.lemmas.List.Elements.{All-from_recursion, recursion_from_All}
+use Rattle.std.proofs.Common.{◌≡◌, ℕ, zero, suc, ◌+◌, ◌<◌, ◌≤◌, List, [], ◌∷◌, ◌++◌, map, length, drop, get_or, refl, ap, sym, ◌∙◌, subst, inl, inr, Bool, true, false, Some, None, arith, length-append, append-nil, Bor}
+use Rattle.std.specs.Prelude.{◌||◌, slice_get}
+use Rattle.std.specs.List.{AllByRecursion}
+use Rattle.std.proofs.lemmas.List.Elements.{All-from_recursion}
 use Rattle.netlist_schema.specs.Ident.{IsIdentifier}
-use Rattle.netlist_schema.specs.Names.{AreDistinct, note_key}
-use Rattle.spelling_spec.specs.Tree.{Bare, Placed, Trees, Form', Word', Integer', String', End, More, form, word, bare, items, trees, bares}
-use Rattle.edif_spec.specs.Keyword.{same, spelling_of, the}
+use Rattle.spelling_spec.specs.Tree.{Placed, Trees, Form', Word', Integer', String', End, More, word, bare}
 use Rattle.edif_spec.specs.Design as design
-use Rattle.edif_spec.specs.Faults.{AtOne, AtTwo, Among, arguments, defined, place_of, FixedFault, FollowerFault}
-use Rattle.edif_spec.specs.Means.{Meant as Meaning, Found, Absent, Several, MeansNote, MeansPath, MeansProperty, has_mark, is_note, meant}
-use Rattle.edif_spec.specs.Rows.{Each, has_keyword, is_one_of}
-use Rattle.edif_spec.specs.Stands.{NoteFault, PathFault, PropertyFault, SameNote, StepsFault, bad_form, note_parts}
-use Rattle.edif_spec.specs.declared.keyword.Keyword.{Keyword}
+use Rattle.edif_spec.specs.Faults.{arguments, place_of, FixedFault, FollowerFault}
+use Rattle.edif_spec.specs.Means.{Meant as Meaning, Found, Absent, Several, MeansPath, meant}
+use Rattle.edif_spec.specs.Rows.{has_keyword}
+use Rattle.edif_spec.specs.Stands.{StepFault, StepsTo, NoteFault, PathFault, PropertyFault, SameNote, StepsFault, bad_form, note_parts}
+use Rattle.edif_spec.specs.Stands as stands
 use Rattle.edif_spec.specs.declared.keyword.Keyword.TheVariants as keywords
-use Rattle.edif_spec.specs.declared.fault.ClashKind.TheVariants.{Duplicate}
 use Rattle.edif_spec.specs.declared.fault.Kind.TheVariants.{BadForm, BadPath}
 use Rattle.edif_spec.specs.declared.fault.MeaningFault.{MeaningFault}
-use Rattle.edif_spec.specs.declared.fault.MeaningFault.TheVariants.{At, Clash, OverLimit}
-use Rattle.edif_spec.proofs.Both.{both}
+use Rattle.edif_spec.specs.declared.fault.MeaningFault.TheVariants.{At}
 use Rattle.edif_spec.proofs.Defined.{meant_there, name_there}
-use Rattle.edif_spec.proofs.FaultForms.{map_length}
-use Rattle.edif_spec.proofs.FaultPlaces.{one_later}
-use Rattle.edif_spec.proofs.FileFaultsApart.{note_path}
-use Rattle.edif_spec.proofs.KnownForms.{only, trees_bares}
 use Rattle.edif_spec.proofs.Scopes.{some_of}
 use Rattle.edif_names.specs.declared.scope.Meant.{Meant}
 use Rattle.edif_names.specs.declared.scope.Meant.TheVariants as answers
@@ -33,15 +24,11 @@ use Rattle.edif_tree.specs.declared.node.NodeId.{NodeId}
 use Rattle.edif_tree.specs.declared.node.Shape.{Shape}
 use Rattle.edif_tree.specs.declared.node.Shape.TheVariants as shapes
 use Rattle.edif_grammar.specs.Forms.{Stand}
-use Rattle.edif_parts.specs.Names.{DefinesName, Tells, ids}
-use Rattle.edif_build.specs.Notes.{AllNoted, AreNoted, FailsBehind, HasNoteParts, IsAgain, IsNoted, IsSoundNote, IsStep, NotesFail, ReadNotes, ReadPath, ShapeFault, StepFault, flat, is_mark}
+use Rattle.edif_parts.specs.Names.{Tells, ids}
+use Rattle.edif_build.specs.Notes.{HasNoteParts, ReadPath, ShapeFault}
 use Rattle.edif_build.specs.declared.notes.NoteParts.{NoteParts}
-use Rattle.edif_build.proofs.FileLemmas.{step_get}
-use Rattle.edif_parts.proofs.NameLists.{distinct_push, none_distinct}
-use Rattle.edif_build.proofs.NoteKeyLemmas.{flat_once}
 use Rattle.edif_contents.proofs.RefLemmas.{place_same}
-use Rattle.edif_grammar.proofs.StandLemmas.{stand_items, stand_length, stand_read, stand_tree}
-use Rattle.edif_parts.proofs.Steps.{Step}
+use Rattle.edif_grammar.proofs.StandLemmas.{stand_items, stand_length}
 
 -- The arguments of a form.
 pub behind_first : (rows : List nodes.Row) (ids : Bor (List NodeId)) (t : Placed) → nodes.ShapeIs rows (shapes.Form ids) t → 0 < length ids.now → Stand rows (drop 1 ids.now) (arguments t)
@@ -176,19 +163,19 @@ not_found Absent r h n i e = cc e
 not_found Several r h n i e = cc e
 
 pub bad_step : (libs : List design.Lib) (id : design.CellId) (t : Placed) (w : List ℕ) (place : ℕ) (r : Meant) → t ≡ Word' (place_of t) w → place ≡ nodes.place_of t → Tells (meant (design.inst_ids (design.insts_at libs id)) w) r → ((i : ℕ) → r ≡ answers.Found i → ⊥)
-    → StepFault libs id t (At BadPath place)
-bad_step libs id t w place r e p h n = inr (w, place_of t, e, not_found (meant (design.inst_ids (design.insts_at libs id)) w) r h n, ap (λ v. At BadPath v) (p ∙ place_same t))
+    → StepFault libs id (λ _. ⊥) t (At BadPath place)
+bad_step libs id t w place r e p h n = stands.lost_step (record { spelled = w; place = place_of t; is = e; lost = not_found (meant (design.inst_ids (design.insts_at libs id)) w) r h n; fault = ap (λ v. At BadPath v) (p ∙ place_same t) })
 
-pub no_identifier : (libs : List design.Lib) (id : design.CellId) (t : Placed) (place : ℕ) → place ≡ nodes.place_of t → ((w : List ℕ) → bare t ≡ word w → ⊥) → StepFault libs id t (At BadForm place)
-no_identifier libs id t place p n = inl (n, ap (λ v. At BadForm v) (p ∙ place_same t))
+pub no_identifier : (libs : List design.Lib) (id : design.CellId) (t : Placed) (place : ℕ) → place ≡ nodes.place_of t → ((w : List ℕ) → bare t ≡ word w → ⊥) → StepFault libs id (λ _. ⊥) t (At BadForm place)
+no_identifier libs id t place p n = stands.no_step n (ap (λ v. At BadForm v) (p ∙ place_same t))
 
 found_is : (m : Meaning) (i : ℕ) → Tells m (answers.Found i) → m ≡ Found i
 found_is (Found j) i h = ap (λ v. Found v) h
 found_is Absent i h = absurd h
 found_is Several i h = absurd h
 
-pub step_is : (libs : List design.Lib) (id : design.CellId) (t : Placed) (w : List ℕ) (i : ℕ) (x : design.Inst) → t ≡ Word' (place_of t) w → Tells (meant (design.inst_ids (design.insts_at libs id)) w) (answers.Found i) → slice_get (design.insts_at libs id) i ≡ Some x → IsStep libs id t x
-step_is libs id t w i x e h g = (w, place_of t, i, e, found_is (meant (design.inst_ids (design.insts_at libs id)) w) i h, g)
+pub step_is : (libs : List design.Lib) (id : design.CellId) (t : Placed) (w : List ℕ) (i : ℕ) (x : design.Inst) → t ≡ Word' (place_of t) w → Tells (meant (design.inst_ids (design.insts_at libs id)) w) (answers.Found i) → slice_get (design.insts_at libs id) i ≡ Some x → StepsTo libs id t x
+step_is libs id t w i x e h g = record { spelled = w; place = place_of t; at = i; is = e; means = found_is (meant (design.inst_ids (design.insts_at libs id)) w) i h; there = g }
 
 pub inst_there : (libs : List design.Lib) (id : design.CellId) (w : List ℕ) (i : ℕ) → Tells (meant (design.inst_ids (design.insts_at libs id)) w) (answers.Found i) → slice_get (design.insts_at libs id) i ≡ None → ⊥
 inst_there libs id w i h e =
@@ -219,7 +206,7 @@ idents_push : (ns : List (List ℕ)) (n : List ℕ) → AllByRecursion IsIdentif
 idents_push [] n h k = (k, tt)
 idents_push (m ∷ ns) n h k = (h.0, idents_push ns n h.1 k)
 
-pub onward_step : (libs : List design.Lib) (top : design.CellId) (ts : List Placed) (i : ℕ) (id : design.CellId) (path : List (List ℕ)) (t : Placed) (x : design.Inst) (name : List ℕ) → Onward libs top ts i id path → slice_get ts i ≡ Some t → IsStep libs id t x → name ≡ x.name.id → IsIdentifier name
+pub onward_step : (libs : List design.Lib) (top : design.CellId) (ts : List Placed) (i : ℕ) (id : design.CellId) (path : List (List ℕ)) (t : Placed) (x : design.Inst) (name : List ℕ) → Onward libs top ts i id path → slice_get ts i ≡ Some t → StepsTo libs id t x → name ≡ x.name.id → IsIdentifier name
     → Onward libs top ts (suc i) x.of (path ++ name ∷ [])
 onward_step libs top ts i id path t x name h g s e k =
     let d : drop i ts ≡ t ∷ drop (suc i) ts = drop_at ts i t g in
@@ -229,17 +216,22 @@ onward_step libs top ts i id path t x name h g s e k =
       means = λ rest m.
           let P : List Placed → Type 0 = λ v. MeansPath libs id (map bare v) (name ∷ rest) in
           let Q : List (List ℕ) → Type 0 = λ v. MeansPath libs top (map bare ts) v in
-          subst Q (sym (regroup path (name ∷ []) rest)) (h.means (name ∷ rest) (subst P (sym d) (s.0, s.2, x, ap bare s.3, s.4, s.5, e, m)));
-      fails = λ f b. let P : List Placed → Type 0 = λ v. StepsFault libs id v f in h.fails f (subst P (sym d) (inr (inr (s.0, s.1, s.2, x, s.3, s.4, s.5, b))));
+          subst Q (sym (regroup path (name ∷ []) rest)) (h.means (name ∷ rest) (subst P (sym d) (s.spelled, s.at, x, ap bare s.is, s.means, s.there, e, m)));
+      fails = λ f b. let P : List Placed → Type 0 = λ v. StepsFault libs id v f in h.fails f (subst P (sym d) (stands.later_step x s b));
       typed = idents_push path name h.typed k;
       count = omega (arith, c, n);
     }
 
-pub onward_fails : (libs : List design.Lib) (top : design.CellId) (ts : List Placed) (i : ℕ) (id : design.CellId) (path : List (List ℕ)) (t : Placed) (f : MeaningFault) → Onward libs top ts i id path → slice_get ts i ≡ Some t → StepFault libs id t f → StepsFault libs top ts f
+pub onward_fails : (libs : List design.Lib) (top : design.CellId) (ts : List Placed) (i : ℕ) (id : design.CellId) (path : List (List ℕ)) (t : Placed) (f : MeaningFault) → Onward libs top ts i id path → slice_get ts i ≡ Some t → StepFault libs id (λ _. ⊥) t f → StepsFault libs top ts f
 onward_fails libs top ts i id path t f h g b =
     let d : drop i ts ≡ t ∷ drop (suc i) ts = drop_at ts i t g in
     let P : List Placed → Type 0 = λ v. StepsFault libs id v f in
-    h.fails f (subst P (sym d) (elim b [ inl x ↦ inl x | inr x ↦ inr (inl x) ]))
+    h.fails f (subst P (sym d) (go b))
+  where
+    go : StepFault libs id (λ _. ⊥) t f → StepsFault libs id (t ∷ drop (suc i) ts) f
+    go (stands.no_step n e) = stands.no_step n e
+    go (stands.lost_step l) = stands.lost_step l
+    go (stands.later_step x s e) = absurd e
 
 nothing_left : (ts : List Placed) (i : ℕ) → i ≡ length ts → drop i ts ≡ []
 nothing_left [] zero e = refl
@@ -255,11 +247,11 @@ onward_end libs top t i id path h e l =
     record { mean = subst Q (append-nil path) (h.means [] (subst P (sym (nothing_left (arguments t) i e)) tt)); typed = All-from_recursion IsIdentifier path h.typed; some_step = omega (arith, n, l) }
 
 pub no_steps : (libs : List design.Lib) (top : design.CellId) (t : Placed) (place : ℕ) → length (arguments t) ≡ 0 → place ≡ nodes.place_of t → PathFault libs top t (At BadPath place)
-no_steps libs top t place l p = inl (go (arguments t) l, ap (λ v. At BadPath v) (p ∙ place_same t))
+no_steps libs top t place l p = stands.no_steps (go (arguments t) l) (ap (λ v. At BadPath v) (p ∙ place_same t))
   where
     go : (us : List Placed) → length us ≡ 0 → us ≡ []
     go [] l = refl
     go (u ∷ us) l = absurd (omega arith)
 
 pub path_fails : (libs : List design.Lib) (top : design.CellId) (t : Placed) (f : MeaningFault) → StepsFault libs top (arguments t) f → PathFault libs top t f
-path_fails libs top t f b = inr b
+path_fails libs top t f b = stands.bad_step b

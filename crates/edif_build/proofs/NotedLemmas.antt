@@ -1,50 +1,37 @@
 -- A note from its parts, and notes one more at a time.
-use Rattle.std.proofs.Common.{◌≡◌, ℕ, zero, suc, ◌+◌, ◌<◌, ◌≤◌, List, [], ◌∷◌, ◌++◌, map, length, get_or, refl, ap, sym, ◌∙◌, subst, inl, inr, Bool, true, false, ◌&&◌, Option, Some, None, arith, length-append}
+use Rattle.std.proofs.Common.{◌≡◌, ℕ, zero, suc, ◌+◌, ◌<◌, ◌≤◌, List, [], ◌∷◌, ◌++◌, map, length, get_or, refl, ap, sym, ◌∙◌, subst, inl, inr, Bool, true, false, ◌&&◌, Some, None, arith, length-append}
 use Rattle.std.specs.Prelude.{slice_get}
-use Rattle.std.specs.List.{All, AllByRecursion, Contains}
+use Rattle.std.specs.List.{AllByRecursion, Contains}
 use Rattle.std.proofs.lemmas.List.{map-append}
 use Rattle.std.proofs.lemmas.List.Elements.{recursion_from_All}
 use Rattle.netlist_schema.specs.Ident.{IsIdentifier}
 use Rattle.netlist_schema.specs.Names.{AreDistinct, note_key}
 use Rattle.netlist_schema.specs.Typed.{IsTypedProperty}
-use Rattle.spelling_spec.specs.Tree.{Bare, Placed, Form', Word', Integer', String', End, More, form, word, bare}
-use Rattle.edif_spec.specs.Keyword.{same, spelling_of}
+use Rattle.spelling_spec.specs.Tree.{Bare, Placed, Form', Word', Integer', String', form, word, bare}
 use Rattle.edif_spec.specs.Design as design
 use Rattle.edif_spec.specs.Faults.{AtOne, AtTwo, arguments, defined, place_of}
 use Rattle.edif_spec.specs.Means.{MeansNote, MeansPath, MeansProperty, has_mark, is_note}
 use Rattle.edif_spec.specs.Rows.{Each, has_keyword}
-use Rattle.edif_spec.specs.Stands.{NoteFault, SameNote}
-use Rattle.edif_spec.specs.declared.keyword.Keyword.{Keyword}
+use Rattle.edif_spec.specs.Stands.{Notes, NoteFault, SameNote}
 use Rattle.edif_spec.specs.declared.keyword.Keyword.TheVariants as keywords
 use Rattle.edif_spec.specs.declared.fault.ClashKind.TheVariants.{Duplicate}
 use Rattle.edif_spec.specs.declared.fault.MeaningFault.{MeaningFault}
 use Rattle.edif_spec.specs.declared.fault.MeaningFault.TheVariants.{Clash, OverLimit}
 use Rattle.edif_spec.proofs.Both.{both}
-use Rattle.edif_spec.proofs.FaultForms.{map_length}
 use Rattle.edif_spec.proofs.FaultPlaces.{one_later}
-use Rattle.edif_spec.proofs.FileFaultsApart.{note_path}
-use Rattle.edif_spec.proofs.KnownForms.{trees_bares}
+use Rattle.edif_spec.proofs.FileFaultsApart.{notes_there}
+use Rattle.edif_spec.proofs.KnownFile.{keyword_form}
 use Rattle.edif_tree.specs.Nodes as nodes
 use Rattle.edif_tree.specs.declared.node.NodeId.{NodeId}
 use Rattle.edif_grammar.specs.Forms.{Stand}
 use Rattle.edif_parts.specs.Names.{DefinesName, ids}
-use Rattle.edif_build.specs.Notes.{AllNoted, AreNoted, FailsBehind, HasNoteParts, IsAgain, IsNoted, IsSoundNote, NotesFail, ReadNotes, ReadPath, flat, is_mark}
+use Rattle.edif_build.specs.Notes.{AllNoted, AreNoted, FailsBehind, HasNoteParts, IsAgain, IsNoted, IsSoundNote, ReadNotes, ReadPath, flat, is_mark}
 use Rattle.edif_build.specs.declared.notes.NoteParts.{NoteParts}
 use Rattle.edif_build.proofs.LibraryLemmas.{get_behind}
 use Rattle.edif_parts.proofs.NameLists.{distinct_push, none_distinct}
 use Rattle.edif_build.proofs.NoteKeyLemmas.{flat_once}
 
--- A form by its keyword and its arguments.
-keyword_form : (k : Keyword) (t : Placed) → has_keyword k (bare t) ≡ true → (w : List ℕ) × (bare t ≡ form (word w ∷ map bare (arguments t))) × (same w (spelling_of k) ≡ true)
-keyword_form k (Form' p (More (Word' q w) ts)) h = (w, ap (λ v. Form' tt (More (word w) v)) (sym (trees_bares ts)), h)
-keyword_form k (Form' p (More (Form' q us) ts)) h = absurd (cc h)
-keyword_form k (Form' p (More (Integer' q z) ts)) h = absurd (cc h)
-keyword_form k (Form' p (More (String' q s) ts)) h = absurd (cc h)
-keyword_form k (Form' p End) h = absurd (cc h)
-keyword_form k (Word' p w) h = absurd (cc h)
-keyword_form k (Integer' p z) h = absurd (cc h)
-keyword_form k (String' p s) h = absurd (cc h)
-
+-- A note by its keyword and its mark.
 marked : (w : List ℕ) (a : Placed) (rest : List Bare) → has_mark (form (word w ∷ bare a ∷ rest)) ≡ true → (m : List ℕ) × (bare a ≡ word m)
 marked w (Word' p m) rest h = (m, refl)
 marked w (Form' p ts) rest h = absurd (cc h)
@@ -163,25 +150,16 @@ noted_push libs top ts ns ks new t n key place h m e d l =
 same_note : (libs : List design.Lib) (top : design.CellId) (a b : Placed) (m n : design.Note) (earlier place : ℕ) → IsNoted libs top a m earlier → IsNoted libs top b n place → flat m.path m.property.key.id ≡ flat n.path n.property.key.id → SameNote libs top (Clash Duplicate place earlier) a b
 same_note libs top a b m n earlier place h k e =
     let s = flat_once m.path n.path m.property.key.id n.property.key.id (recursion_from_All IsIdentifier m.path h.sound.typed.path) (recursion_from_All IsIdentifier n.path k.sound.typed.path) h.sound.typed.property.key.id k.sound.typed.property.key.id e in
-    let P : List (List ℕ) → Type 0 = λ v. MeansPath libs top (map bare (arguments h.path_part)) v in (
-      n.path,
-      h.path_part,
-      k.path_part,
-      h.property_part,
-      k.property_part,
-      n.property.key.id,
-      earlier,
-      place,
-      h.at_path,
-      subst P s.0 (note_path libs top a h.path_part m h.mean h.at_path),
-      k.at_path,
-      note_path libs top b k.path_part n k.mean k.at_path,
-      h.at_property,
-      h.named ∙ ap (λ v. Some (v, earlier)) s.1,
-      k.at_property,
-      k.named,
-      refl,
-    )
+    let P : List (List ℕ) → List ℕ → Type 0 = λ v w. Notes libs top a v w earlier in
+    record {
+      steps = n.path;
+      key = n.property.key.id;
+      earlier = earlier;
+      place = place;
+      first = subst (λ w. P n.path w) s.1 (subst (λ v. P v m.property.key.id) s.0 (notes_there libs top a h.path_part h.property_part m earlier h.mean h.at_path h.at_property h.named));
+      second = notes_there libs top b k.path_part k.property_part n place k.mean k.at_path k.at_property k.named;
+      fault = refl;
+    }
 
 one_behind : (R : Placed → Placed → Type 0) (a : Placed) (xs ys : List Placed) (y : Placed) → R a y → AtOne (R a) (xs ++ y ∷ ys)
 one_behind R a [] ys y r = inl r

@@ -3,7 +3,7 @@ use Rattle.std.specs.Prelude.{◌≡◌, ◌⊎◌, ℕ, pos, List, [], ◌∷�
 use Rattle.spelling_spec.specs.Tree.{Placed, bare, integer}
 use Rattle.netlist_schema.specs.Typed.{IsTypedName}
 use Rattle.edif_spec.specs.Design as design
-use Rattle.edif_spec.specs.Faults.{AtTwo, Among, arguments, fixed_count, followers, place_of, those_of}
+use Rattle.edif_spec.specs.Faults.{AtTwo, arguments, fixed_count, followers, place_of, those_of}
 use Rattle.edif_spec.specs.Keyword.{name_definition, row}
 use Rattle.edif_spec.specs.Means.{IsLevel, MeansName}
 use Rattle.edif_spec.specs.Rows.{IsFormOf, has_keyword, is_one_of}
@@ -19,7 +19,7 @@ use Rattle.edif_contents.specs.Known.{KnownLibs}
 use Rattle.edif_build.specs.Levels.{IsKeywordMap}
 use Rattle.edif_build.specs.Libraries.{LibsAre, LibsFail}
 use Rattle.edif_build.specs.Notes.{ReadTop}
-use Rattle.edif_build.specs.declared.file.Form.{Form}
+use Rattle.edif_build.specs.declared.file.FileForm.{FileForm}
 use Rattle.edif_grammar.specs.declared.lent.Parts.{Parts}
 use Rattle.edif_build.specs.declared.top.Top.{Top}
 
@@ -56,7 +56,7 @@ abbrev pub SecondDesigns : List Placed → MeaningFault → Type 0
 SecondDesigns ts f = AtTwo (λ a b. f ≡ Clash SecondDesign (place_of b) (place_of a)) (those_of keywords.Design ts)
 
 -- The form of a file, by its parts.
-pub record ReadForm (rows : List nodes.Row) (t : Placed) (f : Form) : Type 0 where
+pub record ReadForm (rows : List nodes.Row) (t : Placed) (f : FileForm) : Type 0 where
   pub fixed : HasFixed rows t f.fixed.now
   pub inner : Stand rows f.inner.now (followers keywords.Edif t)
   pub design : DesignAt (followers keywords.Edif t) f.design
@@ -85,9 +85,9 @@ pub record ReadFollowers (ts : List Placed) (known : KnownLibs) (o : Option Top)
   pub libs : LibsAre (libraries ts) known
   pub top : TopIs known.libs ts o
 
--- in what follows: in the libraries, in the design where the libraries before it are known
+-- in what follows: in the libraries, in the first design where the libraries before it are known
 abbrev pub FollowersFail : List Placed → MeaningFault → Type 0
-FollowersFail ts f = LibsFail (libraries ts) f ⊎ ((before : KnownLibs) × LibsAre (libraries (before_the_design ts)) before × Among (DesignFault before.libs) (those_of keywords.Design ts) f)
+FollowersFail ts f = LibsFail (libraries ts) f ⊎ ((before : KnownLibs) × LibsAre (libraries (before_the_design ts)) before × (u : Placed) × (slice_get (those_of keywords.Design ts) 0 ≡ Some u) × DesignFault before.libs u f)
 
 -- the top and the notes, none where there is no design
 abbrev pub head_of : Option Top → Option design.TopHead

@@ -4,6 +4,7 @@ use Rattle.std.specs.List.{AllByRecursion}
 use Rattle.spelling_spec.specs.Tree.{Placed, bare}
 use Rattle.netlist_schema.specs.Names.{AreDistinct, cell_names, lib_names}
 use Rattle.netlist_schema.specs.Typed.{IsTypedName}
+use Rattle.netlist_schema.specs.declared.limits.TheConstants.{MOST_CELLS, MOST_LIBS}
 use Rattle.edif_spec.specs.Canonical.{library_keyword}
 use Rattle.edif_spec.specs.Design as design
 use Rattle.edif_spec.specs.Faults.{Beyond, Repeats, arguments, defined, followers}
@@ -29,19 +30,19 @@ pub record CellsAre (before : List design.Lib) (head : design.LibHead) (names : 
   pub define : Define ts known.cell_names
   pub named : ids known.cell_names ≡ cell_names cells
   pub distinct : AreDistinct (cell_names cells)
-  pub count : length cells ≤ 65536
+  pub count : length cells ≤ MOST_CELLS
 
 -- in the cells of a library: in one of them, a name that repeats, one beyond the limit
 abbrev pub CellsFail : List design.Lib → design.LibHead → List Placed → MeaningFault → Type 0
 CellsFail before head ts f = AmongAfter (λ cells. MeansCell (before ++ record { head = head; cells = cells } ∷ []) (Some (length before))) (λ cells. CellFault (before ++ record { head = head; cells = cells } ∷ []) (Some (length before))) [] ts f
-    ⊎ (Repeats ts f ⊎ Beyond 65536 ts f)
+    ⊎ (Repeats ts f ⊎ Beyond MOST_CELLS ts f)
 
 -- cells that are typed and sound, with names that differ, within the limit
 pub record IsSoundLib (l : design.Lib) : Type 0 where
   pub name : IsTypedName l.head.name
   pub cells : AllByRecursion IsSoundCell l.cells
   pub names : AreDistinct (cell_names l.cells)
-  pub count : length l.cells ≤ 65536
+  pub count : length l.cells ≤ MOST_CELLS
 
 -- The libraries are those that these forms mean, in order; their names differ, and none is beyond the limit.
 pub record LibsAre (ts : List Placed) (known : KnownLibs) : Type 0 where
@@ -50,11 +51,11 @@ pub record LibsAre (ts : List Placed) (known : KnownLibs) : Type 0 where
   pub define : Define ts known.lib_names
   pub names : ids known.lib_names ≡ lib_names known.libs
   pub distinct : AreDistinct (lib_names known.libs)
-  pub count : length known.libs ≤ 1024
+  pub count : length known.libs ≤ MOST_LIBS
 
 -- in libraries: in one of them, a name that repeats, one beyond the limit
 abbrev pub LibsFail : List Placed → MeaningFault → Type 0
-LibsFail ts f = AmongAfter MeansLibrary LibraryFault [] ts f ⊎ (Repeats ts f ⊎ Beyond 1024 ts f)
+LibsFail ts f = AmongAfter MeansLibrary LibraryFault [] ts f ⊎ (Repeats ts f ⊎ Beyond MOST_LIBS ts f)
 
 -- a fault that stands whatever follows this form, which stands behind those
 abbrev pub FailsAt : (List Placed → MeaningFault → Type 0) → List Placed → Placed → MeaningFault → Type 0

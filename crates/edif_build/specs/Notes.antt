@@ -1,21 +1,21 @@
 -- What is read of notes and of a design's form.
 use Rattle.std.specs.Prelude.{◌≡◌, ◌<◌, ◌≤◌, ◌⊎◌, ℕ, List, [], ◌∷◌, ◌++◌, Bool, Some, true, false, codes, drop, length, map, slice_get}
 use Rattle.std.specs.List.{All, AllByRecursion, Contains}
-use Rattle.spelling_spec.specs.Tree.{Bare, Placed, Word', word, bare}
+use Rattle.spelling_spec.specs.Tree.{Bare, Placed, Word', bare}
 use Rattle.netlist_schema.specs.Ident.{IsIdentifier}
 use Rattle.netlist_schema.specs.Names.{AreDistinct, HasDistinctKeys, note_key}
+use Rattle.netlist_schema.specs.declared.limits.TheConstants.{MOST_NOTES}
 use Rattle.netlist_schema.specs.Typed.{IsTypedName, IsTypedNote, IsTypedProperty}
 use Rattle.edif_spec.specs.Design as design
 use Rattle.edif_spec.specs.Faults.{AtTwo, Among, Beyond, FixedFault, FollowerFault, arguments, defined, place_of}
 use Rattle.edif_spec.specs.Keyword.{same}
-use Rattle.edif_spec.specs.Means.{Found, MeansDesign, MeansNote, MeansPath, meant}
+use Rattle.edif_spec.specs.Means.{MeansDesign, MeansNote, MeansPath}
 use Rattle.edif_spec.specs.Rows.{Each, has_keyword}
 use Rattle.edif_spec.specs.Stands.{NoteFault, SameNote, bad_form, note_parts}
 use Rattle.edif_spec.specs.declared.keyword.Keyword.TheVariants as keywords
 use Rattle.edif_spec.specs.declared.fault.ClashKind.TheVariants.{Duplicate}
-use Rattle.edif_spec.specs.declared.fault.Kind.TheVariants.{BadForm, BadPath}
 use Rattle.edif_spec.specs.declared.fault.MeaningFault.{MeaningFault}
-use Rattle.edif_spec.specs.declared.fault.MeaningFault.TheVariants.{At, Clash}
+use Rattle.edif_spec.specs.declared.fault.MeaningFault.TheVariants.{Clash}
 use Rattle.edif_tree.specs.Nodes as nodes
 use Rattle.edif_build.specs.declared.notes.NoteAt.{NoteAt}
 use Rattle.edif_build.specs.declared.notes.NoteParts.{NoteParts}
@@ -40,15 +40,6 @@ pub record HasNoteParts (rows : List nodes.Row) (t : Placed) (p : NoteParts) : T
 -- what is wrong with the shape of a note
 abbrev pub ShapeFault : Placed → MeaningFault → Type 0
 ShapeFault t f = FixedFault bad_form (place_of t) note_parts (arguments t) f ⊎ FollowerFault bad_form [] (drop 3 (arguments t)) f
-
--- an instance of a cell that a step of a path means
-abbrev pub IsStep : List design.Lib → design.CellId → Placed → design.Inst → Type 0
-IsStep libs id t x = (w : List ℕ) × (p : ℕ) × (i : ℕ) × (t ≡ Word' p w) × (meant (design.inst_ids (design.insts_at libs id)) w ≡ Found i) × (slice_get (design.insts_at libs id) i ≡ Some x)
-
--- a step that is no identifier, or that means no instance of the cell, or several
-abbrev pub StepFault : List design.Lib → design.CellId → Placed → MeaningFault → Type 0
-StepFault libs id t f = (((w : List ℕ) → bare t ≡ word w → ⊥) × (f ≡ At BadForm (place_of t)))
-    ⊎ ((w : List ℕ) × (p : ℕ) × (t ≡ Word' p w) × ((i : ℕ) → meant (design.inst_ids (design.insts_at libs id)) w ≡ Found i → ⊥) × (f ≡ At BadPath p))
 
 -- the identifiers that a path means, at least one
 pub record ReadPath (libs : List design.Lib) (top : design.CellId) (t : Placed) (ns : List (List ℕ)) : Type 0 where
@@ -93,18 +84,18 @@ AllNoted libs top ts ns ks = ⊥
 pub record AreNoted (libs : List design.Lib) (top : design.CellId) (ts : List Placed) (ns : List design.Note) (keys : List (List ℕ × ℕ)) : Type 0 where
   pub all : AllNoted libs top ts ns keys
   pub differ : AreDistinct (map note_key ns)
-  pub count : length ns ≤ 1048576
+  pub count : length ns ≤ MOST_NOTES
 
 -- the notes that these forms mean; no two have the same path and key
 pub record ReadNotes (libs : List design.Lib) (top : design.CellId) (ts : List Placed) (ns : List design.Note) : Type 0 where
   pub mean : Each (MeansNote libs top) (map bare ts) ns
   pub sound : AllByRecursion IsSoundNote ns
-  pub count : length ns ≤ 1048576
+  pub count : length ns ≤ MOST_NOTES
   pub differ : AreDistinct (map note_key ns)
 
 -- in notes: in one of them, two of one path and key, one beyond the limit
 abbrev pub NotesFail : List design.Lib → design.CellId → List Placed → MeaningFault → Type 0
-NotesFail libs top ts f = (Among (NoteFault libs top) ts f ⊎ AtTwo (SameNote libs top f) ts) ⊎ Beyond 1048576 ts f
+NotesFail libs top ts f = (Among (NoteFault libs top) ts f ⊎ AtTwo (SameNote libs top f) ts) ⊎ Beyond MOST_NOTES ts f
 
 -- a fault of notes that stands whatever follows this one behind those
 abbrev pub FailsBehind : List design.Lib → design.CellId → List Placed → Placed → MeaningFault → Type 0
@@ -117,5 +108,5 @@ pub record ReadTop (libs : List design.Lib) (t : Placed) (x : Top) : Type 0 wher
   pub typed : All IsTypedProperty x.head.properties
   pub keys : HasDistinctKeys x.head.properties
   pub sound : AllByRecursion IsSoundNote x.notes
-  pub count : length x.notes ≤ 1048576
+  pub count : length x.notes ≤ MOST_NOTES
   pub differ : AreDistinct (map note_key x.notes)

@@ -10,25 +10,23 @@ ghost use Rattle.edif_spec.specs.Means.{IsNetlist, MeansKind};
 ghost use Rattle.edif_spec.specs.Rows.{has_keyword};
 ghost use Rattle.edif_spec.specs.Stands.{CellFault, CellTypeFault, ContentsFault, TypeFault, ViewFault, is_cell_type};
 ghost use Rattle.edif_spec.specs.declared.keyword.Keyword.TheVariants.{Cell as CellWord, CellType, Contents as ContentsWord, View as ViewWord, ViewType};
-ghost use Rattle.edif_spec.specs.declared.fault.ClashKind.TheVariants.{SecondView};
-ghost use Rattle.edif_spec.specs.declared.fault.MeaningFault.TheVariants.{Clash};
 ghost use Rattle.edif_tree.specs.Nodes.{IsAt, IsNode};
 ghost use Rattle.edif_build.specs.Cells.{OneNode, ReadCell, ReadOnce, ReadView, ViewsFault, body_of, contents_of, names_of};
 ghost use Rattle.edif_grammar.specs.Forms.{Stand};
 ghost use Rattle.edif_contents.specs.Insides.{ReadContents};
 ghost use Rattle.edif_parts.specs.Names.{ids};
 ghost use Rattle.edif_parts.specs.Reading.{Answers};
-ghost use Rattle.edif_parts.specs.declared.error.EdifError.TheVariants.{Fault};
 
 use edif_contents::contents::{Inside, read_contents};
 use edif_contents::known::{KnownCell, Libraries};
 use edif_contents::references::reference_at;
-use edif_parts::error::EdifError;
+use edif_grammar::is_form_of;
+use edif_parts::error::{EdifError, bad_form, clash, fault_at};
 use edif_parts::interface::{Interface, read_interface};
 use edif_parts::names::{NameAt, Names, read_name};
-use edif_parts::parts::{bad_form, is_form_of, is_word, read_parts};
+use edif_parts::parts::{is_word, read_parts};
 use edif_parts::properties::read_properties;
-use edif_spec::{ClashKind, Keyword, Kind, MeaningFault};
+use edif_spec::{ClashKind, Keyword, Kind};
 use edif_tree::{NodeId, Tree};
 use netlist_schema::{CellBody, CellKind, Contents, Ident, Name, Port, Property, Row};
 use std::alloc::Global;
@@ -96,10 +94,7 @@ fn read_view_type(alloc: Global, tree: &Tree, node: NodeId) -> Result<(), EdifEr
     if is_word(word.name, b"NETLIST") {
         return Ok(());
     }
-    Err(EdifError::Fault(MeaningFault::At {
-        kind: Kind::NotNetlist,
-        place: word.place,
-    }))
+    Err(fault_at(Kind::NotNetlist, word.place))
 }
 
 /// The contents among these followers of a view, where there are some, in a cell with these ports.
@@ -153,17 +148,6 @@ fn read_view(
     })
 }
 
-/// A second view of a cell.
-fn second_view(place: u64, earlier: u64) -> EdifError
-    ensures { result ≡ Fault (Clash SecondView place earlier) }
-{
-    EdifError::Fault(MeaningFault::Clash {
-        kind: ClashKind::SecondView,
-        place,
-        earlier,
-    })
-}
-
 /// The node of the one view among the followers of a cell at a place. Takes no memory.
 fn one_view(tree: &Tree, inner: &[NodeId], place: u64) -> Result<NodeId, EdifError>
     requires { (ts : List Placed) × Stand tree.now.rows inner.now ts }
@@ -177,7 +161,7 @@ fn one_view(tree: &Tree, inner: &[NodeId], place: u64) -> Result<NodeId, EdifErr
         }
         if let Some(first) = view {
             let place = tree.place(*node);
-            return Err(second_view(place, tree.place(first)));
+            return Err(clash(ClashKind::SecondView, place, tree.place(first)));
         }
         view = Some(*node);
     }

@@ -5,25 +5,22 @@ ghost use Rattle.netlist_schema.specs.Valid.{IsValid};
 ghost use Rattle.edif_spec.specs.Design as design;
 ghost use Rattle.edif_spec.specs.Means.{MeansFile};
 ghost use Rattle.edif_spec.specs.Stands.{FileFault, Stands};
-ghost use Rattle.edif_spec.specs.declared.fault.ClashKind.TheVariants.{SecondDesign};
 ghost use Rattle.edif_spec.specs.declared.fault.MeaningFault.{MeaningFault};
-ghost use Rattle.edif_spec.specs.declared.fault.MeaningFault.TheVariants.{Clash};
 ghost use Rattle.edif_tree.specs.Nodes.{IsAt, IsNode};
 ghost use Rattle.edif_tree.specs.declared.node.NodeId.{NodeId};
 ghost use Rattle.edif_build.specs.Files.{DesignAt, FollowersFail, HasFixed, ReadFollowers, ReadForm, ReadHeads, ReadRoot, SecondDesigns, head_of, notes_of};
 ghost use Rattle.edif_grammar.specs.Forms.{Stand};
 ghost use Rattle.edif_build.specs.Libraries.{LibsAre};
 ghost use Rattle.edif_parts.specs.Reading.{Answers};
-ghost use Rattle.edif_parts.specs.declared.error.EdifError.TheVariants.{Fault, NoMemory};
+ghost use Rattle.edif_parts.specs.declared.error.EdifError.TheVariants.{NoMemory};
 
 use crate::levels::{read_keyword_map, read_level, read_version};
 use crate::libraries::add_libraries;
 use crate::top::{Top, read_top};
 use edif_contents::known::Libraries;
-use edif_grammar::{Breach, Parts, parts_of};
-use edif_parts::error::EdifError;
+use edif_grammar::{Breach, Parts, is_form_of, parts_of};
+use edif_parts::error::{EdifError, bad_form, clash};
 use edif_parts::names::read_name;
-use edif_parts::parts::{bad_form, is_form_of};
 use edif_spec::{ClashKind, Keyword, MeaningFault};
 use edif_tree::{NodeId, Tree};
 use netlist_schema::{Copied, Design, Lib, Name, Row};
@@ -31,24 +28,13 @@ use std::alloc::Global;
 
 /// The form of a file, as its tree lends it.
 #[derive(Clone, Copy)]
-pub struct Form<'a> {
+pub struct FileForm<'a> {
     /// Its name, its version, its level and its keyword map.
     pub fixed: &'a [NodeId],
     /// What follows them, in order.
     pub inner: &'a [NodeId],
     /// The place of the design among what follows, where there is one.
     pub design: Option<usize>,
-}
-
-/// A second design of a file.
-fn second_design(place: u64, earlier: u64) -> EdifError
-    ensures { result ≡ Fault (Clash SecondDesign place earlier) }
-{
-    EdifError::Fault(MeaningFault::Clash {
-        kind: ClashKind::SecondDesign,
-        place,
-        earlier,
-    })
 }
 
 /// The place of the one design among these followers of a file, where there is one. Takes no memory.
@@ -63,7 +49,7 @@ fn find_design(tree: &Tree, inner: &[NodeId]) -> Result<Option<usize>, EdifError
         }
         if let Some(first) = found {
             let place = tree.place(inner[i]);
-            return Err(second_design(place, tree.place(inner[first])));
+            return Err(clash(ClashKind::SecondDesign, place, tree.place(inner[first])));
         }
         found = Some(i);
     }
@@ -86,13 +72,13 @@ fn read_root(alloc: Global, tree: &Tree, root: NodeId) -> Result<Parts<'_>, Edif
 }
 
 /// The form of a file at a node, with one design at most.
-fn read_form(alloc: Global, tree: &Tree, root: NodeId) -> Result<Form<'_>, EdifError>
+fn read_form(alloc: Global, tree: &Tree, root: NodeId) -> Result<FileForm<'_>, EdifError>
     requires { IsNode tree.now.rows root }
     ensures { (t : Placed) → IsAt tree.now.rows root t → Answers (ReadForm tree.now.rows t) (Stands t) result }
 {
     let parts = read_root(alloc, tree, root)?;
     let design = find_design(tree, parts.inner)?;
-    Ok(Form {
+    Ok(FileForm {
         fixed: parts.fixed,
         inner: parts.inner,
         design,

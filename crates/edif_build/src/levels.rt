@@ -11,9 +11,9 @@ ghost use Rattle.edif_build.specs.Levels.{IsKeywordMap, IsLevelForm, IsOther};
 ghost use Rattle.edif_parts.specs.Parts.{holds};
 ghost use Rattle.edif_parts.specs.Reading.{Answers};
 
-use edif_parts::error::EdifError;
+use edif_parts::error::{EdifError, fault_at};
 use edif_parts::parts::read_parts;
-use edif_spec::{Keyword, Kind, MeaningFault};
+use edif_spec::{Keyword, Kind};
 use edif_tree::{NodeId, Shape, Tree};
 use std::alloc::Global;
 
@@ -28,10 +28,10 @@ fn check_number(tree: &Tree, node: NodeId, wanted: i64, kind: Kind) -> Result<()
             if value == wanted {
                 Ok(())
             } else {
-                Err(EdifError::Fault(MeaningFault::At { kind, place }))
+                Err(fault_at(kind, place))
             }
         }
-        _ => Err(EdifError::Fault(MeaningFault::At { kind, place })),
+        _ => Err(fault_at(kind, place)),
     }
 }
 

@@ -8,23 +8,22 @@ ghost use Rattle.edif_spec.specs.Means.{is_library};
 ghost use Rattle.edif_spec.specs.Rows.{has_keyword};
 ghost use Rattle.edif_spec.specs.Stands.{LibraryFault, libraries};
 ghost use Rattle.edif_spec.specs.declared.keyword.Keyword.TheVariants.{Cell as CellWord};
-ghost use Rattle.edif_spec.specs.declared.fault.ClashKind.TheVariants.{Duplicate};
-ghost use Rattle.edif_spec.specs.declared.fault.MeaningFault.TheVariants.{Clash};
 ghost use Rattle.edif_tree.specs.Nodes.{IsAt, IsNode};
 ghost use Rattle.edif_grammar.specs.Forms.{Stand};
 ghost use Rattle.edif_build.specs.Libraries.{CellsAre, CellsFail, FailsAt, FailsIn, LibsAre, LibsFail, ReadHead};
 ghost use Rattle.edif_parts.specs.Reading.{Answers};
-ghost use Rattle.edif_parts.specs.declared.error.EdifError.TheVariants.{Fault};
 
 use crate::cells::read_cell;
 use crate::levels::read_level;
 use edif_contents::known::Libraries;
-use edif_parts::error::EdifError;
+use edif_grammar::is_form_of;
+use edif_parts::error::{EdifError, clash, over_limit};
 use edif_parts::names::read_name;
-use edif_parts::parts::{is_form_of, over_limit, read_parts};
-use edif_spec::{ClashKind, Keyword, MeaningFault};
+use edif_parts::parts::read_parts;
+use edif_spec::{ClashKind, Keyword};
 use edif_tree::{NodeId, Tree};
 use netlist_schema::LibHead;
+use netlist_schema::limits::{MOST_CELLS, MOST_LIBS};
 use std::alloc::Global;
 
 /// The head of a library, and what follows it.
@@ -36,17 +35,6 @@ pub struct Head<'a> {
     pub place: u64,
     /// The nodes of what follows its technology, in order.
     pub inner: &'a [NodeId],
-}
-
-/// A name that its scope has already.
-pub fn duplicate(place: u64, earlier: u64) -> EdifError
-    ensures { result ≡ Fault (Clash Duplicate place earlier) }
-{
-    EdifError::Fault(MeaningFault::Clash {
-        kind: ClashKind::Duplicate,
-        place,
-        earlier,
-    })
 }
 
 /// Whether a library stands at a node. Takes no memory.
@@ -107,12 +95,12 @@ fn add_cell(
         → Answers (λ _. CellsAre before head names (ts ++ t ∷ []) libs.new) (FailsAt (CellsFail before head) ts t) result }
 {
     let count = libs.cell_count();
-    if count >= 65_536 {
-        return Err(over_limit(65_536, tree.place(node)));
+    if count >= MOST_CELLS {
+        return Err(over_limit(MOST_CELLS as u64, tree.place(node)));
     }
     let cell = read_cell(alloc, tree, node, libs, own)?;
     match libs.add(cell.cell, cell.place)? {
-        Some(earlier) => Err(duplicate(cell.place, earlier)),
+        Some(earlier) => Err(clash(ClashKind::Duplicate, cell.place, earlier)),
         None => Ok(()),
     }
 }
@@ -152,12 +140,12 @@ fn add_library(
     ensures { (ts : List Placed) (t : Placed) → LibsAre ts libs.old → IsAt tree.now.rows node t → Answers (λ _. LibsAre (ts ++ t ∷ []) libs.new) (FailsAt LibsFail ts t) result }
 {
     let own = libs.len();
-    if own >= 1024 {
-        return Err(over_limit(1024, tree.place(node)));
+    if own >= MOST_LIBS {
+        return Err(over_limit(MOST_LIBS as u64, tree.place(node)));
     }
     let head = read_head(alloc, tree, node)?;
     match libs.open(head.head, head.place)? {
-        Some(earlier) => Err(duplicate(head.place, earlier)),
+        Some(earlier) => Err(clash(ClashKind::Duplicate, head.place, earlier)),
         None => add_cells(alloc, tree, head.inner, libs, own as u32),
     }
 }

@@ -4,25 +4,23 @@ ghost use Rattle.spelling_spec.specs.Tree.{Placed, bare};
 ghost use Rattle.edif_spec.specs.Design as design;
 ghost use Rattle.edif_spec.specs.Faults.{arguments};
 ghost use Rattle.edif_spec.specs.Means.{is_note};
-ghost use Rattle.edif_spec.specs.Stands.{NoteFault, PathFault};
-ghost use Rattle.edif_spec.specs.declared.fault.Kind.TheVariants.{BadPath};
-ghost use Rattle.edif_spec.specs.declared.fault.MeaningFault.TheVariants.{At};
+ghost use Rattle.edif_spec.specs.Stands.{NoteFault, PathFault, StepFault, StepsTo};
 ghost use Rattle.edif_tree.specs.Nodes.{IsAt, IsNode};
 ghost use Rattle.edif_grammar.specs.Forms.{Stand};
 ghost use Rattle.edif_parts.specs.Names.{DefinesName};
-ghost use Rattle.edif_build.specs.Notes.{AreNoted, FailsBehind, HasNoteParts, IsAgain, IsStep, NotesFail, ReadNote, ReadNotes, ReadPath, ShapeFault, StepFault, flat, is_mark};
+ghost use Rattle.edif_build.specs.Notes.{AreNoted, FailsBehind, HasNoteParts, IsAgain, NotesFail, ReadNote, ReadNotes, ReadPath, ShapeFault, flat, is_mark};
 ghost use Rattle.edif_parts.specs.Reading.{Answers, Names as FailsBy};
-ghost use Rattle.edif_parts.specs.declared.error.EdifError.TheVariants.{Fault};
 
-use crate::libraries::duplicate;
 use edif_contents::known::Libraries;
+use edif_grammar::is_form_of;
 use edif_names::Meant;
-use edif_parts::error::EdifError;
-use edif_parts::parts::{bad_form, is_form_of, is_word, over_limit};
+use edif_parts::error::{EdifError, bad_form, clash, fault_at, over_limit};
+use edif_parts::parts::is_word;
 use edif_parts::properties::read_property;
-use edif_spec::{Keyword, Kind, MeaningFault};
+use edif_spec::{ClashKind, Keyword, Kind};
 use edif_tree::{NodeId, Shape, Tree};
 use indexmap::IndexMap;
+use netlist_schema::limits::MOST_NOTES;
 use netlist_schema::{CellId, Copied, Ident, Inst, NoMemory, Note, Row};
 use std::alloc::Global;
 use std::marker::Model;
@@ -75,7 +73,7 @@ impl NoteKeys {
         ensures err { IfErr result (λ e. FailsBy (IsAgain self.old key.items place) e) }
     {
         if let Some(earlier) = self.places.get(key.as_slice()).copied() {
-            return Err(duplicate(place, earlier));
+            return Err(clash(ClashKind::Duplicate, place, earlier));
         }
         self.places.insert(key, place)?;
         Ok(())
@@ -141,16 +139,6 @@ fn note_parts(tree: &Tree, node: NodeId) -> Result<NoteParts, EdifError>
     Ok(NoteParts { path, property })
 }
 
-/// A path without steps, or a step that means nothing.
-fn bad_path(place: u64) -> EdifError
-    ensures { result ≡ Fault (At BadPath place) }
-{
-    EdifError::Fault(MeaningFault::At {
-        kind: Kind::BadPath,
-        place,
-    })
-}
-
 /// The instances of a cell, none where there is no such cell. Takes no memory.
 fn insts_at(libs: &Libraries, id: CellId) -> &[Inst]
     ensures { result.now ≡ design.insts_at libs.now.libs id }
@@ -172,18 +160,18 @@ fn read_step<'a>(
     id: CellId,
 ) -> Result<&'a Inst, EdifError>
     requires { IsNode tree.now.rows node }
-    ensures { (t : Placed) → IsAt tree.now.rows node t → Answers (λ x. IsStep libs.now.libs id t x.now) (StepFault libs.now.libs id t) result }
+    ensures { (t : Placed) → IsAt tree.now.rows node t → Answers (λ x. StepsTo libs.now.libs id t x.now) (StepFault libs.now.libs id (λ _. ⊥) t) result }
 {
     let place = tree.place(node);
     let Shape::Word(name) = tree.shape(node) else {
         return Err(bad_form(place));
     };
     let Meant::Found(index) = libs.inst(id, name) else {
-        return Err(bad_path(place));
+        return Err(fault_at(Kind::BadPath, place));
     };
     match insts_at(libs, id).get(index as usize) {
         Some(inst) => Ok(inst),
-        None => Err(bad_path(place)),
+        None => Err(fault_at(Kind::BadPath, place)),
     }
 }
 
@@ -200,7 +188,7 @@ fn read_path(
 {
     let steps = arguments_at(tree, node);
     if steps.is_empty() {
-        return Err(bad_path(tree.place(node)));
+        return Err(fault_at(Kind::BadPath, tree.place(node)));
     }
     let mut path = Vec::new(alloc);
     let mut id = top;
@@ -277,8 +265,8 @@ fn add_note(
     ensures { (ts : List Placed) (t : Placed) → AreNoted libs.now.libs top ts notes.old.items keys.old → IsAt tree.now.rows node t
         → Answers (λ _. AreNoted libs.now.libs top (ts ++ t ∷ []) notes.new.items keys.new) (FailsBehind libs.now.libs top ts t) result }
 {
-    if notes.len() >= 1_048_576 {
-        return Err(over_limit(1_048_576, tree.place(node)));
+    if notes.len() >= MOST_NOTES {
+        return Err(over_limit(MOST_NOTES as u64, tree.place(node)));
     }
     let note = read_note(alloc, tree, node, libs, top)?;
     let key = key_of(alloc, note.note.path.as_slice(), &note.note.property.key.id)?;

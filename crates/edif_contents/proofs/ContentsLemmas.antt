@@ -1,22 +1,20 @@
 -- Contents, from the instances and the nets that are read.
 use Rattle.std.proofs.Common.{◌≡◌, ℕ, List, [], ◌∷◌, map, refl, sym, subst, inl, inr, Option, Some}
-use Rattle.std.specs.List.{All}
 use Rattle.spelling_spec.specs.Tree.{Bare, Placed, bare}
-use Rattle.netlist_schema.specs.Names.{HasDistinctKeys}
-use Rattle.netlist_schema.specs.Typed.{IsTypedInst, IsTypedNet}
 use Rattle.edif_spec.specs.Design as design
 use Rattle.edif_spec.specs.Keyword.{Follower, Many}
 use Rattle.edif_spec.specs.Rows.{Each, those}
-use Rattle.edif_spec.specs.Faults.{followers, those_of}
+use Rattle.edif_spec.specs.Faults.{followers}
 use Rattle.edif_spec.specs.Means.{MeansInst, MeansNet}
 use Rattle.edif_spec.specs.Stands.{ContentsFault, insts_in, nets_in}
+use Rattle.edif_spec.specs.Stands as stands
 use Rattle.edif_spec.specs.declared.keyword.Keyword.TheVariants as keywords
 use Rattle.edif_spec.specs.declared.fault.MeaningFault.{MeaningFault}
 use Rattle.edif_spec.proofs.KnownCells.{parts_bare}
 use Rattle.edif_tree.specs.Nodes.{Row}
 use Rattle.edif_contents.specs.Inners.{InstsFault, ReadInsts}
 use Rattle.edif_contents.specs.Insides.{ReadContents}
-use Rattle.edif_contents.specs.Nets.{MeansNetIn, NetsFaultIn, ReadNets}
+use Rattle.edif_contents.specs.Nets.{NetsFaultIn, ReadNets}
 use Rattle.edif_parts.specs.Parts.{ArePartsOf}
 use Rattle.edif_contents.specs.declared.contents.Inside.{Inside}
 use Rattle.edif_contents.specs.declared.ends.Surroundings.{Surroundings}
@@ -29,9 +27,9 @@ follows = Many keywords.Instance ∷ Many keywords.Net ∷ Many keywords.Comment
 
 -- what is wrong with the instances
 pub insts_fail : (libs : List design.Lib) (own : Option ℕ) (ports : List design.Port) (t : Placed) (f : MeaningFault) → InstsFault libs own (insts_in t) f → ContentsFault libs own ports t f
-insts_fail libs own ports t f (inl b) = inr (inl b)
-insts_fail libs own ports t f (inr (inl b)) = inr (inr (inr (inl b)))
-insts_fail libs own ports t f (inr (inr b)) = inr (inr (inr (inr (inr (inl b)))))
+insts_fail libs own ports t f (inl b) = stands.contents_inst b
+insts_fail libs own ports t f (inr (inl b)) = stands.inst_again b
+insts_fail libs own ports t f (inr (inr b)) = stands.many_insts b
 
 -- the instances, seen with places
 each_inst : (libs : List design.Lib) (own : Option ℕ) (t : Placed) (xs : List design.Inst) → Each (MeansInst libs own) (those keywords.Instance (map bare (followers keywords.Contents t))) xs → Each (MeansInst libs own) (map bare (insts_in t)) xs
@@ -44,11 +42,11 @@ nets_fail s own t r f a e b =
     go (subst P (sym e) (each_inst s.libs.now.libs own t r.list.items a.mean)) b
   where
     go : Each (MeansInst s.libs.now.libs own) (map bare (insts_in t)) s.insts.now → NetsFaultIn s (nets_in t) f → ContentsFault s.libs.now.libs own s.ports.now t f
-    go m (inl b) = inr (inr (inl (inr (s.insts.now, m, inl b))))
-    go m (inr (inl b)) = inr (inr (inl (inr (s.insts.now, m, inr b))))
-    go m (inr (inr (inl b))) = inr (inr (inr (inr (inl b))))
-    go m (inr (inr (inr (inl b)))) = inr (inr (inr (inr (inr (inr (inl b))))))
-    go m (inr (inr (inr (inr b)))) = inr (inr (inr (inr (inr (inr (inr b))))))
+    go m (inl b) = stands.contents_nets (stands.one_net s.insts.now m b)
+    go m (inr (inl b)) = stands.contents_nets (stands.end_again s.insts.now m b)
+    go m (inr (inr (inl b))) = stands.net_again b
+    go m (inr (inr (inr (inl b)))) = stands.many_nets b
+    go m (inr (inr (inr (inr b)))) = stands.many_ends b
 
 -- the contents
 pub contents_read : (rows : List Row) (s : Surroundings) (own : Option ℕ) (t : Placed) (p : Parts) (r : Insts) (nets : List design.Net) (i : Inside) → ArePartsOf rows keywords.View keywords.Contents t p → ReadInsts s.libs.now.libs own (followers keywords.Contents t) r → s.insts.now ≡ r.list.items

@@ -1,14 +1,15 @@
 -- An end, from its parts: its instance and its bit.
-use Rattle.std.proofs.Common.{◌≡◌, ◌≢◌, ℕ, ◌<◌, ◌≤◌, ℤ, pos, List, [], ◌∷◌, map, length, refl, ap, sym, ◌∙◌, subst, inl, inr, Option, Some, None, Ok, Err, true, arith}
-use Rattle.std.specs.Prelude.{slice_get, Result}
-use Rattle.spelling_spec.specs.Tree.{Bare, Placed, Word', Integer', Form', String', word, integer, bare}
+use Rattle.std.proofs.Common.{◌≡◌, ℕ, ◌<◌, ◌≤◌, ℤ, pos, List, [], ◌∷◌, map, length, refl, ap, sym, ◌∙◌, subst, inr, Option, Some, true, arith}
+use Rattle.std.specs.Prelude.{slice_get}
+use Rattle.spelling_spec.specs.Tree.{Bare, Placed, Word', Integer', word, integer, bare}
 use Rattle.edif_spec.specs.Keyword.{identifier, Choice, AnIdentifier, AnInteger, AForm}
 use Rattle.edif_spec.specs.Keyword as keyword
 use Rattle.edif_spec.specs.Rows.{has_keyword, is_choice, is_one_of, IsFormOf, Perhaps}
-use Rattle.edif_spec.specs.Faults.{arguments, followers, parts, place_of, Among, RowFault}
+use Rattle.edif_spec.specs.Faults.{arguments, followers, parts, place_of, Among}
 use Rattle.edif_spec.specs.Canonical.{ports_of_end}
 use Rattle.edif_spec.specs.Means.{meant, Found, MeansBit, MeansEnd, MeansInstRef, width_at}
 use Rattle.edif_spec.specs.Stands.{BitFault, Dangles, EndFault, InstRefFault}
+use Rattle.edif_spec.specs.Stands as stands
 use Rattle.edif_spec.specs.Design as design
 use Rattle.edif_spec.specs.declared.keyword.Keyword.TheVariants as keywords
 use Rattle.edif_spec.specs.declared.fault.Kind.TheVariants.{BadIndex, WholeArray}
@@ -19,8 +20,6 @@ use Rattle.edif_spec.proofs.KnownForms.{only}
 use Rattle.edif_spec.proofs.KnownRows.{follow_none}
 use Rattle.edif_tree.specs.Nodes as nodes
 use Rattle.edif_tree.specs.declared.node.NodeId.{NodeId}
-use Rattle.edif_tree.specs.declared.node.Shape.{Shape}
-use Rattle.edif_tree.specs.declared.node.Shape.TheVariants as shapes
 use Rattle.edif_tree.proofs.OneTree.{one_at}
 use Rattle.edif_grammar.specs.Forms.{Stand}
 use Rattle.edif_grammar.proofs.FormLemmas.{Fixed1, Fixed2}
@@ -28,14 +27,14 @@ use Rattle.edif_grammar.proofs.StandLemmas.{stand_once}
 
 -- a reference that means a port, and no bit of one
 pub whole_fails : (ports : List design.Port) (t : Placed) (w : List ℕ) (p i width : ℕ) → t ≡ Word' p w → meant (design.port_ids ports) w ≡ Found i → width ≡ width_at ports i → (width ≡ 1 → ⊥) → BitFault ports t (At WholeArray p)
-whole_fails ports t w p i width e m q n = inr (inl (w, p, i, e, m, (λ r. n (q ∙ r)), refl))
+whole_fails ports t w p i width e m q n = stands.bit_whole (record { spelled = w; place = p; port = i; is = e; means = m; wide = λ r. n (q ∙ r); fault = refl })
 
 pub word_dangles : (ports : List design.Port) (t : Placed) (w : List ℕ) (p : ℕ) (f : MeaningFault) → t ≡ Word' p w → Dangles (design.port_ids ports) (Word' p w) f → BitFault ports t f
-word_dangles ports t w p f e d = let P : Placed → Type 0 = λ v. BitFault ports v f in subst P (sym e) (inl d)
+word_dangles ports t w p f e d = let P : Placed → Type 0 = λ v. BitFault ports v f in subst P (sym e) (stands.bit_port d)
 
 -- a member
 pub member_dangles : (ports : List design.Port) (t a : Placed) (w : List ℕ) (p : ℕ) (f : MeaningFault) → has_keyword keywords.Member (bare t) ≡ true → slice_get (arguments t) 0 ≡ Some a → a ≡ Word' p w → Dangles (design.port_ids ports) (Word' p w) f → BitFault ports t f
-member_dangles ports t a w p f k g e d = inr (inr (k, inr (inl (Word' p w, g ∙ ap Some e, d))))
+member_dangles ports t a w p f k g e d = stands.member_port k (Word' p w, g ∙ ap Some e, d)
 
 pub member_means : (ports : List design.Port) (t : Placed) (w : List ℕ) (p port bit width : ℕ) (z : ℤ) → (s : Fixed2 keywords.Member identifier keyword.integer t) → s.a ≡ Word' p w → s.b ≡ Integer' (place_of s.b) z → meant (design.port_ids ports) w ≡ Found port
     → width ≡ width_at ports port → (z ≡ pos bit) × (bit < width) → MeansBit ports (bare t) port bit
@@ -51,7 +50,7 @@ pub index_fails : (ports : List design.Port) (t : Placed) (w : List ℕ) (p port
     → width ≡ width_at ports port → ((n : ℕ) → z ≡ pos n → n < width → ⊥) → place ≡ place_of s.b → BitFault ports t (At BadIndex place)
 index_fails ports t w p port width place z k s e g m q n l =
     let R : ℕ → Type 0 = λ v. (n : ℕ) → z ≡ pos n → n < v → ⊥ in
-    inr (inr (k, inr (inr (w, p, port, z, place_of s.b, s.at_a ∙ ap Some e, m, s.at_b ∙ ap Some g, subst R q n, ap (λ v. At BadIndex v) l))))
+    stands.member_index k (record { spelled = w; named = p; port = port; index = z; place = place_of s.b; name_there = s.at_a ∙ ap Some e; means = m; index_there = s.at_b ∙ ap Some g; beyond = subst R q n; fault = ap (λ v. At BadIndex v) l })
 
 -- an integer in its place
 pub integer_there : (rows : List nodes.Row) (id : NodeId) (b t : Placed) → is_one_of keyword.integer (bare b) ≡ true → nodes.IsAt rows id b → nodes.IsAt rows id t → is_choice AnInteger (bare t) ≡ true
@@ -83,10 +82,10 @@ end_means libs ports insts t e s k i b =
     record { bit_part = bare s.a; inner = map bare (followers keywords.PortRef t); form = s.form; inst = subst Q (ap (map bare) (sym k) ∙ parts_bare keywords.PortRef keywords.InstanceRef t) i; bit = b }
 
 pub end_inst_fails : (libs : List design.Lib) (ports : List design.Port) (insts : List design.Inst) (t : Placed) (f : MeaningFault) → parts keywords.PortRef keywords.InstanceRef t ≡ followers keywords.PortRef t → Among (InstRefFault insts) (followers keywords.PortRef t) f → EndFault libs ports insts t f
-end_inst_fails libs ports insts t f k b = let P : List Placed → Type 0 = λ v. Among (InstRefFault insts) v f in inr (inl (subst P (sym k) b))
+end_inst_fails libs ports insts t f k b = let P : List Placed → Type 0 = λ v. Among (InstRefFault insts) v f in stands.end_inst (subst P (sym k) b)
 
 pub end_bit_fails : (libs : List design.Lib) (ports : List design.Port) (insts : List design.Inst) (t : Placed) (o : Option ℕ) (f : MeaningFault) → (s : Fixed1 keywords.PortRef bit_choice t) → parts keywords.PortRef keywords.InstanceRef t ≡ followers keywords.PortRef t
     → Perhaps (MeansInstRef insts) (map bare (followers keywords.PortRef t)) o → BitFault (ports_of_end libs ports insts o) s.a f → EndFault libs ports insts t f
 end_bit_fails libs ports insts t o f s k i b =
     let Q : List Placed → Type 0 = λ v. Perhaps (MeansInstRef insts) (map bare v) o in
-    inr (inr (o, subst Q (sym k) i, (s.a, s.at_a, b)))
+    stands.end_bit o (subst Q (sym k) i) (s.a, s.at_a, b)

@@ -1,20 +1,20 @@
 -- The nodes of the fixed arguments of a form whose row has one or two, and of what follows them.
-use Rattle.std.proofs.Common.{◌≡◌, ℕ, ◌<◌, ◌≤◌, List, [], ◌∷◌, length, take, refl, ap, ◌∙◌, subst, Bool, true, false, Some, arith, get_or}
-use Rattle.std.specs.Prelude.{cond, ◌||◌, slice_get}
+use Rattle.std.proofs.Common.{◌≡◌, ◌<◌, List, [], ◌∷◌, length, refl, ap, ◌∙◌, subst, true, false, Some, arith, get_or}
+use Rattle.std.specs.Prelude.{cond, ◌||◌}
 use Rattle.std.specs.List.{AllByRecursion}
-use Rattle.spelling_spec.specs.Tree.{Bare, Placed, bare}
+use Rattle.spelling_spec.specs.Tree.{Placed, bare}
 use Rattle.edif_spec.specs.Keyword.{row, Takes, Choice, Follower, Many, One}
 use Rattle.edif_spec.specs.Rows.{has_keyword, is_follower}
-use Rattle.edif_spec.specs.Faults.{arguments, fixed_count, followers, those_of, token_kind}
+use Rattle.edif_spec.specs.Faults.{those_of, token_kind}
 use Rattle.edif_spec.specs.declared.keyword.Keyword.{Keyword}
 use Rattle.edif_spec.specs.declared.fault.Kind.TheVariants.{BadForm}
 use Rattle.edif_spec.proofs.KnownForms.{only}
-use Rattle.edif_tree.specs.Nodes.{Row, IsAt, IsNode}
+use Rattle.edif_tree.specs.Nodes.{Row, IsAt}
 use Rattle.edif_tree.specs.declared.node.NodeId.{NodeId}
 use Rattle.edif_grammar.specs.Forms.{Stand}
 use Rattle.edif_parts.specs.Parts.{ArePartsOf}
 use Rattle.edif_grammar.specs.declared.lent.Parts.{Parts}
-use Rattle.edif_grammar.proofs.FormLemmas.{are_plain, Fixed0, Fixed1, Fixed2, fit0, fit1, fit2}
+use Rattle.edif_grammar.proofs.FormLemmas.{are_plain, Fixed1, Fixed2, fit1, fit2}
 use Rattle.edif_grammar.proofs.StandLemmas.{stand_length, stand_tree}
 
 -- one fixed argument, and its node

@@ -1,11 +1,11 @@
 -- The loops over the instances and the nets of contents.
 use Rattle.std.proofs.Common.{◌≡◌, ℕ, suc, ◌<◌, ◌≤◌, List, [], ◌∷◌, ◌++◌, map, take, drop, length, refl, sym, ap, ◌∙◌, subst, inl, inr, true, false, Option, None, arith, append-nil, append_assoc, length-append}
-use Rattle.std.specs.List.{All, AllZip, flat_map}
+use Rattle.std.specs.List.{AllZip, flat_map}
 use Rattle.spelling_spec.specs.Tree.{Bare, Placed, bare}
 use Rattle.edif_spec.specs.Design as design
-use Rattle.edif_spec.specs.Faults.{AtTwo, Beyond, Repeats, those_of, place_of, defined}
+use Rattle.edif_spec.specs.Faults.{Beyond, those_of, place_of}
 use Rattle.edif_spec.specs.Rows.{has_keyword}
-use Rattle.edif_spec.specs.Stands.{SameEnd, ends_in}
+use Rattle.edif_spec.specs.Stands.{ends_in}
 use Rattle.edif_spec.specs.declared.keyword.Keyword.{Keyword}
 use Rattle.edif_spec.specs.declared.keyword.Keyword.TheVariants as keywords
 use Rattle.edif_spec.specs.declared.fault.MeaningFault.{MeaningFault}
@@ -26,7 +26,7 @@ use Rattle.edif_contents.specs.declared.nets.NetAt.{NetAt}
 use Rattle.edif_spec.specs.Means.{MeansEnd, MeansInst}
 use Rattle.netlist_schema.specs.Names.{AreDistinct}
 use Rattle.edif_contents.specs.declared.insts.InstAt.{InstAt}
-use Rattle.edif_contents.proofs.JoinLemmas.{beyond_here, joined_length, joined_start, zip_count}
+use Rattle.edif_contents.proofs.JoinLemmas.{beyond_here, joined_start, zip_count}
 use Rattle.edif_parts.proofs.NamedForms.{NamedForms, forms_distinct, forms_each, forms_end, forms_push, forms_skip, forms_start, forms_valid}
 use Rattle.edif_grammar.proofs.StandLemmas.{stand_length}
 use Rattle.edif_parts.proofs.Steps.{Step, here, kept, skipped}

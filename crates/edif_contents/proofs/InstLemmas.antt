@@ -1,21 +1,20 @@
 -- An instance, from its parts.
-use Rattle.std.proofs.Common.{◌≡◌, ℕ, List, [], ◌∷◌, ◌++◌, map, refl, ap, ◌∙◌, subst, Option, Some, true}
+use Rattle.std.proofs.Common.{◌≡◌, ℕ, List, map, ap, ◌∙◌, subst, Option, Some, true}
 use Rattle.std.specs.Prelude.{IsTrue, IfSome, slice_get}
 use Rattle.std.specs.List.{All}
-use Rattle.spelling_spec.specs.Tree.{Placed, Trees, Form', Word', Integer', String', End, More, bare, items}
+use Rattle.spelling_spec.specs.Tree.{Placed, Form', Word', Integer', String', End, More, bare}
 use Rattle.netlist_schema.specs.Names.{HasDistinctKeys}
 use Rattle.netlist_schema.specs.Typed.{IsBytes, IsTypedName, IsTypedProperty}
 use Rattle.edif_spec.specs.Design as design
 use Rattle.edif_spec.specs.Keyword.{name_definition, the}
 use Rattle.edif_spec.specs.Rows.{is_one_of, those, Perhaps}
-use Rattle.edif_spec.specs.Faults.{arguments, followers, name_of, first_name, defined}
+use Rattle.edif_spec.specs.Faults.{arguments, followers, name_of, defined}
 use Rattle.edif_spec.specs.Means.{MeansName, MeansProperties, MeansText, MeansViewRef}
 use Rattle.edif_spec.specs.declared.keyword.Keyword.TheVariants as keywords
 use Rattle.edif_tree.specs.Nodes as nodes
 use Rattle.edif_tree.specs.declared.node.NodeId.{NodeId}
 use Rattle.edif_tree.proofs.OneTree.{one_at}
 use Rattle.edif_contents.specs.Inners.{ReadInst}
-use Rattle.edif_contents.specs.declared.insts.InstAt.{InstAt}
 use Rattle.edif_grammar.proofs.FormLemmas.{Fixed2}
 
 -- a name definition in its place

@@ -1,5 +1,5 @@
 -- The bits that are joined, by their keys in a map.
-use Rattle.std.proofs.Common.{◌≡◌, ℕ, zero, suc, ◌<◌, List, [], ◌∷◌, ◌++◌, map, length, refl, sym, ap, ◌∙◌, subst, Bool, true, false, ◌&&◌, nat_eq, Option, None, Some, rules, arith, get_or, true≢false, eqb-true}
+use Rattle.std.proofs.Common.{◌≡◌, ℕ, zero, suc, ◌<◌, List, [], ◌∷◌, map, length, refl, sym, ap, ◌∙◌, Bool, true, false, ◌&&◌, nat_eq, Option, None, Some, rules, arith, get_or, true≢false, eqb-true}
 use Rattle.std.specs.Prelude.{cond}
 use Rattle.std.specs.Map.{lookup}
 use Rattle.std.specs.List.{Contains}

@@ -1,5 +1,5 @@
 -- A net, from its parts.
-use Rattle.std.proofs.Common.{◌≡◌, ℕ, suc, List, [], ◌∷◌, ◌++◌, map, take, drop, refl, ap, sym, ◌∙◌, subst, inl, inr, Some, true}
+use Rattle.std.proofs.Common.{◌≡◌, ℕ, suc, List, [], ◌∷◌, ◌++◌, map, take, drop, refl, ap, sym, ◌∙◌, subst, inl, Some, true}
 use Rattle.std.specs.Prelude.{slice_get}
 use Rattle.std.specs.List.{All, AllByRecursion, AllZip}
 use Rattle.spelling_spec.specs.Tree.{Bare, Placed, bare}
@@ -8,13 +8,16 @@ use Rattle.netlist_schema.specs.Typed.{IsTypedName, IsTypedProperty}
 use Rattle.edif_spec.specs.Design as design
 use Rattle.edif_spec.specs.Keyword.{Many, name_definition, the}
 use Rattle.edif_spec.specs.Rows.{has_keyword, Each, IsFormOf}
-use Rattle.edif_spec.specs.Faults.{AtOne, Among, arguments, followers, name_of, parts}
+use Rattle.edif_spec.specs.Faults.{AtOne, Among, followers, name_of, parts}
 use Rattle.edif_spec.specs.Means.{MeansName, MeansProperties}
 use Rattle.edif_spec.specs.Stands.{JoinedFault, ends_in, ends_joined}
+use Rattle.edif_spec.specs.Stands as stands
 use Rattle.edif_spec.specs.declared.keyword.Keyword.{Keyword}
 use Rattle.edif_spec.specs.declared.keyword.Keyword.TheVariants as keywords
 use Rattle.edif_spec.specs.declared.fault.MeaningFault.{MeaningFault}
+use Rattle.edif_spec.proofs.CellFaultsApart.{joined_ends}
 use Rattle.edif_spec.proofs.FaultPlaces.{one_later}
+use Rattle.edif_spec.proofs.KnownForms.{form_choice}
 use Rattle.edif_tree.specs.Nodes.{Row, IsAt}
 use Rattle.edif_tree.specs.declared.node.NodeId.{NodeId}
 use Rattle.edif_tree.proofs.OneTree.{one_at}
@@ -30,8 +33,7 @@ use Rattle.edif_contents.proofs.FixedNodes.{are_those_many, kept_many}
 use Rattle.edif_grammar.proofs.FormLemmas.{Fixed2, all_at, fit0, followers_fit}
 use Rattle.edif_contents.proofs.InstLemmas.{defined_first}
 use Rattle.edif_contents.proofs.JoinLemmas.{zip_push}
-use Rattle.edif_grammar.proofs.StandLemmas.{stand_read}
-use Rattle.edif_parts.proofs.Steps.{Step, take_all}
+use Rattle.edif_parts.proofs.Steps.{Step}
 
 -- Forms one after another.
 pub each_bare : {A : Type 0} (M : Bare → A → Type 0) (ts : List Placed) (xs : List A) → AllZip (λ u x. M (bare u) x) ts xs → Each M (map bare ts) xs
@@ -63,7 +65,7 @@ refs_follow t h =
     (are_those_many keywords.PortRef (followers keywords.Joined t) all, kept_many keywords.PortRef (followers keywords.Joined t) all)
 
 pub joined_fails : (s : Surroundings) (t : Placed) (f : MeaningFault) → parts keywords.Joined keywords.PortRef t ≡ followers keywords.Joined t → Among (EndFaultIn s) (followers keywords.Joined t) f → JoinedFault s.libs.now.libs s.ports.now s.insts.now t f
-joined_fails s t f e b = let P : List Placed → Type 0 = λ v. Among (EndFaultIn s) v f in inr (subst P (sym e) b)
+joined_fails s t f e b = let P : List Placed → Type 0 = λ v. Among (EndFaultIn s) v f in stands.joined_end (subst P (sym e) b)
 
 pub joined_read : (rows : List Row) (s : Surroundings) (t : Placed) (p : Parts) (j : JoinedAt) → ArePartsOf rows keywords.Net keywords.Joined t p → parts keywords.Joined keywords.PortRef t ≡ followers keywords.Joined t → Each (MeansEndIn s) (map bare (followers keywords.Joined t)) j.ends
     → j.nodes.now ≡ p.inner.now → ReadJoined rows s t j
@@ -88,5 +90,5 @@ net_read rows s t name j ps n p e d a b q =
       mean = subst P (sym e) (record { name_part = bare p.a; joined_part = bare p.b; refs = map bare (parts keywords.Joined keywords.PortRef p.b); inner = map bare (followers keywords.Net t); form = p.form; joined = b.form; name = a.0; ends = b.ends; properties = q.0 });
       fine = subst Q (sym e) (record { name = a.1; properties = q.1 }, q.2);
       named = defined_first t p.a (name.id, n.place) p.at_a a.2 ∙ ap (λ v. Some (v, n.place)) id;
-      nodes = subst R (sym (ap ends_joined p.at_b)) (let S : List NodeId → Type 0 = λ v. Stand rows v (parts keywords.Joined keywords.PortRef p.b) in subst S (sym (ap (λ v. v.now) d)) b.nodes);
+      nodes = subst R (sym (ap ends_joined p.at_b ∙ joined_ends p.b (form_choice keywords.Joined p.b p.is_b))) (let S : List NodeId → Type 0 = λ v. Stand rows v (parts keywords.Joined keywords.PortRef p.b) in subst S (sym (ap (λ v. v.now) d)) b.nodes);
     }

@@ -1,6 +1,6 @@
 -- References: what a name means in a scope, and forms of one identifier.
 use Rattle.std.proofs.Common.{◌≡◌, ℕ, ◌+◌, ◌≤◌, List, [], ◌∷◌, map, length, refl, sym, ap, ◌∙◌, subst, ◌⊎◌, inl, inr, Bool, true, false, Option, Some, None, Ok, Err, arith, eqb-true, eq-eqb}
-use Rattle.std.specs.Prelude.{IsTrue, ◌||◌, ◌&&◌, slice_get, Result, cond, nat_eq}
+use Rattle.std.specs.Prelude.{IsTrue, ◌&&◌, slice_get, Result, cond, nat_eq}
 use Rattle.std.specs.Result.{IsErrAnd}
 use Rattle.std.specs.Char.{to_ascii_lowercase}
 use Rattle.std.specs.List.{AllByRecursion}
@@ -13,6 +13,7 @@ use Rattle.edif_spec.specs.declared.keyword.Keyword.TheVariants as keywords
 use Rattle.edif_spec.specs.Means.{Meant as Meaning, meant, Found, Absent, Several, equal, equal_or, only_place, MeansLibraryRef, MeansCellRef, MeansViewRef}
 use Rattle.edif_spec.specs.Design as design
 use Rattle.edif_spec.specs.Stands.{Dangles, LibraryRefFault, CellRefFault, ViewRefFault}
+use Rattle.edif_spec.specs.Stands as stands
 use Rattle.edif_spec.specs.declared.fault.Kind.TheVariants.{BadForm, Unresolved, Ambiguous}
 use Rattle.edif_spec.specs.declared.fault.MeaningFault.{MeaningFault}
 use Rattle.edif_spec.specs.declared.fault.MeaningFault.TheVariants.{At}
@@ -20,6 +21,8 @@ use Rattle.edif_spec.proofs.Both.{both}
 use Rattle.edif_spec.proofs.KnownCells.{parts_bare}
 use Rattle.edif_spec.proofs.KnownForms.{only, form_choice}
 use Rattle.edif_spec.proofs.KnownRows.{follow_none}
+use Rattle.edif_spec.proofs.SameLemmas.{same_says, says_same}
+use Rattle.edif_parts.proofs.Answering.{names_more}
 use Rattle.edif_tree.proofs.OneTree.{one_at}
 use Rattle.edif_tree.specs.declared.node.NodeId.{NodeId}
 use Rattle.edif_parts.specs.Parts.{ArePartsOf}
@@ -34,11 +37,6 @@ use Rattle.edif_parts.specs.Reading.{Answers, Names}
 use Rattle.edif_grammar.specs.Forms.{Fits, Stand}
 use Rattle.edif_parts.specs.declared.error.EdifError.{EdifError}
 use Rattle.edif_parts.specs.declared.error.EdifError.TheVariants as errors
-
--- a fault of a part is one of the whole
-pub names_more : (F G : MeaningFault → Type 0) (e : EdifError) → ((f : MeaningFault) → F f → G f) → Names F e → Names G e
-names_more F G (errors.Fault f) g h = g f h
-names_more F G errors.NoMemory g h = tt
 
 -- the place of a node, as trees and as faults say it
 pub place_same : (t : Placed) → nodes.place_of t ≡ place_of t
@@ -145,8 +143,8 @@ library_answers rows ids libs own place us ts id r s l e st h = let P : List Pla
 -- what is wrong with the library is wrong with the reference to a cell
 pub library_fails : (libs : List design.Lib) (own : Option ℕ) (t : Placed) (place : ℕ) (f : MeaningFault) → place ≡ place_of t → parts keywords.CellRef keywords.LibraryRef t ≡ followers keywords.CellRef t
     → (Among (LibraryRefFault libs) (followers keywords.CellRef t) f) ⊎ ((own ≡ None) × (followers keywords.CellRef t ≡ []) × (f ≡ At BadForm place)) → CellRefFault libs own t f
-library_fails libs own t place f p k (inl b) = let P : List Placed → Type 0 = λ v. Among (LibraryRefFault libs) v f in inr (inl (subst P (sym k) b))
-library_fails libs own t place f p k (inr b) = inr (inr (inr (b.0, k ∙ b.1, b.2 ∙ ap (λ v. At BadForm v) p)))
+library_fails libs own t place f p k (inl b) = let P : List Placed → Type 0 = λ v. Among (LibraryRefFault libs) v f in stands.cell_ref_library (subst P (sym k) b)
+library_fails libs own t place f p k (inr b) = stands.cell_ref_alone b.0 (k ∙ b.1) (b.2 ∙ ap (λ v. At BadForm v) p)
 
 -- an error that is known
 pub told : (F : MeaningFault → Type 0) (e : EdifError) (f : MeaningFault) → e ≡ errors.Fault f → F f → Names F e
@@ -175,7 +173,7 @@ pub cell_fails : (libs : List design.Lib) (own : Option ℕ) (t a : Placed) (w :
     → MeansLibraryRef libs own (map bare (followers keywords.CellRef t)) l → a ≡ Word' p w → Dangles (design.cell_ids libs l) (Word' p w) f → CellRefFault libs own t f
 cell_fails libs own t a w p l f g k m e d =
     let Q : List Placed → Type 0 = λ v. MeansLibraryRef libs own (map bare v) l in
-    inr (inr (inl (l, subst Q (sym k) m, (Word' p w, g ∙ ap Some e, d))))
+    stands.cell_ref_name l (subst Q (sym k) m) (Word' p w, g ∙ ap Some e, d)
 
 -- the one view of a cell
 view_is : (v w : List ℕ) → same w v ≡ true → meant (v ∷ []) w ≡ Found 0
@@ -213,26 +211,7 @@ found_first v w i e = by (equal w v) (same w v) e
     by false true e = let d : 0 ≡ i = cc e in sym d
     by false false e = absurd (cc e)
 
--- equal ignoring case are equal in lower case, and the other way round
-same_says : (a b : List ℕ) → same a b ≡ true → map to_ascii_lowercase a ≡ map to_ascii_lowercase b
-same_says [] [] h = refl
-same_says [] (c ∷ b) h = absurd (cc h)
-same_says (x ∷ a) [] h = absurd (cc h)
-same_says (x ∷ a) (y ∷ b) h =
-    let t = both (nat_eq (to_ascii_lowercase x) (to_ascii_lowercase y)) (same a b) h in
-    let e : to_ascii_lowercase x ≡ to_ascii_lowercase y = eqb-true _ _ t.0 in
-    let f : map to_ascii_lowercase a ≡ map to_ascii_lowercase b = same_says a b t.1 in cc
-
-says_same : (a b : List ℕ) → map to_ascii_lowercase a ≡ map to_ascii_lowercase b → same a b ≡ true
-says_same [] [] h = refl
-says_same [] (c ∷ b) h = absurd (cc h)
-says_same (x ∷ a) [] h = absurd (cc h)
-says_same (x ∷ a) (y ∷ b) h =
-    let e : to_ascii_lowercase x ≡ to_ascii_lowercase y = cc h in
-    let f : map to_ascii_lowercase a ≡ map to_ascii_lowercase b = cc h in
-    ap (λ v. v && same a b) (eq-eqb _ _ e) ∙ says_same a b f
-
--- and what the answer is, by the test
+-- what the answer is, by the test
 pub view_same : (v w : List ℕ) → map to_ascii_lowercase w ≡ map to_ascii_lowercase v → Tells (meant (v ∷ []) w) (answers.Found 0)
 view_same v w e = let P : Meaning → Type 0 = λ m. Tells m (answers.Found 0) in subst P (sym (view_is v w (says_same w v e))) refl
 
@@ -246,7 +225,7 @@ view_other v w n = let P : Meaning → Type 0 = λ m. Tells m answers.Absent in 
 -- what is wrong with the view is wrong with the reference to it
 pub view_fails : (libs : List design.Lib) (own : Option ℕ) (t a b : Placed) (w : List ℕ) (p : ℕ) (id : design.CellId) (f : MeaningFault) → slice_get (arguments t) 0 ≡ Some a → slice_get (arguments t) 1 ≡ Some b → MeansCellRef libs own (bare b) id → a ≡ Word' p w
     → Dangles (design.view_id libs id ∷ []) (Word' p w) f → ViewRefFault libs own t f
-view_fails libs own t a b w p id f g h m e d = inr (inr (b, id, h, m, (Word' p w, g ∙ ap Some e, d)))
+view_fails libs own t a b w p id f g h m e d = stands.view_ref_name b id h m (Word' p w, g ∙ ap Some e, d)
 
 -- a form in the place of one keyword
 pub form_there : (rows : List nodes.Row) (id : NodeId) (k : Keyword) (b t : Placed) → is_one_of (the k) (bare b) ≡ true → nodes.IsAt rows id b → nodes.IsAt rows id t → has_keyword k (bare t) ≡ true

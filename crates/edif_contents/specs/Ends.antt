@@ -1,5 +1,5 @@
 -- What the ends of nets are judged by.
-use Rattle.std.specs.Prelude.{◌≡◌, ℕ, List, Option, map}
+use Rattle.std.specs.Prelude.{◌≡◌, ℕ, List, Option}
 use Rattle.spelling_spec.specs.Tree.{Bare, Placed}
 use Rattle.edif_spec.specs.Canonical.{ports_of_end}
 use Rattle.edif_spec.specs.Design as design

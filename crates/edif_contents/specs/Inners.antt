@@ -4,6 +4,7 @@ use Rattle.std.specs.List.{All}
 use Rattle.spelling_spec.specs.Tree.{Placed, bare}
 use Rattle.netlist_schema.specs.Names.{AreDistinct, HasDistinctKeys}
 use Rattle.netlist_schema.specs.Typed.{IsTypedInst}
+use Rattle.netlist_schema.specs.declared.limits.TheConstants.{MOST_INSTS}
 use Rattle.edif_spec.specs.Design as design
 use Rattle.edif_spec.specs.Faults.{Among, Beyond, Repeats, defined}
 use Rattle.edif_spec.specs.Means.{MeansInst}
@@ -31,9 +32,9 @@ pub record ReadInsts (libs : List design.Lib) (own : Option ℕ) (ts : List Plac
   pub mean : Each (MeansInst libs own) (those keywords.Instance (map bare ts)) i.list.items
   pub fine : All IsFine i.list.items
   pub distinct : AreDistinct (design.inst_ids i.list.items)
-  pub count : length i.list.items ≤ 1048576
+  pub count : length i.list.items ≤ MOST_INSTS
   pub names : ids i.names ≡ design.inst_ids i.list.items
 
 -- what is wrong with instances: in one of them, a name that repeats, more instances than allowed
 abbrev pub InstsFault : List design.Lib → Option ℕ → List Placed → MeaningFault → Type 0
-InstsFault libs own ts f = Among (InstFault libs own) ts f ⊎ (Repeats ts f ⊎ Beyond 1048576 ts f)
+InstsFault libs own ts f = Among (InstFault libs own) ts f ⊎ (Repeats ts f ⊎ Beyond MOST_INSTS ts f)

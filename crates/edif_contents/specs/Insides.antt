@@ -4,6 +4,7 @@ use Rattle.std.specs.List.{All, flat_map}
 use Rattle.spelling_spec.specs.Tree.{Placed, bare}
 use Rattle.netlist_schema.specs.Names.{AreDistinct, HasDistinctKeys}
 use Rattle.netlist_schema.specs.Typed.{IsTypedContents}
+use Rattle.netlist_schema.specs.declared.limits.TheConstants.{MOST_ENDS, MOST_INSTS, MOST_NETS}
 use Rattle.edif_spec.specs.Design as design
 use Rattle.edif_spec.specs.Means.{MeansContents}
 use Rattle.edif_parts.specs.Names.{ids}
@@ -14,9 +15,9 @@ use Rattle.edif_contents.specs.declared.contents.Inside.{Inside}
 pub record ReadContents (libs : List design.Lib) (own : Option ℕ) (ports : List design.Port) (t : Placed) (i : Inside) : Type 0 where
   pub mean : MeansContents libs own ports (bare t) i.contents
   pub typed : IsTypedContents i.contents
-  pub insts : length i.contents.insts ≤ 1048576
-  pub nets : length i.contents.nets ≤ 1048576
-  pub ends : length (flat_map (λ (n : design.Net). n.ends) i.contents.nets) ≤ 4194304
+  pub insts : length i.contents.insts ≤ MOST_INSTS
+  pub nets : length i.contents.nets ≤ MOST_NETS
+  pub ends : length (flat_map (λ (n : design.Net). n.ends) i.contents.nets) ≤ MOST_ENDS
   pub inst_names : AreDistinct (design.inst_ids i.contents.insts)
   pub net_names : AreDistinct (map (λ (n : design.Net). n.name.id) i.contents.nets)
   pub inst_keys : All (λ (x : design.Inst). HasDistinctKeys x.properties) i.contents.insts

@@ -3,6 +3,7 @@ use Rattle.std.specs.Prelude.{◌≡◌, ◌≤◌, ◌⊎◌, ℕ, List, [], �
 use Rattle.std.specs.List.{AllZip, Contains}
 use Rattle.spelling_spec.specs.Tree.{Placed, bare}
 use Rattle.netlist_schema.specs.Names.{AreDistinct}
+use Rattle.netlist_schema.specs.declared.limits.TheConstants.{MOST_ENDS}
 use Rattle.edif_spec.specs.Design as design
 use Rattle.edif_spec.specs.Faults.{AtTwo, Beyond, place_of}
 use Rattle.edif_spec.specs.Means.{MeansEnd}
@@ -28,8 +29,8 @@ pub record AreJoined (libs : List design.Lib) (ports : List design.Port) (insts 
   pub mean : AllZip (λ u (j : design.End × ℕ). MeansEnd libs ports insts (bare u) j.0 × (j.1 ≡ place_of u)) ts js
   pub ends : bits js ≡ es
   pub distinct : AreDistinct (bits js)
-  pub count : length js ≤ 4194304
+  pub count : length js ≤ MOST_ENDS
 
 -- what is wrong with ends as a whole: two of one bit, or more ends than allowed
 abbrev pub EndsFault : List design.Lib → List design.Port → List design.Inst → List Placed → MeaningFault → Type 0
-EndsFault libs ports insts ts f = AtTwo (SameEnd libs ports insts f) ts ⊎ Beyond 4194304 ts f
+EndsFault libs ports insts ts f = AtTwo (SameEnd libs ports insts f) ts ⊎ Beyond MOST_ENDS ts f

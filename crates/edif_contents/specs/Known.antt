@@ -1,5 +1,5 @@
 -- What a file has defined so far.
-use Rattle.std.specs.Prelude.{◌≡◌, ℕ, List, [], ◌∷◌, ◌++◌, Option, None, Some, map}
+use Rattle.std.specs.Prelude.{◌≡◌, ℕ, List, [], ◌∷◌, ◌++◌, Option, None, Some}
 use Rattle.std.specs.List.{Contains}
 use Rattle.edif_spec.specs.Design as design
 use Rattle.edif_parts.specs.Names.{ids}

@@ -1,11 +1,12 @@
 -- What is read of nets.
-use Rattle.std.specs.Prelude.{◌≡◌, ◌≤◌, ◌⊎◌, ℕ, List, [], Option, Some, map, length}
+use Rattle.std.specs.Prelude.{◌≡◌, ◌≤◌, ◌⊎◌, List, [], Some, map, length}
 use Rattle.std.specs.List.{All, flat_map}
 use Rattle.spelling_spec.specs.Tree.{Bare, Placed, bare}
 use Rattle.netlist_schema.specs.Names.{AreDistinct, HasDistinctKeys}
 use Rattle.netlist_schema.specs.Typed.{IsTypedNet}
+use Rattle.netlist_schema.specs.declared.limits.TheConstants.{MOST_ENDS, MOST_NETS}
 use Rattle.edif_spec.specs.Design as design
-use Rattle.edif_spec.specs.Faults.{Among, AtTwo, Beyond, Repeats, defined, parts, those_of}
+use Rattle.edif_spec.specs.Faults.{Among, AtTwo, Beyond, Repeats, defined, parts}
 use Rattle.edif_spec.specs.Means.{MeansNet}
 use Rattle.edif_spec.specs.Rows.{Each, IsFormOf, those}
 use Rattle.edif_spec.specs.Stands.{NetFault, SameEnd, ends_in}
@@ -47,11 +48,11 @@ pub record ReadNets (s : Surroundings) (ts : List Placed) (ns : List design.Net)
   pub mean : Each (MeansNetIn s) (those keywords.Net (map bare ts)) ns
   pub fine : All IsFine ns
   pub names : AreDistinct (map (λ (n : design.Net). n.name.id) ns)
-  pub count : length ns ≤ 1048576
-  pub ends : length (flat_map (λ (n : design.Net). n.ends) ns) ≤ 4194304
+  pub count : length ns ≤ MOST_NETS
+  pub ends : length (flat_map (λ (n : design.Net). n.ends) ns) ≤ MOST_ENDS
   pub joined_once : AreDistinct (flat_map (λ (n : design.Net). n.ends) ns)
 
 -- what is wrong with nets: in one of them, a bit that is joined twice, a name that repeats, more nets or ends than allowed
 abbrev pub NetsFaultIn : Surroundings → List Placed → MeaningFault → Type 0
 NetsFaultIn s ts f = Among (NetFaultIn s) ts f ⊎ (AtTwo (SameEnd s.libs.now.libs s.ports.now s.insts.now f) (flat_map ends_in ts)
-    ⊎ (Repeats ts f ⊎ (Beyond 1048576 ts f ⊎ Beyond 4194304 (flat_map ends_in ts) f)))
+    ⊎ (Repeats ts f ⊎ (Beyond MOST_NETS ts f ⊎ Beyond MOST_ENDS (flat_map ends_in ts) f)))

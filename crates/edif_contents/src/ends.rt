@@ -10,8 +10,6 @@ ghost use Rattle.edif_spec.specs.Rows.{Perhaps, has_keyword, is_one_of};
 ghost use Rattle.edif_spec.specs.Stands.{BitFault, InstRefFault};
 ghost use Rattle.edif_spec.specs.declared.keyword.Keyword.TheVariants.{InstanceRef, Member, PortRef};
 ghost use Rattle.edif_tree.specs.Nodes.{IsAt, IsNode};
-ghost use Rattle.edif_spec.specs.declared.fault.MeaningFault.TheVariants.{At};
-ghost use Rattle.edif_parts.specs.declared.error.EdifError.TheVariants.{Fault};
 ghost use Rattle.edif_contents.specs.Ends.{AreNamed, EndFaultIn, MeansEndIn, ports_for};
 ghost use Rattle.edif_grammar.specs.Forms.{Stand};
 ghost use Rattle.edif_parts.specs.Names.{Tells, ids};
@@ -19,11 +17,12 @@ ghost use Rattle.edif_parts.specs.Reading.{Answers};
 
 use crate::known::Libraries;
 use crate::references::{Reference, read_reference, reference_at, resolve};
+use bus_members::width;
 use edif_names::Meant;
-use edif_parts::error::EdifError;
+use edif_parts::error::{EdifError, fault_at};
 use edif_parts::names::Names;
 use edif_parts::parts::{integer_at, read_parts};
-use edif_spec::{Keyword, Kind, MeaningFault};
+use edif_spec::{Keyword, Kind};
 use edif_tree::{NodeId, Shape, Tree};
 use netlist_schema::{End, Ident, Inst, Port};
 use std::alloc::Global;
@@ -50,13 +49,6 @@ pub struct Bit {
     pub port: u32,
     /// The place of the bit in the port.
     pub bit: u32,
-}
-
-/// A fault at one place.
-fn at(kind: Kind, place: u64) -> EdifError
-    ensures { result ≡ Fault (At kind place) }
-{
-    EdifError::Fault(MeaningFault::At { kind, place })
 }
 
 /// The place of the instance that a reference at a node means.
@@ -108,10 +100,7 @@ fn width_of(ports: &[Port], port: u32) -> u32
     ensures { result ≡ width_at ports.now port }
 {
     match ports.get(port as usize) {
-        Some(port) => match &port.array {
-            Some(width) => width.get(),
-            None => 1,
-        },
+        Some(port) => width(port),
         None => 0,
     }
 }
@@ -150,7 +139,7 @@ fn whole_port(around: &Surroundings, inst: Option<u32>, name: Reference) -> Resu
 {
     let port = resolve(port_meant(around, inst, name.name), name.place)?;
     if port_width(around, inst, port) != 1 {
-        return Err(at(Kind::WholeArray, name.place));
+        return Err(fault_at(Kind::WholeArray, name.place));
     }
     Ok(Bit { port, bit: 0 })
 }
@@ -174,7 +163,7 @@ fn read_member(
     let index = parts.fixed[1];
     match bit_below(integer_at(tree, index), port_width(around, inst, port)) {
         Some(bit) => Ok(Bit { port, bit }),
-        None => Err(at(Kind::BadIndex, tree.place(index))),
+        None => Err(fault_at(Kind::BadIndex, tree.place(index))),
     }
 }
 

@@ -11,16 +11,18 @@ ghost use Rattle.edif_contents.specs.Inners.{InstsFault, ReadInst, ReadInsts};
 ghost use Rattle.edif_parts.specs.Reading.{Answers};
 
 use crate::known::Libraries;
-use crate::limits::{MOST_INSIDE, room};
+use crate::limits::room;
 use crate::references::read_view_ref;
+use edif_grammar::is_form_of;
 use edif_parts::error::EdifError;
 use edif_parts::names::{Names, read_name};
-use edif_parts::parts::{is_form_of, read_parts};
+use edif_parts::parts::read_parts;
 use edif_parts::properties::read_properties;
 use edif_parts::texts::read_text_among;
 use edif_spec::Keyword;
 use edif_tree::{NodeId, Tree};
 use netlist_schema::Inst;
+use netlist_schema::limits::MOST_INSTS;
 use std::alloc::Global;
 
 /// An instance, and where its name stands.
@@ -84,7 +86,7 @@ pub fn read_insts(
     let mut list = Vec::new(alloc);
     for node in inner {
         if is_form_of(tree, *node, Keyword::Instance) {
-            room(list.len(), MOST_INSIDE, tree.place(*node))?;
+            room(list.len(), MOST_INSTS, tree.place(*node))?;
             let read = read_inst(alloc, tree, *node, libs, own)?;
             names.add(&read.inst.name.id, read.place)?;
             list.push(read.inst)?;

@@ -9,16 +9,14 @@ ghost use Rattle.edif_grammar.specs.Forms.{Stand};
 ghost use Rattle.edif_contents.specs.Joins.{AreJoined, EndsFault, IsTwice, Joined};
 ghost use Rattle.edif_parts.specs.Reading.{Answers, Names as FailsBy};
 
-use edif_parts::error::EdifError;
-use edif_spec::{ClashKind, MeaningFault};
+use edif_parts::error::{EdifError, clash, over_limit};
+use edif_spec::ClashKind;
 use edif_tree::{NodeId, Tree};
 use indexmap::IndexMap;
 use netlist_schema::End;
+use netlist_schema::limits::MOST_ENDS;
 use std::alloc::Global;
 use std::marker::Model;
-
-/// The most ends that contents may have.
-const MOST_ENDS: usize = 4_194_304;
 
 /// A bit, as a key.
 #[derive(Clone, Copy, PartialEq, Eq, Hash)]
@@ -71,11 +69,7 @@ impl Joins {
             bit: end.bit,
         };
         if let Some(earlier) = self.places.get(&key).copied() {
-            return Err(EdifError::Fault(MeaningFault::Clash {
-                kind: ClashKind::EndTwice,
-                place,
-                earlier,
-            }));
+            return Err(clash(ClashKind::EndTwice, place, earlier));
         }
         self.places.insert(key, place)?;
         Ok(())
@@ -98,10 +92,7 @@ pub fn join_ends(
     for (index, end) in ends.iter().enumerate() {
         let place = tree.place(nodes[index]);
         if joins.len() >= MOST_ENDS {
-            return Err(EdifError::Fault(MeaningFault::OverLimit {
-                limit: MOST_ENDS as u64,
-                place,
-            }));
+            return Err(over_limit(MOST_ENDS as u64, place));
         }
         joins.add(*end, place)?;
     }

@@ -3,11 +3,7 @@ ghost use Rattle.std.specs.Prelude.{◌≡◌, ◌<◌, ◌≤◌};
 ghost use Rattle.edif_spec.specs.declared.fault.MeaningFault.TheVariants.{OverLimit};
 ghost use Rattle.edif_parts.specs.Reading.{Answers};
 
-use edif_parts::error::EdifError;
-use edif_spec::MeaningFault;
-
-/// The most instances that contents may have, and the most nets.
-pub const MOST_INSIDE: usize = 1_048_576;
+use edif_parts::error::{EdifError, over_limit};
 
 /// Whether there is room for a form at this place, where so many stand before it; else it is the first beyond the limit.
 pub fn room(count: usize, limit: usize, place: u64) -> Result<(), EdifError>
@@ -16,9 +12,6 @@ pub fn room(count: usize, limit: usize, place: u64) -> Result<(), EdifError>
     if count < limit {
         Ok(())
     } else {
-        Err(EdifError::Fault(MeaningFault::OverLimit {
-            limit: limit as u64,
-            place,
-        }))
+        Err(over_limit(limit as u64, place))
     }
 }

@@ -14,13 +14,15 @@ ghost use Rattle.edif_parts.specs.Reading.{Answers};
 
 use crate::ends::{Surroundings, read_end};
 use crate::joins::{Joins, join_ends};
-use crate::limits::{MOST_INSIDE, room};
+use crate::limits::room;
+use edif_grammar::is_form_of;
 use edif_parts::error::EdifError;
 use edif_parts::names::{Names, read_name};
-use edif_parts::parts::{is_form_of, read_parts};
+use edif_parts::parts::read_parts;
 use edif_parts::properties::read_properties;
 use edif_spec::Keyword;
 use edif_tree::{NodeId, Tree};
+use netlist_schema::limits::MOST_NETS;
 use netlist_schema::{End, Net, Row};
 use std::alloc::Global;
 
@@ -127,7 +129,7 @@ pub fn read_nets(
     let mut nets = Vec::new(alloc);
     for node in inner {
         if is_form_of(tree, *node, Keyword::Net) {
-            room(nets.len(), MOST_INSIDE, tree.place(*node))?;
+            room(nets.len(), MOST_NETS, tree.place(*node))?;
             let read = read_net(alloc, tree, *node, around)?;
             join_ends(tree, read.ends, read.net.ends.as_slice(), &mut joins)?;
             names.add(&read.net.name.id, read.place)?;

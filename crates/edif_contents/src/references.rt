@@ -20,9 +20,9 @@ ghost use Rattle.edif_parts.specs.Reading.{Answers};
 
 use crate::known::Libraries;
 use edif_names::Meant;
-use edif_parts::error::EdifError;
-use edif_parts::parts::{bad_form, read_parts, word_at};
-use edif_spec::{Keyword, Kind, MeaningFault};
+use edif_parts::error::{EdifError, bad_form, fault_at};
+use edif_parts::parts::{read_parts, word_at};
+use edif_spec::{Keyword, Kind};
 use edif_tree::{NodeId, Tree};
 use netlist_schema::{CellId, Ident, LibId};
 use std::alloc::Global;
@@ -54,14 +54,8 @@ pub fn resolve(answer: Meant, place: u64) -> Result<u32, EdifError>
 {
     match answer {
         Meant::Found(id) => Ok(id),
-        Meant::Absent => Err(EdifError::Fault(MeaningFault::At {
-            kind: Kind::Unresolved,
-            place,
-        })),
-        Meant::Several => Err(EdifError::Fault(MeaningFault::At {
-            kind: Kind::Ambiguous,
-            place,
-        })),
+        Meant::Absent => Err(fault_at(Kind::Unresolved, place)),
+        Meant::Several => Err(fault_at(Kind::Ambiguous, place)),
     }
 }
 

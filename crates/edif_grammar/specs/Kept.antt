@@ -8,12 +8,12 @@ use Rattle.edif_spec.specs.declared.fault.Kind.TheVariants as kinds
 use Rattle.edif_spec.specs.declared.fault.MeaningFault.TheVariants as faults
 use Rattle.edif_tree.specs.Nodes.{Row}
 use Rattle.edif_grammar.specs.Forms.{Fails, Fits, Stand}
-use Rattle.edif_grammar.specs.declared.kept.FormParts.{FormParts}
+use Rattle.edif_grammar.specs.declared.form_parts.Form.{Form}
 use Rattle.edif_grammar.specs.declared.kept.EdifFormError.{EdifFormError}
 use Rattle.edif_grammar.specs.declared.kept.EdifFormError.TheVariants as errors
 
 -- The form fits, and these are its parts: its place, its fixed arguments, and what follows them.
-pub record Keeps (rows : List Row) (parent : Option Keyword) (t : Placed) (p : FormParts) : Type 0 where
+pub record Keeps (rows : List Row) (parent : Option Keyword) (t : Placed) (p : Form) : Type 0 where
   pub fits : Fits parent p.keyword t
   pub place : p.place ≡ place_of t
   pub fixed : Stand rows p.fixed (take (fixed_count (row p.keyword)) (arguments t))

@@ -13,7 +13,7 @@ ghost use Rattle.edif_grammar.specs.Checks.{ArgumentFits, FixedFits, OnceFits};
 ghost use Rattle.edif_spec.specs.Keyword.{Follower};
 
 use crate::lent::Breach;
-use crate::nodes::{argument_at, has_keyword, opened};
+use crate::nodes::{argument_at, is_form_of, opened};
 use crate::rules::{Inner, Rule, Wanted, may_follow, second_is_bad_form, tokens_apart};
 use edif_spec::Keyword;
 use edif_tree::{NodeId, Tree};
@@ -106,7 +106,7 @@ fn check_once<'a>(tree: &'a Tree, keyword: Keyword, nodes: &[NodeId]) -> Result<
 {
     let mut is_there = false;
     for node in nodes {
-        if !has_keyword(tree, *node, keyword) {
+        if !is_form_of(tree, *node, keyword) {
             continue;
         }
         if is_there {

@@ -5,24 +5,12 @@ ghost use Rattle.edif_tree.specs.Nodes.{IsAt, IsNode};
 ghost use Rattle.edif_grammar.specs.Kept.{Breaks, Keeps};
 ghost use Rattle.edif_grammar.specs.declared.kept.EdifFormError.TheVariants.{NoMemory};
 
+use crate::form_parts::Form;
 use crate::lent::{Breach, Parts, parts_of};
 use edif_spec::Keyword;
 use edif_tree::{NodeId, Tree};
 use netlist_schema::{Ident, NoMemory, Row};
 use std::alloc::{AllocError, Global};
-
-/// A form by its parts. Its nodes are good for its tree alone.
-#[derive(Debug, Drop)]
-pub struct FormParts {
-    /// Its keyword.
-    pub keyword: Keyword,
-    /// The number of bytes before its `(`.
-    pub place: u64,
-    /// Its fixed arguments, in order.
-    pub fixed: Row<NodeId>,
-    /// What follows them, in order.
-    pub inner: Row<NodeId>,
-}
 
 /// Why a form has no parts.
 #[derive(Debug, PartialEq, Eq, Drop)]
@@ -68,13 +56,13 @@ pub fn form(
     tree: &Tree,
     node: NodeId,
     parent: Option<Keyword>,
-) -> Result<FormParts, EdifFormError>
+) -> Result<Form, EdifFormError>
     requires { IsNode tree.now.rows node }
     ensures ok { (t : Placed) → IsAt tree.now.rows node t → IfOk result (λ p. Keeps tree.now.rows parent t p) }
     ensures err { (t : Placed) → IsAt tree.now.rows node t → IfErr result (λ e. Breaks parent t e) }
 {
     match parts_of(tree, node, parent) {
-        Ok(parts) => Ok(FormParts {
+        Ok(parts) => Ok(Form {
             keyword: parts.keyword,
             place: parts.place,
             fixed: Row::of(parts.fixed.to_vec(alloc)?),

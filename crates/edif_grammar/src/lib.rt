@@ -2,6 +2,7 @@
 #![tactic(auto)]
 
 mod checks;
+pub mod form_parts;
 pub mod kept;
 pub mod laws;
 pub mod lent;
@@ -9,10 +10,10 @@ mod nodes;
 mod rules;
 pub mod table;
 
-pub use kept::{EdifFormError, FormParts, form};
+pub use edif_spec::Keyword;
+pub use form_parts::Form;
+pub use kept::{EdifFormError, form};
 pub use laws::no_form_fits_and_fails;
 pub use lent::{Breach, Parts, parts_of};
+pub use nodes::is_form_of;
 pub use table::keyword;
-
-#[cfg(test)]
-mod tests;

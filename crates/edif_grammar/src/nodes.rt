@@ -53,8 +53,8 @@ pub fn argument_at(tree: &Tree, node: NodeId) -> Argument
     }
 }
 
-/// Whether the form at a node has this keyword.
-pub fn has_keyword(tree: &Tree, node: NodeId, keyword: Keyword) -> bool
+/// Whether a form with this keyword stands at a node. Takes no memory.
+pub fn is_form_of(tree: &Tree, node: NodeId, keyword: Keyword) -> bool
     requires { IsNode tree.now.rows node }
     ensures { (t : Placed) → IsAt tree.now.rows node t → result ≡ has_keyword keyword (bare t) }
 {

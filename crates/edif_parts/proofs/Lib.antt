@@ -1,5 +1,4 @@
 pub mod Answering
-pub mod Keywords
 pub mod NameForms
 pub mod NameLists
 pub mod NameTables
@@ -11,4 +10,3 @@ pub mod PropertyForms
 pub mod Steps
 pub mod TextLemmas
 pub mod ValueForms
-pub mod WordLemmas

@@ -1,18 +1,16 @@
--- The parts of a form, and the keyword that is read at a node.
-use Rattle.std.proofs.Common.{◌≡◌, ℕ, List, [], ◌∷◌, length, map, take, refl, sym, ap, ◌∙◌, subst, true, None, Some, get_or, Bor}
+-- The parts of a form.
+use Rattle.std.proofs.Common.{◌≡◌, List, [], ◌∷◌, length, map, take, refl, subst, true, Some, get_or}
 use Rattle.std.specs.Prelude.{slice_get}
-use Rattle.spelling_spec.specs.Tree.{Placed, Trees, Form', Word', Integer', String', End, More, bare}
-use Rattle.edif_spec.specs.Keyword.{row, Takes, Choice, Follower, keyword}
+use Rattle.spelling_spec.specs.Tree.{Placed, bare}
+use Rattle.edif_spec.specs.Keyword.{row, Takes, Choice, Follower}
 use Rattle.edif_spec.specs.Rows.{has_keyword, is_one_of, IsFormOf}
 use Rattle.edif_spec.specs.Faults.{arguments, followers, fixed_count, token_kind}
 use Rattle.edif_spec.specs.declared.keyword.Keyword.{Keyword}
 use Rattle.edif_spec.specs.declared.fault.Kind.TheVariants.{BadForm}
-use Rattle.edif_tree.specs.Nodes.{Row, IsAt, AreAt, ShapeIs}
+use Rattle.edif_tree.specs.Nodes.{Row, IsAt}
 use Rattle.edif_tree.specs.declared.node.NodeId.{NodeId}
-use Rattle.edif_tree.specs.declared.node.Shape.{Shape}
-use Rattle.edif_tree.specs.declared.node.Shape.TheVariants as shapes
 use Rattle.edif_grammar.specs.Forms.{HasParts, Fits, Stand}
-use Rattle.edif_parts.specs.Parts.{keyword_of, ArePartsOf}
+use Rattle.edif_parts.specs.Parts.{ArePartsOf}
 use Rattle.edif_grammar.specs.declared.lent.Parts.{Parts}
 use Rattle.edif_grammar.proofs.FormLemmas.{are_plain, fit1, fit2}
 use Rattle.edif_grammar.proofs.KeywordLemmas.{one_keyword}
@@ -26,65 +24,6 @@ parts_are rows parent k t p h a =
     let P : Keyword → Type 0 = λ v. Stand rows p.fixed.now (take (fixed_count (row v)) (arguments t)) in
     let Q : Keyword → Type 0 = λ v. Stand rows p.inner.now (followers v t) in
     record { keyword = e; fits = subst F e a.fits; place = a.place; fixed = subst P e a.fixed; inner = subst Q e a.inner }
-
--- a form without arguments has no keyword
-none_behind : (rows : List Row) (ids : List NodeId) (p : ℕ) (ts : Trees ℕ) → slice_get ids 0 ≡ None → AreAt rows ids ts → keyword_of (bare (Form' p ts)) ≡ None
-none_behind rows [] p End e h = refl
-none_behind rows [] p (More t ts) e h = absurd h
-none_behind rows (id ∷ ids) p ts e h = absurd (cc e)
-
-pub no_arguments : (rows : List Row) (ids : Bor (List NodeId)) (t : Placed) → slice_get ids.now 0 ≡ None → ShapeIs rows (shapes.Form ids) t → keyword_of (bare t) ≡ None
-no_arguments rows ids (Form' p ts) e h = none_behind rows ids.now p ts e h
-no_arguments rows ids (Word' p w) e h = absurd h
-no_arguments rows ids (Integer' p z) e h = absurd h
-no_arguments rows ids (String' p s) e h = absurd h
-
--- the first argument of a form
-pub record HasFirst (rows : List Row) (id : NodeId) (t : Placed) : Type 0 where
-  pub place : ℕ
-  pub first : Placed
-  pub rest : Trees ℕ
-  pub is : t ≡ Form' place (More first rest)
-  pub at : IsAt rows id first
-
-first_behind : (rows : List Row) (ids : List NodeId) (id : NodeId) (p : ℕ) (ts : Trees ℕ) → slice_get ids 0 ≡ Some id → AreAt rows ids ts → HasFirst rows id (Form' p ts)
-first_behind rows [] id p ts e h = absurd (cc e)
-first_behind rows (i ∷ ids) id p End e h = absurd h
-first_behind rows (i ∷ ids) id p (More t ts) e h = let s : i ≡ id = cc e in let P : NodeId → Type 0 = λ v. IsAt rows v t in record { place = p; first = t; rest = ts; is = refl; at = subst P s h.0 }
-
-pub first_argument : (rows : List Row) (ids : Bor (List NodeId)) (id : NodeId) (t : Placed) → slice_get ids.now 0 ≡ Some id → ShapeIs rows (shapes.Form ids) t → HasFirst rows id t
-first_argument rows ids id (Form' p ts) e h = first_behind rows ids.now id p ts e h
-first_argument rows ids id (Word' p w) e h = absurd h
-first_argument rows ids id (Integer' p z) e h = absurd h
-first_argument rows ids id (String' p s) e h = absurd h
-
--- the keyword behind a first word
-word_keyword : (rows : List Row) (name : Bor (List ℕ)) (p : ℕ) (t : Placed) (ts : Trees ℕ) → ShapeIs rows (shapes.Word name) t → keyword_of (bare (Form' p (More t ts))) ≡ keyword name.now
-word_keyword rows name p (Word' q w) ts h = ap keyword (sym h)
-word_keyword rows name p (Form' q us) ts h = absurd h
-word_keyword rows name p (Integer' q z) ts h = absurd h
-word_keyword rows name p (String' q s) ts h = absurd h
-
-pub word_first : (rows : List Row) (id : NodeId) (name : Bor (List ℕ)) (t : Placed) (a : HasFirst rows id t) → ShapeIs rows (shapes.Word name) a.first → keyword name.now ≡ keyword_of (bare t)
-word_first rows id name t a h = sym (ap (λ v. keyword_of (bare v)) a.is ∙ word_keyword rows name a.place a.first a.rest h)
-
-other_keyword : (rows : List Row) (s : Shape) (p : ℕ) (t : Placed) (ts : Trees ℕ) → ((name : Bor (List ℕ)) → s ≡ shapes.Word name → ⊥) → ShapeIs rows s t → keyword_of (bare (Form' p (More t ts))) ≡ None
-other_keyword rows (shapes.Word name) p t ts n h = absurd (n name refl)
-other_keyword rows (shapes.Form ids) p (Form' q us) ts n h = refl
-other_keyword rows (shapes.Form ids) p (Word' q us) ts n h = absurd h
-other_keyword rows (shapes.Form ids) p (Integer' q us) ts n h = absurd h
-other_keyword rows (shapes.Form ids) p (String' q us) ts n h = absurd h
-other_keyword rows (shapes.Integer z) p (Form' q us) ts n h = absurd h
-other_keyword rows (shapes.Integer z) p (Word' q us) ts n h = absurd h
-other_keyword rows (shapes.Integer z) p (Integer' q us) ts n h = refl
-other_keyword rows (shapes.Integer z) p (String' q us) ts n h = absurd h
-other_keyword rows (shapes.String s) p (Form' q us) ts n h = absurd h
-other_keyword rows (shapes.String s) p (Word' q us) ts n h = absurd h
-other_keyword rows (shapes.String s) p (Integer' q us) ts n h = absurd h
-other_keyword rows (shapes.String s) p (String' q us) ts n h = refl
-
-pub other_first : (rows : List Row) (id : NodeId) (s : Shape) (t : Placed) (a : HasFirst rows id t) → ((name : Bor (List ℕ)) → s ≡ shapes.Word name → ⊥) → ShapeIs rows s a.first → keyword_of (bare t) ≡ None
-other_first rows id s t a n h = ap (λ v. keyword_of (bare v)) a.is ∙ other_keyword rows s a.place a.first a.rest n h
 
 -- the node of the one fixed argument
 pub record OneNode (rows : List Row) (k : Keyword) (c : List Choice) (t : Placed) (p : Parts) : Type 0 where

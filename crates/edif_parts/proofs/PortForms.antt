@@ -13,6 +13,7 @@ use Rattle.edif_spec.specs.Means.{MeansName, MeansPortName, MeansDirection, Mean
 use Rattle.edif_spec.specs.Rows.{Perhaps, those, has_keyword, is_choice, is_one_of, IsFormOf}
 use Rattle.edif_spec.specs.Faults.{InPart, defined, name_of, followers, those_of}
 use Rattle.edif_spec.specs.Stands.{is_direction, DirectionFault, SizeFault}
+use Rattle.edif_spec.specs.Stands as stands
 use Rattle.edif_spec.specs.declared.fault.Kind.TheVariants.{BadForm, BadIndex}
 use Rattle.edif_spec.specs.declared.fault.MeaningFault.TheVariants.{At}
 use Rattle.edif_spec.specs.declared.keyword.Keyword.{Keyword}
@@ -36,7 +37,7 @@ direction_means rows t p n q w d e h =
     (w, subst P e (follow_none keywords.Direction (identifier ∷ []) (bare t) (bare n.a ∷ []) (map bare (followers keywords.Direction t)) refl n.form), h)
 
 pub direction_fault : (rows : List nodes.Row) (t : Placed) (p : Parts) (n : OneNode rows keywords.Direction identifier t p) (q : ℕ) (w : List ℕ) → n.a ≡ Word' q w → is_direction w ≡ false → DirectionFault t (At BadForm q)
-direction_fault rows t p n q w e h = inr (n.a, n.at_a, (w, q, e, h, refl))
+direction_fault rows t p n q w e h = stands.other_direction (n.a, n.at_a, (w, q, e, h, refl))
 
 pub no_direction : (w : List ℕ) (a b d : Bool) → a ≡ false → b ≡ false → d ≡ false → (a || (b || d)) ≡ false
 no_direction w a b d x y z = rw (x, y, z) refl
@@ -51,8 +52,7 @@ array_means rows t p n x q z width place k m y d e v w =
     let P : Placed → Type 0 = λ u. IsFormOf keywords.Array (bare t) (bare n.a ∷ bare u ∷ []) [] in
     let Q : ℤ → Type 0 = λ u. IsFormOf keywords.Array (bare t) (bare n.a ∷ integer u ∷ []) [] in
     let f : P n.b = follow_none keywords.Array (name_definition ∷ table.integer ∷ []) (bare t) (bare n.a ∷ bare n.b ∷ []) (map bare (followers keywords.Array t)) refl n.form in
-    let l : 1 ≤ width = w.0 in
-    record { means = (bare n.a, subst Q v (subst P e f), m, (omega arith), w.1); typed = y; width = w; at = array_names t n.a k n.at_a ∙ d }
+    record { means = (bare n.a, subst Q v (subst P e f), m, w); typed = y; width = w; at = array_names t n.a k n.at_a ∙ d }
 
 pub size_fault : (rows : List nodes.Row) (t : Placed) (p : Parts) (n : TwoNodes rows keywords.Array name_definition table.integer t p) (q : ℕ) (z : ℤ) → n.b ≡ Integer' q z → ((w : ℕ) → z ≡ pos w → IsWidth w → ⊥) → InPart 1 SizeFault t (At BadIndex q)
 size_fault rows t p n q z e h = (n.b, n.at_b, (z, q, e, h, refl))

@@ -12,6 +12,7 @@ use Rattle.edif_spec.specs.Means.{MeansBoolean, MeansNumber, MeansValue}
 use Rattle.edif_spec.specs.Rows.{has_keyword, is_choice, is_one_of, IsFormOf}
 use Rattle.edif_spec.specs.Faults.{followers}
 use Rattle.edif_spec.specs.Stands.{NumberFault}
+use Rattle.edif_spec.specs.Stands as stands
 use Rattle.edif_spec.specs.declared.keyword.Keyword.{Keyword}
 use Rattle.edif_spec.specs.declared.keyword.Keyword.TheVariants as keywords
 use Rattle.edif_spec.specs.declared.fault.Kind.TheVariants.{BadForm}
@@ -87,7 +88,7 @@ scaled_means rows t p n i j m x a b h =
     (subst (λ y. P (Integer' i m) y) b (subst (λ x. P x n.b) a f), h)
 
 pub exponent_fault : (rows : List nodes.Row) (t : Placed) (p : Parts) (n : TwoNodes rows keywords.E table.integer table.integer t p) (q : ℕ) (z : ℤ) → has_keyword keywords.E (bare t) ≡ true → n.b ≡ Integer' q z → (FitsSigned w32 z → ⊥) → NumberFault t (At BadForm q)
-exponent_fault rows t p n q z k b h = (k, inr (n.b, n.at_b, (z, q, b, h, refl)))
+exponent_fault rows t p n q z k b h = stands.scaled_exponent k (n.b, n.at_b, (z, q, b, h, refl))
 
 -- a value of no other kind is a string
 pub is_string : (t : Bare) → is_one_of value_forms t ≡ true → has_keyword keywords.Boolean t ≡ false → has_keyword keywords.Integer t ≡ false → has_keyword keywords.Number t ≡ false → has_keyword keywords.String t ≡ true

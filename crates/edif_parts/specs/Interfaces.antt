@@ -4,6 +4,7 @@ use Rattle.std.specs.List.{All}
 use Rattle.spelling_spec.specs.Tree.{Placed, bare}
 use Rattle.netlist_schema.specs.Design.{port_width}
 use Rattle.netlist_schema.specs.Names.{AreDistinct, HasDistinctKeys}
+use Rattle.netlist_schema.specs.declared.limits.TheConstants.{MOST_BITS, MOST_PORTS}
 use Rattle.netlist_schema.specs.Typed.{IsTypedPort, IsTypedProperty}
 use Rattle.edif_spec.specs.Design as design
 use Rattle.edif_spec.specs.Faults.{Among, Repeats, Beyond, BeyondBits, followers}
@@ -23,17 +24,17 @@ pub record ReadPorts (ts : List Placed) (p : Ports) : Type 0 where
   pub typed : All IsTypedPort p.ports
   pub port_keys : All (λ (p : design.Port). HasDistinctKeys p.properties) p.ports
   pub distinct : AreDistinct (design.port_ids p.ports)
-  pub count : length p.ports ≤ 65536
-  pub bits : sum_by port_width p.ports ≤ 1048576
+  pub count : length p.ports ≤ MOST_PORTS
+  pub bits : sum_by port_width p.ports ≤ MOST_BITS
   pub names : ids p.names ≡ design.port_ids p.ports
 
 -- in ports: in one of them, a name that repeats, more ports or bits than allowed
 abbrev pub PortsFault : List Placed → MeaningFault → Type 0
-PortsFault us f = Among PortFault us f ⊎ (Repeats us f ⊎ (Beyond 65536 us f ⊎ BeyondBits 1048576 0 us f))
+PortsFault us f = Among PortFault us f ⊎ (Repeats us f ⊎ (Beyond MOST_PORTS us f ⊎ BeyondBits MOST_BITS 0 us f))
 
 -- a port at a place passes a limit, behind so many others, where so many bits are its own and theirs
 abbrev pub PassesLimit : ℕ → ℕ → ℕ → MeaningFault → Type 0
-PassesLimit ports bits place f = ((65536 ≤ ports) × (f ≡ OverLimit 65536 place)) ⊎ ((1048576 < bits) × (f ≡ OverLimit 1048576 place))
+PassesLimit ports bits place f = ((MOST_PORTS ≤ ports) × (f ≡ OverLimit MOST_PORTS place)) ⊎ ((MOST_BITS < bits) × (f ≡ OverLimit MOST_BITS place))
 
 -- The ports and the properties that an interface means, and the names of the ports.
 pub record ReadInterface (t : Placed) (i : Interface) : Type 0 where
@@ -42,8 +43,8 @@ pub record ReadInterface (t : Placed) (i : Interface) : Type 0 where
   pub typed : All IsTypedPort i.ports
   pub port_keys : All (λ (p : design.Port). HasDistinctKeys p.properties) i.ports
   pub distinct : AreDistinct (design.port_ids i.ports)
-  pub count : length i.ports ≤ 65536
-  pub bits : sum_by port_width i.ports ≤ 1048576
+  pub count : length i.ports ≤ MOST_PORTS
+  pub bits : sum_by port_width i.ports ≤ MOST_BITS
   pub names : ids i.names ≡ design.port_ids i.ports
   pub properties : MeansProperties (map bare (followers keywords.Interface t)) i.properties
   pub typed_properties : All IsTypedProperty i.properties

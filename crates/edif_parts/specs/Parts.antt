@@ -1,18 +1,13 @@
--- The parts of a form whose keyword is known, and the keyword of a form.
-use Rattle.std.specs.Prelude.{◌≡◌, List, Bool, false, ◌||◌, Option, Some, None, take}
+-- The parts of a form whose keyword is known.
+use Rattle.std.specs.Prelude.{◌≡◌, List, Bool, false, ◌||◌, Some, take}
 use Rattle.std.specs.List.{list_any}
-use Rattle.spelling_spec.specs.Tree.{Bare, Placed, Form', Word', More}
-use Rattle.edif_spec.specs.Keyword.{spelling_of, same, keyword, row, Row, Takes, Skips, Choice, AForm, Follower, Many, One}
+use Rattle.spelling_spec.specs.Tree.{Placed}
+use Rattle.edif_spec.specs.Keyword.{spelling_of, same, row, Row, Takes, Skips, Choice, AForm, Follower, Many, One}
 use Rattle.edif_spec.specs.Faults.{arguments, followers, fixed_count, place_of}
 use Rattle.edif_spec.specs.declared.keyword.Keyword.{Keyword}
 use Rattle.edif_tree.specs.Nodes as nodes
 use Rattle.edif_grammar.specs.Forms.{Fits, Stand}
 use Rattle.edif_grammar.specs.declared.lent.Parts.{Parts}
-
--- the keyword of a form, none where the profile has no such form
-abbrev pub keyword_of : Bare → Option Keyword
-keyword_of (Form' p (More (Word' q name) ts)) = keyword name
-keyword_of _ = None
 
 -- a choice is the form with this keyword
 abbrev pub is_the : Keyword → Choice → Bool

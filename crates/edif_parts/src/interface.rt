@@ -1,6 +1,7 @@
 //! The interface of a cell: its ports, and properties of its own.
 ghost use Rattle.std.specs.Prelude.{◌≡◌, ◌<◌, ◌≤◌, IfErr, List, OnOk, true};
 ghost use Rattle.spelling_spec.specs.Tree.{Placed, bare};
+ghost use Rattle.netlist_schema.specs.declared.limits.TheConstants.{MOST_BITS, MOST_PORTS};
 ghost use Rattle.edif_spec.specs.Faults.{those_of};
 ghost use Rattle.edif_spec.specs.Rows.{has_keyword};
 ghost use Rattle.edif_spec.specs.Stands.{InterfaceFault};
@@ -10,22 +11,18 @@ ghost use Rattle.edif_grammar.specs.Forms.{Stand};
 ghost use Rattle.edif_parts.specs.Interfaces.{PassesLimit, PortsFault, ReadInterface, ReadPorts};
 ghost use Rattle.edif_parts.specs.Reading.{Answers, Names as FailsBy};
 
-use crate::error::EdifError;
+use crate::error::{EdifError, over_limit};
 use crate::names::Names;
-use crate::parts::{is_form_of, over_limit, read_parts};
+use crate::parts::read_parts;
 use crate::ports::read_port;
 use crate::properties::read_properties;
 use bus_members::width;
+use edif_grammar::is_form_of;
 use edif_spec::Keyword;
 use edif_tree::{NodeId, Tree};
+use netlist_schema::limits::{MOST_BITS, MOST_PORTS};
 use netlist_schema::{Port, Property, Row};
 use std::alloc::Global;
-
-/// The most ports of a cell.
-const PORTS: usize = 65_536;
-
-/// The most bits of a cell's ports.
-const BITS: u64 = 1_048_576;
 
 /// What an interface says.
 #[derive(Drop)]
@@ -86,14 +83,14 @@ fn read_ports(alloc: Global, tree: &Tree, inner: &[NodeId]) -> Result<Ports, Edi
 
 /// Whether a port at a place is within the limits, behind so many others, where so many bits are its own and theirs.
 fn within_limits(ports: usize, bits: u64, place: u64) -> Result<(), EdifError>
-    ensures ok { OnOk result ((ports < 65536) × (bits ≤ 1048576)) }
+    ensures ok { OnOk result ((ports < MOST_PORTS) × (bits ≤ MOST_BITS)) }
     ensures err { IfErr result (FailsBy (PassesLimit ports bits place)) }
 {
-    if ports >= PORTS {
-        return Err(over_limit(PORTS as u64, place));
+    if ports >= MOST_PORTS {
+        return Err(over_limit(MOST_PORTS as u64, place));
     }
-    if bits > BITS {
-        return Err(over_limit(BITS, place));
+    if bits > MOST_BITS {
+        return Err(over_limit(MOST_BITS, place));
     }
     Ok(())
 }

@@ -12,10 +12,10 @@ ghost use Rattle.edif_tree.specs.Nodes.{IsAt, IsNode};
 ghost use Rattle.edif_parts.specs.Names.{DefinesName, IsAgain, Tells, ids};
 ghost use Rattle.edif_parts.specs.Reading.{Answers, Names as FailsBy};
 
-use crate::error::EdifError;
+use crate::error::{EdifError, clash};
 use crate::parts::{read_parts, string_at, word_at};
 use edif_names::{Defined, Meant, Scope};
-use edif_spec::{ClashKind, Keyword, MeaningFault};
+use edif_spec::{ClashKind, Keyword};
 use edif_tree::{NodeId, Shape, Tree};
 use netlist_schema::{Copied, Ident, Name, NoMemory};
 use std::alloc::Global;
@@ -121,11 +121,7 @@ impl Names {
     {
         match self.define(name, place)? {
             None => Ok(()),
-            Some(earlier) => Err(EdifError::Fault(MeaningFault::Clash {
-                kind: ClashKind::Duplicate,
-                place,
-                earlier,
-            })),
+            Some(earlier) => Err(clash(ClashKind::Duplicate, place, earlier)),
         }
     }
 

@@ -1,4 +1,4 @@
-//! The parts of a form whose keyword is known, the keyword of a form, and tokens in their places.
+//! The parts of a form whose keyword is known, and tokens in their places.
 ghost use Rattle.std.specs.Prelude.{◌≡◌, FitsSigned, IsTrue, true};
 ghost use Rattle.std.specs.Int.{w64};
 ghost use Rattle.spelling_spec.specs.Tree.{Placed, Word', Integer', String', bare};
@@ -7,16 +7,13 @@ ghost use Rattle.netlist_schema.specs.Typed.{IsBytes};
 ghost use Rattle.edif_spec.specs.Faults.{RowFault, place_of};
 ghost use Rattle.edif_spec.specs.Keyword.{AnIdentifier, AnInteger, AString, row, same};
 ghost use Rattle.edif_spec.specs.Rows.{has_keyword, is_choice};
-ghost use Rattle.edif_spec.specs.declared.fault.Kind.TheVariants.{BadForm};
-ghost use Rattle.edif_spec.specs.declared.fault.MeaningFault.TheVariants.{At, OverLimit};
 ghost use Rattle.edif_tree.specs.Nodes.{IsAt, IsNode};
-ghost use Rattle.edif_parts.specs.Parts.{ArePartsOf, holds, keyword_of};
+ghost use Rattle.edif_parts.specs.Parts.{ArePartsOf, holds};
 ghost use Rattle.edif_parts.specs.Reading.{Answers};
-ghost use Rattle.edif_parts.specs.declared.error.EdifError.TheVariants.{Fault};
 
-use crate::error::EdifError;
-use edif_grammar::{Breach, Parts, keyword, parts_of};
-use edif_spec::{Keyword, Kind, MeaningFault};
+use crate::error::{EdifError, bad_form};
+use edif_grammar::{Breach, Parts, parts_of};
+use edif_spec::{Keyword, MeaningFault};
 use edif_tree::{NodeId, Shape, Tree};
 use netlist_schema::{Ident, Text};
 use std::alloc::Global;
@@ -41,51 +38,6 @@ pub fn read_parts(
             Err(EdifError::Fault(MeaningFault::NotInProfile { keyword, place }))
         }
         Err(Breach::BadForm { place }) => Err(bad_form(place)),
-    }
-}
-
-/// A bad form at a place.
-pub fn bad_form(place: u64) -> EdifError
-    ensures { result ≡ Fault (At BadForm place) }
-{
-    EdifError::Fault(MeaningFault::At {
-        kind: Kind::BadForm,
-        place,
-    })
-}
-
-/// The error of a form beyond a limit.
-pub fn over_limit(limit: u64, place: u64) -> EdifError
-    ensures { result ≡ Fault (OverLimit limit place) }
-{
-    EdifError::Fault(MeaningFault::OverLimit { limit, place })
-}
-
-/// The keyword of the form at a node: none where a token stands there, or a form that the profile does not have. Takes no memory.
-pub fn keyword_at(tree: &Tree, node: NodeId) -> Option<Keyword>
-    requires { IsNode tree.now.rows node }
-    ensures { (t : Placed) → IsAt tree.now.rows node t → result ≡ keyword_of (bare t) }
-{
-    let Shape::Form(arguments) = tree.shape(node) else {
-        return None;
-    };
-    let Some(first) = arguments.first() else {
-        return None;
-    };
-    match tree.shape(*first) {
-        Shape::Word(name) => keyword(name),
-        _ => None,
-    }
-}
-
-/// Whether a form with this keyword stands at a node. Takes no memory.
-pub fn is_form_of(tree: &Tree, node: NodeId, keyword: Keyword) -> bool
-    requires { IsNode tree.now.rows node }
-    ensures { (t : Placed) → IsAt tree.now.rows node t → result ≡ has_keyword keyword (bare t) }
-{
-    match keyword_at(tree, node) {
-        Some(found) => found == keyword,
-        None => false,
     }
 }
 

@@ -1,27 +1,28 @@
 //! The ports of an interface.
-ghost use Rattle.std.specs.Prelude.{◌≡◌, ◌≤◌, ◌⊎◌, IfNone, IfSome, IsTrue, List, Some, length, map, pos, false, true, ℕ};
+ghost use Rattle.std.specs.Prelude.{◌≡◌, ◌≤◌, IfNone, IfSome, IsTrue, List, Some, length, map, pos, false, true, ℕ};
 ghost use Rattle.spelling_spec.specs.Tree.{Placed, bare};
 ghost use Rattle.netlist_schema.specs.Names.{HasDistinctKeys};
 ghost use Rattle.netlist_schema.specs.Typed.{IsTypedPort};
 ghost use Rattle.netlist_schema.specs.Width.{IsWidth};
 ghost use Rattle.edif_spec.specs.Canonical.{direction_word};
-ghost use Rattle.edif_spec.specs.Faults.{Among, InPart, RowFault, defined, those_of};
+ghost use Rattle.edif_spec.specs.Faults.{Among, defined, those_of};
 ghost use Rattle.edif_spec.specs.Keyword.{same};
 ghost use Rattle.edif_spec.specs.Means.{MeansDirection, MeansPort};
 ghost use Rattle.edif_spec.specs.Rows.{Perhaps, has_keyword, is_one_of, those};
-ghost use Rattle.edif_spec.specs.Stands.{DirectionFault, NameFault, PortFault, PortNameFault, SizeFault, is_direction};
+ghost use Rattle.edif_spec.specs.Stands.{DirectionFault, PortFault, PortNameFault, is_direction};
 ghost use Rattle.edif_spec.specs.declared.keyword.Keyword.TheVariants.{Array as ArrayWord, Direction as DirectionWord, Port as PortWord};
 ghost use Rattle.edif_tree.specs.Nodes.{IsAt, IsNode};
 ghost use Rattle.edif_grammar.specs.Forms.{Stand};
 ghost use Rattle.edif_parts.specs.Ports.{ReadPortName, port_names};
 ghost use Rattle.edif_parts.specs.Reading.{Answers};
 
-use crate::error::EdifError;
+use crate::error::{EdifError, bad_form, fault_at};
 use crate::names::{NameAt, read_name};
-use crate::parts::{bad_form, integer_at, is_form_of, is_word, read_parts, word_at};
+use crate::parts::{integer_at, is_word, read_parts, word_at};
 use crate::properties::read_properties;
 use crate::texts::read_text_among;
-use edif_spec::{Keyword, Kind, MeaningFault};
+use edif_grammar::is_form_of;
+use edif_spec::{Keyword, Kind};
 use edif_tree::{NodeId, Tree};
 use netlist_schema::{Direction, Ident, Name, Port, Width};
 use std::alloc::Global;
@@ -90,16 +91,13 @@ fn read_port_name(alloc: Global, tree: &Tree, node: NodeId) -> Result<PortName, 
 fn read_array(alloc: Global, tree: &Tree, node: NodeId) -> Result<PortName, EdifError>
     requires node { IsNode tree.now.rows node }
     requires keyword { (t : Placed) → IsAt tree.now.rows node t → has_keyword ArrayWord (bare t) ≡ true }
-    ensures { (t : Placed) → IsAt tree.now.rows node t → Answers (ReadPortName t) (λ f. RowFault ArrayWord t f ⊎ (InPart 0 NameFault t f ⊎ InPart 1 SizeFault t f)) result }
+    ensures { (t : Placed) → IsAt tree.now.rows node t → Answers (ReadPortName t) (PortNameFault t) result }
 {
     let parts = read_parts(alloc, tree, node, Keyword::Port, Keyword::Array)?;
     let size = parts.fixed[1];
     let NameAt { name, place } = read_name(alloc, tree, parts.fixed[0])?;
     let Some(width) = width_of(integer_at(tree, size)) else {
-        return Err(EdifError::Fault(MeaningFault::At {
-            kind: Kind::BadIndex,
-            place: tree.place(size),
-        }));
+        return Err(fault_at(Kind::BadIndex, tree.place(size)));
     };
     Ok(PortName {
         name,

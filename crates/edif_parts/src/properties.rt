@@ -15,9 +15,10 @@ ghost use Rattle.edif_parts.specs.Reading.{Answers};
 
 use crate::error::EdifError;
 use crate::names::{NameAt, Names, read_name};
-use crate::parts::{is_form_of, read_parts};
+use crate::parts::read_parts;
 use crate::texts::read_text_among;
 use crate::values::read_value;
+use edif_grammar::is_form_of;
 use edif_spec::Keyword;
 use edif_tree::{NodeId, Tree};
 use netlist_schema::{Property, Row};

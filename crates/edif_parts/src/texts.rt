@@ -14,7 +14,8 @@ ghost use Rattle.edif_parts.specs.Reading.{Answers};
 ghost use Rattle.edif_parts.specs.Texts.{IsTextForm};
 
 use crate::error::EdifError;
-use crate::parts::{is_form_of, read_parts, string_at};
+use crate::parts::{read_parts, string_at};
+use edif_grammar::is_form_of;
 use edif_spec::Keyword;
 use edif_tree::{NodeId, Tree};
 use netlist_schema::{Copied, Text};

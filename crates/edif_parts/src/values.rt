@@ -1,21 +1,21 @@
 //! The values of properties.
-ghost use Rattle.std.specs.Prelude.{◌≡◌, ◌⊎◌, FitsSigned, IsTrue, true};
+ghost use Rattle.std.specs.Prelude.{◌≡◌, FitsSigned, IsTrue, true};
 ghost use Rattle.std.specs.Int.{w64};
 ghost use Rattle.spelling_spec.specs.Tree.{Placed, bare};
 ghost use Rattle.netlist_schema.specs.Typed.{IsTypedNum, IsTypedValue};
 ghost use Rattle.netlist_schema.specs.declared.property.Value.TheVariants as values;
-ghost use Rattle.edif_spec.specs.Faults.{InPart, RowFault};
 ghost use Rattle.edif_spec.specs.Means.{MeansNumber, MeansValue};
 ghost use Rattle.edif_spec.specs.Rows.{has_keyword, is_one_of};
-ghost use Rattle.edif_spec.specs.Stands.{BooleanFault, InValue, NumberFault};
+ghost use Rattle.edif_spec.specs.Stands.{InValue, NumberFault};
 ghost use Rattle.edif_spec.specs.declared.keyword.Keyword.TheVariants.{Boolean as BooleanWord, E as ScaledWord, Integer as IntegerWord, Number as NumberWord};
 ghost use Rattle.edif_tree.specs.Nodes.{IsAt, IsNode};
 ghost use Rattle.edif_parts.specs.Reading.{Answers};
 ghost use Rattle.edif_parts.specs.Values.{value_forms};
 
-use crate::error::EdifError;
-use crate::parts::{bad_form, integer_at, is_form_of, read_parts};
+use crate::error::{EdifError, bad_form};
+use crate::parts::{integer_at, read_parts};
 use crate::texts::read_text;
+use edif_grammar::is_form_of;
 use edif_spec::Keyword;
 use edif_tree::{NodeId, Tree};
 use netlist_schema::{Num, Value};
@@ -47,7 +47,7 @@ pub fn read_value(alloc: Global, tree: &Tree, node: NodeId) -> Result<Value, Edi
 fn read_boolean(alloc: Global, tree: &Tree, node: NodeId) -> Result<bool, EdifError>
     requires node { IsNode tree.now.rows node }
     requires keyword { (t : Placed) → IsAt tree.now.rows node t → has_keyword BooleanWord (bare t) ≡ true }
-    ensures { (t : Placed) → IsAt tree.now.rows node t → Answers (λ b. MeansValue (bare t) (values.Boolean b)) (λ f. RowFault BooleanWord t f ⊎ InPart 0 BooleanFault t f) result }
+    ensures { (t : Placed) → IsAt tree.now.rows node t → Answers (λ b. MeansValue (bare t) (values.Boolean b)) (InValue t) result }
 {
     let parts = read_parts(alloc, tree, node, Keyword::Property, Keyword::Boolean)?;
     let truth = parts.fixed[0];
@@ -64,7 +64,7 @@ fn read_boolean(alloc: Global, tree: &Tree, node: NodeId) -> Result<bool, EdifEr
 fn read_integer(alloc: Global, tree: &Tree, node: NodeId) -> Result<i64, EdifError>
     requires node { IsNode tree.now.rows node }
     requires keyword { (t : Placed) → IsAt tree.now.rows node t → has_keyword IntegerWord (bare t) ≡ true }
-    ensures { (t : Placed) → IsAt tree.now.rows node t → Answers (λ z. MeansValue (bare t) (values.Integer z) × FitsSigned w64 z) (RowFault IntegerWord t) result }
+    ensures { (t : Placed) → IsAt tree.now.rows node t → Answers (λ z. MeansValue (bare t) (values.Integer z) × FitsSigned w64 z) (InValue t) result }
 {
     let parts = read_parts(alloc, tree, node, Keyword::Property, Keyword::Integer)?;
     Ok(integer_at(tree, parts.fixed[0]))
@@ -74,7 +74,7 @@ fn read_integer(alloc: Global, tree: &Tree, node: NodeId) -> Result<i64, EdifErr
 fn read_number(alloc: Global, tree: &Tree, node: NodeId) -> Result<Num, EdifError>
     requires node { IsNode tree.now.rows node }
     requires keyword { (t : Placed) → IsAt tree.now.rows node t → has_keyword NumberWord (bare t) ≡ true }
-    ensures { (t : Placed) → IsAt tree.now.rows node t → Answers (λ n. MeansValue (bare t) (values.Number n) × IsTypedNum n) (λ f. RowFault NumberWord t f ⊎ InPart 0 NumberFault t f) result }
+    ensures { (t : Placed) → IsAt tree.now.rows node t → Answers (λ n. MeansValue (bare t) (values.Number n) × IsTypedNum n) (InValue t) result }
 {
     let parts = read_parts(alloc, tree, node, Keyword::Property, Keyword::Number)?;
     let number = parts.fixed[0];

@@ -19,9 +19,9 @@ use Rattle.netlist_schema.proofs.Ranks.{valid_is_ranked}
 use Rattle.edif_spec.specs.Arranged.{first_ready, order_from, order_of, orders_from, place_in, new_id, new_inst, new_contents, new_cell, new_top, new_cells, new_libs, arranged}
 use Rattle.edif_spec.specs.Defined.{AllAfter}
 use Rattle.edif_spec.specs.Design as design
-use Rattle.edif_spec.proofs.CellPlaces.{get_below, some_of, some_and, lib_of_cell, all_from_places}
-use Rattle.edif_spec.proofs.Ready.{StepReady, order_covers, order_ready}
-use Rattle.edif_spec.proofs.WholeOrder.{IsNew, new_after, valid_rank, id_at, cell_found}
+use Rattle.edif_spec.proofs.CellPlaces.{get_below, some_of, some_and, lib_of_cell, all_from_places, cell_found}
+use Rattle.order_spec.proofs.Ready.{StepReady, order_covers, order_ready}
+use Rattle.order_spec.proofs.WholeOrder.{IsNew, new_after, valid_rank, id_at}
 
 -- each slot of the order has a cell
 abbrev pub AllThere : List design.CellBody → List ℕ → Type 0

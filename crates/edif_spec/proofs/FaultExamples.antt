@@ -6,6 +6,7 @@ use Rattle.spelling_spec.specs.Tree.{Placed, Word', Integer', bare, word, form, 
 use Rattle.edif_spec.specs.Means.{MeansPort, MeansEnd, MeansCell, MeansCellRef, MeansLibrary}
 use Rattle.edif_spec.specs.Faults.{those_of, BeyondBits}
 use Rattle.edif_spec.specs.Stands.{Stands, libraries}
+use Rattle.edif_spec.specs.Stands as stands
 use Rattle.edif_spec.specs.declared.keyword.Keyword.TheVariants as keywords
 use Rattle.edif_spec.specs.Examples
 use Rattle.edif_spec.specs.Design as design
@@ -16,13 +17,13 @@ use Rattle.edif_spec.specs.declared.fault.ClashKind.TheVariants.{SecondView, Sec
 use Rattle.edif_spec.specs.declared.fault.MeaningFault.TheVariants.{NotInProfile, At, Clash, OverLimit}
 
 pub bad_version_stands : Stands Examples.bad_version (At BadVersion 25)
-bad_version_stands = inr (inr (inr (inl (Examples.bad_version_8, refl, inr (inr (inr (Integer' 25 (pos 1), refl, (pos 1, 25, refl, (λ e. absurd (cc e)), refl))))))))
+bad_version_stands = stands.in_file refl (stands.edif_version (Examples.bad_version_8, refl, refl, stands.third_number (Integer' 25 (pos 1), refl, (pos 1, 25, refl, (λ e. absurd (cc e)), refl))))
 
 pub bad_level_stands : Stands Examples.bad_level (At BadLevel 39)
-bad_level_stands = inr (inr (inr (inr (inl (Examples.bad_level_28, refl, inr (Integer' 39 (pos 1), refl, (pos 1, 39, refl, (λ e. absurd (cc e)), refl)))))))
+bad_level_stands = stands.in_file refl (stands.edif_level (Examples.bad_level_28, refl, refl, stands.other_level (Integer' 39 (pos 1), refl, (pos 1, 39, refl, (λ e. absurd (cc e)), refl))))
 
 pub two_libraries_stands : Stands Examples.two_libraries (Clash Duplicate 120 81)
-two_libraries_stands = inr (inr (inr (inr (inr (inr (inr (inl (inl (inl (codes "w", 81, 120, refl, refl, refl))))))))))
+two_libraries_stands = stands.in_file refl (stands.library_again (inl (inl (codes "w", 81, 120, refl, refl, refl))))
 
 -- in the first cell of the library `w`
 abbrev head : design.LibHead
@@ -32,19 +33,19 @@ abbrev scope : List design.Lib
 scope = record { head = head; cells = [] } ∷ []
 
 pub other_view_type_stands : Stands Examples.other_view_type (At NotNetlist 155)
-other_view_type_stands = inr (inr (inr (inr (inr (inr (inl (inl (inr (inr (inr (inr (inl (Word' 81 (codes "w"), head, refl, inl (refl, refl), refl, inl (inr (inr (inr (inl (inl (inr (inr (inl (Examples.other_view_type_145, refl, inr (Word' 155 (codes "BEHAVIOR"), refl, (codes "BEHAVIOR", 155, refl, refl, refl))))))))))))))))))))))))
+other_view_type_stands = stands.in_file refl (stands.edif_library (inl (stands.library_cells (record { name_part = Word' 81 (codes "w"); head = head; there = refl; name = inl (refl, refl); external = refl; fault = inl (stands.cell_view (inl (stands.view_type (Examples.other_view_type_145, refl, refl, stands.other_view_type (Word' 155 (codes "BEHAVIOR"), refl, (codes "BEHAVIOR", 155, refl, refl, refl)))))) }))))
 
 pub two_views_stands : Stands Examples.two_views (Clash SecondView 177 137)
-two_views_stands = inr (inr (inr (inr (inr (inr (inl (inl (inr (inr (inr (inr (inl (Word' 81 (codes "w"), head, refl, inl (refl, refl), refl, inl (inl (inr (inr (inl (inl (inl refl)))))))))))))))))))
+two_views_stands = stands.in_file refl (stands.edif_library (inl (stands.library_cells (record { name_part = Word' 81 (codes "w"); head = head; there = refl; name = inl (refl, refl); external = refl; fault = inl (stands.cell_row (inr (inr (inl (inl (inl refl)))))) }))))
 
 pub port_bundle_stands : Stands Examples.port_bundle (NotInProfile (codes "portBundle") 175)
-port_bundle_stands = inr (inr (inr (inr (inr (inr (inl (inl (inr (inr (inr (inr (inl (Word' 81 (codes "w"), head, refl, inl (refl, refl), refl, inl (inr (inr (inr (inl (inl (inr (inr (inr (inl (Examples.port_bundle_164, refl, inl (inr (inl (inl (refl, refl)))))))))))))))))))))))))))
+port_bundle_stands = stands.in_file refl (stands.edif_library (inl (stands.library_cells (record { name_part = Word' 81 (codes "w"); head = head; there = refl; name = inl (refl, refl); external = refl; fault = inl (stands.cell_view (inl (stands.view_interface (Examples.port_bundle_164, refl, refl, stands.interface_row (inr (inl (inl (refl, refl)))))))) }))))
 
 too_big : ¬ FitsSigned w32 (pos 2147483648)
 too_big h = let l = h.sfits in omega arith
 
 pub large_exponent_stands : Stands Examples.large_exponent (At BadForm 201)
-large_exponent_stands = inr (inr (inr (inr (inr (inr (inl (inl (inr (inr (inr (inr (inl (Word' 81 (codes "w"), head, refl, inl (refl, refl), refl, inl (inr (inr (inr (inl (inl (inr (inr (inr (inr (inr (inl (inl (inr (inr (inl (Examples.large_exponent_188, refl, inr (inr (inl (refl, inr (Examples.large_exponent_196, refl, (refl, inr (Integer' 201 (pos 2147483648), refl, (pos 2147483648, 201, refl, too_big, refl))))))))))))))))))))))))))))))))))))
+large_exponent_stands = stands.in_file refl (stands.edif_library (inl (stands.library_cells (record { name_part = Word' 81 (codes "w"); head = head; there = refl; name = inl (refl, refl); external = refl; fault = inl (stands.cell_view (inl (stands.view_properties (stands.one_property (inl (stands.property_value (Examples.large_exponent_188, refl, stands.number_scaled refl (Examples.large_exponent_196, refl, stands.scaled_exponent refl (Integer' 201 (pos 2147483648), refl, (pos 2147483648, 201, refl, too_big, refl)))))))))) }))))
 
 -- a scalar port `p`
 abbrev port : design.Port
@@ -60,10 +61,10 @@ end_means : MeansEnd scope (port ∷ []) [] (form (word (codes "portRef") ∷ wo
 end_means = record { bit_part = word (codes "p"); inner = []; form = record { spelled = codes "portRef"; is = refl; keyword = refl; fits = ((refl, tt), refl, (omega arith, tt)) }; inst = tt; bit = inl (codes "p", refl, refl, refl, refl) }
 
 pub joined_twice_stands : Stands Examples.joined_twice (Clash EndTwice 222 210)
-joined_twice_stands = inr (inr (inr (inr (inr (inr (inl (inl (inr (inr (inr (inr (inl (Word' 81 (codes "w"), head, refl, inl (refl, refl), refl, inl (inr (inr (inr (inl (inl (inr (inr (inr (inr (inl (Examples.joined_twice_164, port ∷ [], refl, (port_means, tt), inl (inr (inr (inl (inr ([], tt, inr (inl (inl (end, end_means, end_means, refl))))))))))))))))))))))))))))))))
+joined_twice_stands = stands.in_file refl (stands.edif_library (inl (stands.library_cells (record { name_part = Word' 81 (codes "w"); head = head; there = refl; name = inl (refl, refl); external = refl; fault = inl (stands.cell_view (inl (stands.view_contents (record { interface = Examples.joined_twice_164; ports = port ∷ []; there = refl; is_interface = refl; means = (port_means, tt); fault = inl (stands.contents_nets (stands.end_again [] tt (inl (inl (end, end_means, end_means, refl))))) })))) }))))
 
 pub later_cell_stands : Stands Examples.later_cell (At Unresolved 218)
-later_cell_stands = inr (inr (inr (inr (inr (inr (inl (inl (inr (inr (inr (inr (inl (Word' 81 (codes "w"), head, refl, inl (refl, refl), refl, inl (inr (inr (inr (inl (inl (inr (inr (inr (inr (inl (Examples.two_views_164, [], refl, tt, inl (inr (inl (inl (inr (inr (inl (Examples.later_cell_198, refl, inr (inl (Examples.later_cell_209, refl, inr (inr (inl (0, refl, (Word' 218 (codes "z"), refl, (codes "z", 218, refl, inl (refl, refl)))))))))))))))))))))))))))))))))))))))
+later_cell_stands = stands.in_file refl (stands.edif_library (inl (stands.library_cells (record { name_part = Word' 81 (codes "w"); head = head; there = refl; name = inl (refl, refl); external = refl; fault = inl (stands.cell_view (inl (stands.view_contents (record { interface = Examples.two_views_164; ports = []; there = refl; is_interface = refl; means = tt; fault = inl (stands.contents_inst (inl (stands.inst_view (Examples.later_cell_198, refl, refl, stands.view_ref_cell (Examples.later_cell_209, refl, refl, stands.cell_ref_name 0 refl (Word' 218 (codes "z"), refl, (codes "z", 218, refl, inl (refl, refl)))))))) })))) }))))
 
 -- an array port `d` of 4 bits
 abbrev wide : design.Port
@@ -74,7 +75,7 @@ wide_means = record {
   name_part = bare Examples.whole_array_181;
   inner = bare Examples.whole_array_211 ∷ [];
   form = record { spelled = codes "port"; is = refl; keyword = refl; fits = ((refl, tt), refl, (omega arith, (omega arith, tt))) };
-  name = (bare Examples.whole_array_188, record { spelled = codes "array"; is = refl; keyword = refl; fits = ((refl, (refl, tt)), refl, tt) }, inr (codes "d[3:0]", record { spelled = codes "rename"; is = refl; keyword = refl; fits = ((refl, (refl, tt)), refl, tt) }, refl), omega arith, omega arith);
+  name = (bare Examples.whole_array_188, record { spelled = codes "array"; is = refl; keyword = refl; fits = ((refl, (refl, tt)), refl, tt) }, inr (codes "d[3:0]", record { spelled = codes "rename"; is = refl; keyword = refl; fits = ((refl, (refl, tt)), refl, tt) }, refl), (omega arith, omega arith));
   direction = (codes "OUTPUT", record { spelled = codes "direction"; is = refl; keyword = refl; fits = ((refl, tt), refl, tt) }, refl);
   designator = tt;
   properties = tt;
@@ -84,10 +85,10 @@ not_below : (n : ℕ) → pos 4 ≡ pos n → n < 4 → ⊥
 not_below n e l = let q : 4 ≡ n = cc e in omega (arith, q, l)
 
 pub whole_array_stands : Stands Examples.whole_array (At WholeArray 266)
-whole_array_stands = inr (inr (inr (inr (inr (inr (inl (inl (inr (inr (inr (inr (inl (Word' 81 (codes "w"), head, refl, inl (refl, refl), refl, inl (inr (inr (inr (inl (inl (inr (inr (inr (inr (inl (Examples.whole_array_164, wide ∷ [], refl, (wide_means, tt), inl (inr (inr (inl (inr ([], tt, inl (inl (inr (inr (inl (Examples.whole_array_249, refl, inr (inl (inr (inr (None, tt, (Word' 266 (codes "d"), refl, inr (inl (codes "d", 266, 0, refl, refl, (λ e. absurd (omega (arith, e))), refl)))))))))))))))))))))))))))))))))))))))))
+whole_array_stands = stands.in_file refl (stands.edif_library (inl (stands.library_cells (record { name_part = Word' 81 (codes "w"); head = head; there = refl; name = inl (refl, refl); external = refl; fault = inl (stands.cell_view (inl (stands.view_contents (record { interface = Examples.whole_array_164; ports = wide ∷ []; there = refl; is_interface = refl; means = (wide_means, tt); fault = inl (stands.contents_nets (stands.one_net [] tt (inl (stands.net_joined (Examples.whole_array_249, refl, refl, stands.joined_end (inl (stands.end_bit None tt (Word' 266 (codes "d"), refl, stands.bit_whole (record { spelled = codes "d"; place = 266; port = 0; is = refl; means = refl; wide = λ e. absurd (omega (arith, e)); fault = refl }))))))))) })))) }))))
 
 pub high_index_stands : Stands Examples.high_index (At BadIndex 276)
-high_index_stands = inr (inr (inr (inr (inr (inr (inl (inl (inr (inr (inr (inr (inl (Word' 81 (codes "w"), head, refl, inl (refl, refl), refl, inl (inr (inr (inr (inl (inl (inr (inr (inr (inr (inl (Examples.whole_array_164, wide ∷ [], refl, (wide_means, tt), inl (inr (inr (inl (inr ([], tt, inl (inl (inr (inr (inl (Examples.high_index_249, refl, inr (inl (inr (inr (None, tt, (Examples.high_index_266, refl, inr (inr (refl, inr (inr (codes "d", 274, 0, pos 4, 276, refl, refl, refl, not_below, refl)))))))))))))))))))))))))))))))))))))))))))
+high_index_stands = stands.in_file refl (stands.edif_library (inl (stands.library_cells (record { name_part = Word' 81 (codes "w"); head = head; there = refl; name = inl (refl, refl); external = refl; fault = inl (stands.cell_view (inl (stands.view_contents (record { interface = Examples.whole_array_164; ports = wide ∷ []; there = refl; is_interface = refl; means = (wide_means, tt); fault = inl (stands.contents_nets (stands.one_net [] tt (inl (stands.net_joined (Examples.high_index_249, refl, refl, stands.joined_end (inl (stands.end_bit None tt (Examples.high_index_266, refl, stands.member_index refl (record { spelled = codes "d"; named = 274; port = 0; index = pos 4; place = 276; name_there = refl; means = refl; index_there = refl; beyond = not_below; fault = refl }))))))))) })))) }))))
 
 -- a scalar port by its name
 abbrev scalar : List ℕ → design.Port
@@ -97,13 +98,13 @@ scalar_means : (name : List ℕ) → MeansPort (form (word (codes "port") ∷ wo
 scalar_means name = record { name_part = word name; inner = []; form = record { spelled = codes "port"; is = refl; keyword = refl; fits = ((refl, tt), refl, (omega arith, (omega arith, tt))) }; name = inl (refl, refl); direction = tt; designator = tt; properties = tt }
 
 pub two_alike_stands : Stands Examples.two_alike (At Ambiguous 230)
-two_alike_stands = inr (inr (inr (inr (inr (inr (inl (inl (inr (inr (inr (inr (inl (Word' 81 (codes "w"), head, refl, inl (refl, refl), refl, inl (inr (inr (inr (inl (inl (inr (inr (inr (inr (inl (Examples.two_alike_164, scalar (codes "Ab") ∷ scalar (codes "aB") ∷ [], refl, (scalar_means (codes "Ab"), (scalar_means (codes "aB"), tt)), inl (inr (inr (inl (inr ([], tt, inl (inl (inr (inr (inl (Examples.two_alike_213, refl, inr (inl (inr (inr (None, tt, (Word' 230 (codes "AB"), refl, inl (codes "AB", 230, refl, inr (refl, refl)))))))))))))))))))))))))))))))))))))))))
+two_alike_stands = stands.in_file refl (stands.edif_library (inl (stands.library_cells (record { name_part = Word' 81 (codes "w"); head = head; there = refl; name = inl (refl, refl); external = refl; fault = inl (stands.cell_view (inl (stands.view_contents (record { interface = Examples.two_alike_164; ports = scalar (codes "Ab") ∷ scalar (codes "aB") ∷ []; there = refl; is_interface = refl; means = (scalar_means (codes "Ab"), (scalar_means (codes "aB"), tt)); fault = inl (stands.contents_nets (stands.one_net [] tt (inl (stands.net_joined (Examples.two_alike_213, refl, refl, stands.joined_end (inl (stands.end_bit None tt (Word' 230 (codes "AB"), refl, stands.bit_port (codes "AB", 230, refl, inr (refl, refl)))))))))) })))) }))))
 
 pub two_designs_stands : Stands Examples.two_designs (Clash SecondDesign 110 72)
-two_designs_stands = inr (inl (inr (inr (inl (inl (inl refl))))))
+two_designs_stands = stands.in_file refl (stands.edif_row (inr (inr (inl (inl (inl refl))))))
 
 pub no_view_stands : Stands Examples.no_view (At BadForm 110)
-no_view_stands = inr (inr (inr (inr (inr (inr (inl (inl (inr (inr (inr (inr (inl (Word' 81 (codes "w"), head, refl, inl (refl, refl), refl, inl (inr (inr (inr (inr (inl (refl, refl)))))))))))))))))))
+no_view_stands = stands.in_file refl (stands.edif_library (inl (stands.library_cells (record { name_part = Word' 81 (codes "w"); head = head; there = refl; name = inl (refl, refl); external = refl; fault = inl (stands.without_view refl refl) }))))
 
 -- a library `w` with the leaf cell `t`
 abbrev leaf : design.CellBody
@@ -160,7 +161,7 @@ top_means = record {
 }
 
 pub empty_path_stands : Stands Examples.empty_path (At BadPath 237)
-empty_path_stands = inr (inr (inr (inr (inr (inr (inr (inr (inr (with_leaf, (library_means, tt), inl (inr (inr (inr (inr (inl (Examples.empty_path_189, top, refl, top_means, inl (inl (inr (inr (inl (Examples.empty_path_237, refl, refl, inl (refl, refl)))))))))))))))))))))
+empty_path_stands = stands.in_file refl (stands.edif_design (record { libs = with_leaf; means = (library_means, tt); first = Examples.empty_path_179; there = refl; fault = stands.design_notes (stands.one_note top (Examples.empty_path_189, refl, top_means) (inl (stands.note_path (Examples.empty_path_237, refl, refl, stands.no_steps refl refl)))) }))
 
 -- the arguments of a form are the list that they are made from
 items_of : (ts : List Placed) → items (trees ts) ≡ ts
@@ -182,7 +183,7 @@ many_libraries_stand count l =
     let found : slice_get (libraries (items (trees (Examples.numbered_libraries 0 count)))) 1024 ≡ Some (Examples.numbered_library 1024) =
     ap (λ ts. slice_get (libraries ts) 1024) (items_of (Examples.numbered_libraries 0 count)) ∙ ap (λ ts. slice_get ts 1024) (all_libraries 0 count)
     ∙ library_of_number 0 count 1024 l in
-    inr (inr (inr (inr (inr (inr (inr (inr (inl (Examples.numbered_library 1024, found, refl)))))))))
+    stands.in_file refl (stands.many_libraries (Examples.numbered_library 1024, found, refl))
 
 -- numbered ports are ports, and where the bits before are a whole number of ports below the limit, the next ones pass it
 all_ports : (n count : ℕ) → those_of keywords.Port (Examples.numbered_ports n count) ≡ Examples.numbered_ports n count
@@ -199,4 +200,4 @@ many_bits_stand count l =
     let B : List Placed → Type 0 = λ ts. BeyondBits 1048576 0 ts (OverLimit 1048576 607) in
     let ports : those_of keywords.Port (items (trees (Examples.numbered_ports 0 count))) ≡ Examples.numbered_ports 0 count = ap (those_of keywords.Port) (items_of (Examples.numbered_ports 0 count)) ∙ all_ports 0 count in
     let bits : BeyondBits 1048576 0 (those_of keywords.Port (items (trees (Examples.numbered_ports 0 count)))) (OverLimit 1048576 607) = subst B (sym ports) (bits_pass 0 count 0 16 607 l refl refl) in
-    inr (inr (inr (inr (inr (inr (inl (inl (inr (inr (inr (inr (inl (Word' 81 (codes "w"), head, refl, inl (refl, refl), refl, inl (inr (inr (inr (inl (inl (inr (inr (inr (inl (Examples.many_bits_164 count, refl, inr (inr (inr (inr (inl bits)))))))))))))))))))))))))))
+    stands.in_file refl (stands.edif_library (inl (stands.library_cells (record { name_part = Word' 81 (codes "w"); head = head; there = refl; name = inl (refl, refl); external = refl; fault = inl (stands.cell_view (inl (stands.view_interface (Examples.many_bits_164 count, refl, refl, stands.many_bits bits)))) }))))

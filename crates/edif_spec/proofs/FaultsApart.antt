@@ -1,6 +1,7 @@
 -- No fault stands in a form that means something: from names to interfaces.
 use Rattle.std.proofs.Common.{◌≡◌, ℕ, ◌+◌, ◌<◌, ◌≤◌, ℤ, pos, List, [], ◌∷◌, ◌++◌, map, length, refl, ap, sym, ◌∙◌, subst, ◌⊎◌, inl, inr, Bool, true, false, Option, Some, None, arith}
-use Rattle.std.specs.Prelude.{cond, ◌||◌, slice_get, IfSome, sum_by, FitsSigned, unwrap_or}
+use Rattle.std.proofs.lemmas.Bool.Decides.{nat_tests}
+use Rattle.std.specs.Prelude.{IsTrue, cond, ◌&&◌, ◌||◌, nat_le, slice_get, IfSome, sum_by, FitsSigned, unwrap_or}
 use Rattle.std.specs.Int.{w32}
 use Rattle.std.specs.List.{AllZip, AllByRecursion, fold}
 use Rattle.netlist_schema.specs.Names.{AreDistinct, HasDistinctKeys}
@@ -10,8 +11,10 @@ use Rattle.edif_spec.specs.Keyword.{same, spelling_of}
 use Rattle.edif_spec.specs.Rows.{has_keyword, those, IsFormOf, Each, Perhaps}
 use Rattle.edif_spec.specs.Canonical.{direction_word}
 use Rattle.edif_spec.specs.Means.{MeansName, MeansText, MeansBoolean, MeansNumber, MeansValue, MeansProperty, MeansDirection, MeansPortName, MeansPort, MeansInterface}
-use Rattle.edif_spec.specs.Faults.{arguments, parts, Among, InPart, RowFault, holds_name, name_of, defined, BeyondBits, width_with, width_of, first_width, declared_width}
-use Rattle.edif_spec.specs.Stands.{WordFault, NameFault, ExponentFault, BooleanFault, NumberFault, InValue, PropertyFault, PropertiesFault, is_direction, DirectionFault, SizeFault, PortNameFault, PortFault, ports_in, InterfaceFault}
+use Rattle.netlist_schema.specs.Width.{IsWidth}
+use Rattle.edif_spec.specs.Faults.{arguments, parts, Among, RowFault, holds_name, name_of, defined, BeyondBits, counted, width_with, width_of, first_width, declared_width}
+use Rattle.edif_spec.specs.Stands.{WordFault, NameFault, BooleanFault, NumberFault, InValue, PropertyFault, PropertiesFault, is_direction, DirectionFault, PortNameFault, PortFault, ports_in, InterfaceFault}
+use Rattle.edif_spec.specs.Stands as stands
 use Rattle.edif_spec.specs.Design as design
 use Rattle.edif_spec.specs.declared.keyword.Keyword.{Keyword}
 use Rattle.edif_spec.specs.declared.keyword.Keyword.TheVariants as keywords
@@ -109,49 +112,47 @@ port_named t p h =
 
 -- properties
 boolean_apart : (t : Placed) (b : Bool) (f : MeaningFault) → MeansBoolean (bare t) b → BooleanFault t f → ⊥
-boolean_apart t true f h (inl b) = row_apart keywords.True t [] [] f h b.1
-boolean_apart t true f h (inr b) = other_form keywords.False keywords.True (bare t) [] [] refl h b.0
-boolean_apart t false f h (inl b) = other_form keywords.True keywords.False (bare t) [] [] refl h b.0
-boolean_apart t false f h (inr b) = row_apart keywords.False t [] [] f h b.1
+boolean_apart t true f h (stands.true_row k b) = row_apart keywords.True t [] [] f h b
+boolean_apart t true f h (stands.false_row k b) = other_form keywords.False keywords.True (bare t) [] [] refl h k
+boolean_apart t false f h (stands.true_row k b) = other_form keywords.True keywords.False (bare t) [] [] refl h k
+boolean_apart t false f h (stands.false_row k b) = row_apart keywords.False t [] [] f h b
 
 number_apart : (t : Placed) (n : design.Num) (f : MeaningFault) → MeansNumber (bare t) n → NumberFault t f → ⊥
-number_apart t (numbers.Int z) f h b = integer_no_keyword keywords.E (bare t) z h b.0
-number_apart t (numbers.Scaled m x) f h b = go b.1
-  where
-    go : RowFault keywords.E t f ⊎ InPart 1 ExponentFault t f → ⊥
-    go (inl c) = row_apart keywords.E t (integer m ∷ integer x ∷ []) [] f h.0 c
-    go (inr c) =
-        let e : bare c.0 ≡ integer x = part_is keywords.E t (integer m ∷ integer x ∷ []) [] 1 c.0 (integer x) h.0 c.1 refl in
-        let d : integer c.2.0 ≡ integer x = sym (ap bare c.2.2) ∙ e in
-        let w : c.2.0 ≡ x = cc d in
-        let P : ℤ → Type 0 = λ v. FitsSigned w32 v in
-        c.2.3 (subst P (sym w) h.1)
+number_apart t (numbers.Int z) f h (stands.scaled_row k c) = integer_no_keyword keywords.E (bare t) z h k
+number_apart t (numbers.Int z) f h (stands.scaled_exponent k c) = integer_no_keyword keywords.E (bare t) z h k
+number_apart t (numbers.Scaled m x) f h (stands.scaled_row k c) = row_apart keywords.E t (integer m ∷ integer x ∷ []) [] f h.0 c
+number_apart t (numbers.Scaled m x) f h (stands.scaled_exponent k c) =
+    let e : bare c.0 ≡ integer x = part_is keywords.E t (integer m ∷ integer x ∷ []) [] 1 c.0 (integer x) h.0 c.1 refl in
+    let d : integer c.2.0 ≡ integer x = sym (ap bare c.2.2) ∙ e in
+    let w : c.2.0 ≡ x = cc d in
+    let P : ℤ → Type 0 = λ v. FitsSigned w32 v in
+    c.2.3 (subst P (sym w) h.1)
 
 value_apart : (t : Placed) (v : design.Value) (f : MeaningFault) → MeansValue (bare t) v → InValue t f → ⊥
-value_apart t (values.Boolean x) f h (inl b) = go b.1
-  where
-    go : RowFault keywords.Boolean t f ⊎ InPart 0 BooleanFault t f → ⊥
-    go (inl c) = row_apart keywords.Boolean t (h.0 ∷ []) [] f h.1 c
-    go (inr c) = boolean_apart c.0 x f (subst (λ y. MeansBoolean y x) (sym (part_is keywords.Boolean t (h.0 ∷ []) [] 0 c.0 h.0 h.1 c.1 refl)) h.2) c.2
-value_apart t (values.Boolean x) f h (inr (inl b)) = other_form keywords.Integer keywords.Boolean (bare t) (h.0 ∷ []) [] refl h.1 b.0
-value_apart t (values.Boolean x) f h (inr (inr (inl b))) = other_form keywords.Number keywords.Boolean (bare t) (h.0 ∷ []) [] refl h.1 b.0
-value_apart t (values.Boolean x) f h (inr (inr (inr b))) = other_form keywords.String keywords.Boolean (bare t) (h.0 ∷ []) [] refl h.1 b.0
-value_apart t (values.Integer z) f h (inl b) = other_form keywords.Boolean keywords.Integer (bare t) (integer z ∷ []) [] refl h b.0
-value_apart t (values.Integer z) f h (inr (inl b)) = row_apart keywords.Integer t (integer z ∷ []) [] f h b.1
-value_apart t (values.Integer z) f h (inr (inr (inl b))) = other_form keywords.Number keywords.Integer (bare t) (integer z ∷ []) [] refl h b.0
-value_apart t (values.Integer z) f h (inr (inr (inr b))) = other_form keywords.String keywords.Integer (bare t) (integer z ∷ []) [] refl h b.0
-value_apart t (values.Number n) f h (inl b) = other_form keywords.Boolean keywords.Number (bare t) (h.0 ∷ []) [] refl h.1 b.0
-value_apart t (values.Number n) f h (inr (inl b)) = other_form keywords.Integer keywords.Number (bare t) (h.0 ∷ []) [] refl h.1 b.0
-value_apart t (values.Number n) f h (inr (inr (inl b))) = go b.1
-  where
-    go : RowFault keywords.Number t f ⊎ InPart 0 NumberFault t f → ⊥
-    go (inl c) = row_apart keywords.Number t (h.0 ∷ []) [] f h.1 c
-    go (inr c) = number_apart c.0 n f (subst (λ y. MeansNumber y n) (sym (part_is keywords.Number t (h.0 ∷ []) [] 0 c.0 h.0 h.1 c.1 refl)) h.2) c.2
-value_apart t (values.Number n) f h (inr (inr (inr b))) = other_form keywords.String keywords.Number (bare t) (h.0 ∷ []) [] refl h.1 b.0
-value_apart t (values.Text s) f h (inl b) = other_form keywords.Boolean keywords.String (bare t) (string s ∷ []) [] refl h b.0
-value_apart t (values.Text s) f h (inr (inl b)) = other_form keywords.Integer keywords.String (bare t) (string s ∷ []) [] refl h b.0
-value_apart t (values.Text s) f h (inr (inr (inl b))) = other_form keywords.Number keywords.String (bare t) (string s ∷ []) [] refl h b.0
-value_apart t (values.Text s) f h (inr (inr (inr b))) = row_apart keywords.String t (string s ∷ []) [] f h b.1
+value_apart t (values.Boolean x) f h (stands.boolean_row k b) = row_apart keywords.Boolean t (h.0 ∷ []) [] f h.1 b
+value_apart t (values.Boolean x) f h (stands.boolean_truth k b) = boolean_apart b.0 x f (subst (λ y. MeansBoolean y x) (sym (part_is keywords.Boolean t (h.0 ∷ []) [] 0 b.0 h.0 h.1 b.1 refl)) h.2) b.2
+value_apart t (values.Boolean x) f h (stands.integer_row k b) = other_form keywords.Integer keywords.Boolean (bare t) (h.0 ∷ []) [] refl h.1 k
+value_apart t (values.Boolean x) f h (stands.number_row k b) = other_form keywords.Number keywords.Boolean (bare t) (h.0 ∷ []) [] refl h.1 k
+value_apart t (values.Boolean x) f h (stands.number_scaled k b) = other_form keywords.Number keywords.Boolean (bare t) (h.0 ∷ []) [] refl h.1 k
+value_apart t (values.Boolean x) f h (stands.string_row k b) = other_form keywords.String keywords.Boolean (bare t) (h.0 ∷ []) [] refl h.1 k
+value_apart t (values.Integer z) f h (stands.boolean_row k b) = other_form keywords.Boolean keywords.Integer (bare t) (integer z ∷ []) [] refl h k
+value_apart t (values.Integer z) f h (stands.boolean_truth k b) = other_form keywords.Boolean keywords.Integer (bare t) (integer z ∷ []) [] refl h k
+value_apart t (values.Integer z) f h (stands.integer_row k b) = row_apart keywords.Integer t (integer z ∷ []) [] f h b
+value_apart t (values.Integer z) f h (stands.number_row k b) = other_form keywords.Number keywords.Integer (bare t) (integer z ∷ []) [] refl h k
+value_apart t (values.Integer z) f h (stands.number_scaled k b) = other_form keywords.Number keywords.Integer (bare t) (integer z ∷ []) [] refl h k
+value_apart t (values.Integer z) f h (stands.string_row k b) = other_form keywords.String keywords.Integer (bare t) (integer z ∷ []) [] refl h k
+value_apart t (values.Number n) f h (stands.boolean_row k b) = other_form keywords.Boolean keywords.Number (bare t) (h.0 ∷ []) [] refl h.1 k
+value_apart t (values.Number n) f h (stands.boolean_truth k b) = other_form keywords.Boolean keywords.Number (bare t) (h.0 ∷ []) [] refl h.1 k
+value_apart t (values.Number n) f h (stands.integer_row k b) = other_form keywords.Integer keywords.Number (bare t) (h.0 ∷ []) [] refl h.1 k
+value_apart t (values.Number n) f h (stands.number_row k b) = row_apart keywords.Number t (h.0 ∷ []) [] f h.1 b
+value_apart t (values.Number n) f h (stands.number_scaled k b) = number_apart b.0 n f (subst (λ y. MeansNumber y n) (sym (part_is keywords.Number t (h.0 ∷ []) [] 0 b.0 h.0 h.1 b.1 refl)) h.2) b.2
+value_apart t (values.Number n) f h (stands.string_row k b) = other_form keywords.String keywords.Number (bare t) (h.0 ∷ []) [] refl h.1 k
+value_apart t (values.Text s) f h (stands.boolean_row k b) = other_form keywords.Boolean keywords.String (bare t) (string s ∷ []) [] refl h k
+value_apart t (values.Text s) f h (stands.boolean_truth k b) = other_form keywords.Boolean keywords.String (bare t) (string s ∷ []) [] refl h k
+value_apart t (values.Text s) f h (stands.integer_row k b) = other_form keywords.Integer keywords.String (bare t) (string s ∷ []) [] refl h k
+value_apart t (values.Text s) f h (stands.number_row k b) = other_form keywords.Number keywords.String (bare t) (string s ∷ []) [] refl h k
+value_apart t (values.Text s) f h (stands.number_scaled k b) = other_form keywords.Number keywords.String (bare t) (string s ∷ []) [] refl h k
+value_apart t (values.Text s) f h (stands.string_row k b) = row_apart keywords.String t (string s ∷ []) [] f h b
 
 -- designator and owner
 pub text_apart : (k : Keyword) (t : Placed) (s : List ℕ) (f : MeaningFault) → MeansText k (bare t) s → RowFault k t f → ⊥
@@ -165,10 +166,10 @@ texts_apart k ts bs o f e h b = perhaps_apart (MeansText k) (λ s. Unit {0}) (Ro
     free (Some s) = tt
 
 pub property_apart : (t : Placed) (p : design.Property) (f : MeaningFault) → MeansProperty (bare t) p → PropertyFault t f → ⊥
-property_apart t p f h (inl b) = row_apart keywords.Property t (h.key_part ∷ h.value_part ∷ []) h.inner f h.form b
-property_apart t p f h (inr (inl b)) = name_apart b.0 p.key f (subst (λ v. MeansName v p.key) (sym (part_is keywords.Property t (h.key_part ∷ h.value_part ∷ []) h.inner 0 b.0 h.key_part h.form b.1 refl)) h.key) b.2
-property_apart t p f h (inr (inr (inl b))) = value_apart b.0 p.value f (subst (λ v. MeansValue v p.value) (sym (part_is keywords.Property t (h.key_part ∷ h.value_part ∷ []) h.inner 1 b.0 h.value_part h.form b.1 refl)) h.value) b.2
-property_apart t p f h (inr (inr (inr b))) = texts_apart keywords.Owner (parts keywords.Property keywords.Owner t) (those keywords.Owner h.inner) p.owner f (parts_are keywords.Property keywords.Owner t (h.key_part ∷ h.value_part ∷ []) h.inner h.form) h.owner b
+property_apart t p f h (stands.property_row b) = row_apart keywords.Property t (h.key_part ∷ h.value_part ∷ []) h.inner f h.form b
+property_apart t p f h (stands.property_key b) = name_apart b.0 p.key f (subst (λ v. MeansName v p.key) (sym (part_is keywords.Property t (h.key_part ∷ h.value_part ∷ []) h.inner 0 b.0 h.key_part h.form b.1 refl)) h.key) b.2
+property_apart t p f h (stands.property_value b) = value_apart b.0 p.value f (subst (λ v. MeansValue v p.value) (sym (part_is keywords.Property t (h.key_part ∷ h.value_part ∷ []) h.inner 1 b.0 h.value_part h.form b.1 refl)) h.value) b.2
+property_apart t p f h (stands.property_owner b) = texts_apart keywords.Owner (parts keywords.Property keywords.Owner t) (those keywords.Owner h.inner) p.owner f (parts_are keywords.Property keywords.Owner t (h.key_part ∷ h.value_part ∷ []) h.inner h.form) h.owner b
 
 pub free_all : {A : Type 0} (xs : List A) → AllByRecursion (λ x. Unit {0}) xs
 free_all [] = tt
@@ -178,8 +179,8 @@ pub property_named : (t : Placed) (p : design.Property) → MeansProperty (bare 
 property_named t p h = form_named keywords.Property t h.key_part (h.value_part ∷ []) h.inner p.key h.form h.key
 
 pub properties_apart : (ts : List Placed) (bs : List Bare) (ps : List design.Property) (f : MeaningFault) → map bare ts ≡ bs → Each MeansProperty bs ps → HasDistinctKeys ps → PropertiesFault ts f → ⊥
-properties_apart ts bs ps f e h d (inl b) = each_apart MeansProperty (λ p. Unit {0}) PropertyFault f (λ t p m v c. property_apart t p f m c) ts bs ps e h (free_all ps) b
-properties_apart ts bs ps f e h d (inr b) = repeats_apart (λ (p : design.Property). p.key.id) f ts ps (each_with MeansProperty (λ u p. IsNamed u p.key.id) property_named ts bs ps e h) d b
+properties_apart ts bs ps f e h d (stands.one_property b) = each_apart MeansProperty (λ p. Unit {0}) PropertyFault f (λ t p m v c. property_apart t p f m c) ts bs ps e h (free_all ps) b
+properties_apart ts bs ps f e h d (stands.key_again b) = repeats_apart (λ (p : design.Property). p.key.id) f ts ps (each_with MeansProperty (λ u p. IsNamed u p.key.id) property_named ts bs ps e h) d b
 
 -- a word that the test takes is none of the others
 pub word_apart : (fine : List ℕ → Bool) (kind : Kind) (u : Placed) (w : List ℕ) (f : MeaningFault) → bare u ≡ word w → fine w ≡ true → WordFault fine kind u f → ⊥
@@ -209,50 +210,57 @@ direction_fine w directions.Output e = three w (direction_word directions.Input)
 direction_fine w directions.Inout e = three w (direction_word directions.Input) (direction_word directions.Output) (direction_word directions.Inout) (inr (inr e))
 
 direction_apart : (t : Placed) (d : design.Direction) (f : MeaningFault) → MeansDirection (bare t) d → DirectionFault t f → ⊥
-direction_apart t d f h (inl b) = row_apart keywords.Direction t (word h.0 ∷ []) [] f h.1 b
-direction_apart t d f h (inr b) = word_apart is_direction BadForm b.0 h.0 f (part_is keywords.Direction t (word h.0 ∷ []) [] 0 b.0 (word h.0) h.1 b.1 refl) (direction_fine h.0 d h.2) b.2
+direction_apart t d f h (stands.direction_row b) = row_apart keywords.Direction t (word h.0 ∷ []) [] f h.1 b
+direction_apart t d f h (stands.other_direction b) = word_apart is_direction BadForm b.0 h.0 f (part_is keywords.Direction t (word h.0 ∷ []) [] 0 b.0 (word h.0) h.1 b.1 refl) (direction_fine h.0 d h.2) b.2
 
 -- ports
+name_no_array : (t : Placed) (n : design.Name) → MeansName (bare t) n → IsTrue (has_keyword keywords.Array (bare t)) → ⊥
+name_no_array t n (inl h) k = word_no_keyword keywords.Array (bare t) n.id h.0 k
+name_no_array t n (inr h) k = other_form keywords.Array keywords.Rename (bare t) (word n.id ∷ string h.0 ∷ []) [] refl h.1 k
+
 port_name_apart : (t : Placed) (n : design.Name) (o : Option ℕ) (f : MeaningFault) → MeansPortName (bare t) n o → PortNameFault t f → ⊥
-port_name_apart t n None f h (inl b) = name_apart t n f h b
-port_name_apart t n None f (inl h) (inr b) = word_no_keyword keywords.Array (bare t) n.id h.0 b.0
-port_name_apart t n None f (inr h) (inr b) = other_form keywords.Array keywords.Rename (bare t) (word n.id ∷ string h.0 ∷ []) [] refl h.1 b.0
-port_name_apart t n (Some w) f h (inl b) = other_form keywords.Rename keywords.Array (bare t) (h.0 ∷ integer (pos w) ∷ []) [] refl h.1 b.0
-port_name_apart t n (Some w) f h (inr b) = go b.1
-  where
-    go : RowFault keywords.Array t f ⊎ (InPart 0 NameFault t f ⊎ InPart 1 SizeFault t f) → ⊥
-    go (inl c) = row_apart keywords.Array t (h.0 ∷ integer (pos w) ∷ []) [] f h.1 c
-    go (inr (inl c)) = name_apart c.0 n f (subst (λ v. MeansName v n) (sym (part_is keywords.Array t (h.0 ∷ integer (pos w) ∷ []) [] 0 c.0 h.0 h.1 c.1 refl)) h.2) c.2
-    go (inr (inr c)) =
-        let e : bare c.0 ≡ integer (pos w) = part_is keywords.Array t (h.0 ∷ integer (pos w) ∷ []) [] 1 c.0 (integer (pos w)) h.1 c.1 refl in
-        let d : integer c.2.0 ≡ integer (pos w) = sym (ap bare c.2.2) ∙ e in
-        let x : c.2.0 ≡ pos w = cc d in
-        let l : 0 < w = h.3 in
-        c.2.3 w x ((omega (arith, l)), h.4)
+port_name_apart t n None f h (stands.scalar_name b) = name_apart t n f h b
+port_name_apart t n None f h (stands.array_row k b) = name_no_array t n h k
+port_name_apart t n None f h (stands.array_name k b) = name_no_array t n h k
+port_name_apart t n None f h (stands.array_size k b) = name_no_array t n h k
+port_name_apart t n (Some w) f h (stands.scalar_name b) = other_form keywords.Rename keywords.Array (bare t) (h.0 ∷ integer (pos w) ∷ []) [] refl h.1 b.0
+port_name_apart t n (Some w) f h (stands.array_row k c) = row_apart keywords.Array t (h.0 ∷ integer (pos w) ∷ []) [] f h.1 c
+port_name_apart t n (Some w) f h (stands.array_name k c) = name_apart c.0 n f (subst (λ v. MeansName v n) (sym (part_is keywords.Array t (h.0 ∷ integer (pos w) ∷ []) [] 0 c.0 h.0 h.1 c.1 refl)) h.2) c.2
+port_name_apart t n (Some w) f h (stands.array_size k c) =
+    let e : bare c.0 ≡ integer (pos w) = part_is keywords.Array t (h.0 ∷ integer (pos w) ∷ []) [] 1 c.0 (integer (pos w)) h.1 c.1 refl in
+    let d : integer c.2.0 ≡ integer (pos w) = sym (ap bare c.2.2) ∙ e in
+    let x : c.2.0 ≡ pos w = cc d in
+    c.2.3 w x h.3
 
 pub port_apart : (t : Placed) (p : design.Port) (f : MeaningFault) → MeansPort (bare t) p → HasDistinctKeys p.properties → PortFault t f → ⊥
-port_apart t p f h d (inl b) = row_apart keywords.Port t (h.name_part ∷ []) h.inner f h.form b
-port_apart t p f h d (inr (inl b)) = port_name_apart b.0 p.name p.array f (subst (λ v. MeansPortName v p.name p.array) (sym (part_is keywords.Port t (h.name_part ∷ []) h.inner 0 b.0 h.name_part h.form b.1 refl)) h.name) b.2
-port_apart t p f h d (inr (inr (inl b))) = perhaps_apart MeansDirection (λ x. Unit {0}) DirectionFault f (λ u x m v c. direction_apart u x f m c) (parts keywords.Port keywords.Direction t) (those keywords.Direction h.inner) p.direction
+port_apart t p f h d (stands.port_row b) = row_apart keywords.Port t (h.name_part ∷ []) h.inner f h.form b
+port_apart t p f h d (stands.port_name b) = port_name_apart b.0 p.name p.array f (subst (λ v. MeansPortName v p.name p.array) (sym (part_is keywords.Port t (h.name_part ∷ []) h.inner 0 b.0 h.name_part h.form b.1 refl)) h.name) b.2
+port_apart t p f h d (stands.port_direction b) = perhaps_apart MeansDirection (λ x. Unit {0}) DirectionFault f (λ u x m v c. direction_apart u x f m c) (parts keywords.Port keywords.Direction t) (those keywords.Direction h.inner) p.direction
     (parts_are keywords.Port keywords.Direction t (h.name_part ∷ []) h.inner h.form) h.direction (free p.direction) b
   where
     free : (o : Option design.Direction) → IfSome o (λ s. Unit {0})
     free None = tt
     free (Some s) = tt
-port_apart t p f h d (inr (inr (inr (inl b)))) = texts_apart keywords.Designator (parts keywords.Port keywords.Designator t) (those keywords.Designator h.inner) p.designator f (parts_are keywords.Port keywords.Designator t (h.name_part ∷ []) h.inner h.form) h.designator b
-port_apart t p f h d (inr (inr (inr (inr b)))) = properties_apart (parts keywords.Port keywords.Property t) (those keywords.Property h.inner) p.properties f (parts_are keywords.Port keywords.Property t (h.name_part ∷ []) h.inner h.form) h.properties d b
+port_apart t p f h d (stands.port_designator b) = texts_apart keywords.Designator (parts keywords.Port keywords.Designator t) (those keywords.Designator h.inner) p.designator f (parts_are keywords.Port keywords.Designator t (h.name_part ∷ []) h.inner h.form) h.designator b
+port_apart t p f h d (stands.port_properties b) = properties_apart (parts keywords.Port keywords.Property t) (those keywords.Property h.inner) p.properties f (parts_are keywords.Port keywords.Property t (h.name_part ∷ []) h.inner h.form) h.properties d b
 
 -- the width of a port as it is written
 no_array : (t : Placed) (n : design.Name) (b : Bool) → has_keyword keywords.Array (bare t) ≡ b → MeansName (bare t) n → b ≡ false
 no_array t n false e h = refl
-no_array t n true e (inl h) = absurd (word_no_keyword keywords.Array (bare t) n.id h.0 e)
-no_array t n true e (inr h) = absurd (other_form keywords.Array keywords.Rename (bare t) (word n.id ∷ string h.0 ∷ []) [] refl h.1 e)
+no_array t n true e h = absurd (name_no_array t n h e)
 
-integer_width : (u : Placed) (w : ℕ) → bare u ≡ integer (pos w) → width_with true (Some u) ≡ w
-integer_width (Integer' p z) w e = let x : z ≡ pos w = cc e in let P : ℤ → Type 0 = λ y. width_with true (Some (Integer' p y)) ≡ w in subst P (sym x) refl
-integer_width (Form' p ts) w e = absurd (cc e)
-integer_width (Word' p n) w e = absurd (cc e)
-integer_width (String' p s) w e = absurd (cc e)
+counts : (w : ℕ) → IsWidth w → counted w ≡ w
+counts w h = go (nat_le 1 w && nat_le w 65536) (let l : 1 ≤ w = h.0 in let m : w ≤ 65536 = h.1 in grind (arith, nat_tests))
+  where
+    go : (b : Bool) → b ≡ true → cond b w 1 ≡ w
+    go true e = refl
+    go false e = absurd (cc e)
+
+integer_width : (u : Placed) (w : ℕ) → IsWidth w → bare u ≡ integer (pos w) → width_with true (Some u) ≡ w
+integer_width (Integer' p z) w l e = let x : z ≡ pos w = cc e in let P : ℤ → Type 0 = λ y. width_with true (Some (Integer' p y)) ≡ w in subst P (sym x) (counts w l)
+integer_width (Form' p ts) w l e = absurd (cc e)
+integer_width (Word' p n) w l e = absurd (cc e)
+integer_width (String' p s) w l e = absurd (cc e)
 
 plain_width : (o : Option Placed) → width_with false o ≡ 1
 plain_width None = refl
@@ -262,7 +270,7 @@ name_width : (t : Placed) (n : design.Name) (o : Option ℕ) → MeansPortName (
 name_width t n None h = ap (λ b. width_with b (slice_get (arguments t) 1)) (no_array t n (has_keyword keywords.Array (bare t)) refl h) ∙ plain_width (slice_get (arguments t) 1)
 name_width t n (Some w) h =
     let u = part_there keywords.Array t (h.0 ∷ integer (pos w) ∷ []) [] 1 (integer (pos w)) h.1 refl in
-    ap (λ b. width_with b (slice_get (arguments t) 1)) (keyword_of keywords.Array (bare t) (h.0 ∷ integer (pos w) ∷ []) [] h.1) ∙ (ap (width_with true) u.1 ∙ integer_width u.0 w u.2)
+    ap (λ b. width_with b (slice_get (arguments t) 1)) (keyword_of keywords.Array (bare t) (h.0 ∷ integer (pos w) ∷ []) [] h.1) ∙ (ap (width_with true) u.1 ∙ integer_width u.0 w h.3 u.2)
 
 pub port_declares : (t : Placed) (p : design.Port) → MeansPort (bare t) p → declared_width t ≡ port_width p
 port_declares t p h =
@@ -300,9 +308,9 @@ interface_apart t c f h v b =
     go e l b
   where
     go : map bare (ports_in t) ≡ those keywords.Port h.inner → length (ports_in t) ≡ length c.ports → InterfaceFault t f → ⊥
-    go e l (inl b) = row_apart keywords.Interface t [] h.inner f h.form b
-    go e l (inr (inl b)) = each_apart MeansPort (λ (p : design.Port). HasDistinctKeys p.properties) PortFault f (λ t p m d k. port_apart t p f m d k) (ports_in t) (those keywords.Port h.inner) c.ports e h.ports v.port_keys b
-    go e l (inr (inr (inl b))) = repeats_apart (λ (p : design.Port). p.name.id) f (ports_in t) c.ports (each_with MeansPort (λ u p. IsNamed u p.name.id) port_named (ports_in t) (those keywords.Port h.inner) c.ports e h.ports) v.names b
-    go e l (inr (inr (inr (inl b)))) = let m : length c.ports ≤ 65536 = v.ports in beyond_apart 65536 (ports_in t) f (omega (arith, l, m)) b
-    go e l (inr (inr (inr (inr (inl b))))) = bits_apart 1048576 0 (ports_in t) c.ports f (each_with MeansPort (λ u p. declared_width u ≡ port_width p) port_declares (ports_in t) (those keywords.Port h.inner) c.ports e h.ports) v.bits b
-    go e l (inr (inr (inr (inr (inr b))))) = properties_apart (parts keywords.Interface keywords.Property t) (those keywords.Property h.inner) c.interface_properties f (parts_are keywords.Interface keywords.Property t [] h.inner h.form) h.properties v.keys b
+    go e l (stands.interface_row b) = row_apart keywords.Interface t [] h.inner f h.form b
+    go e l (stands.interface_port b) = each_apart MeansPort (λ (p : design.Port). HasDistinctKeys p.properties) PortFault f (λ t p m d k. port_apart t p f m d k) (ports_in t) (those keywords.Port h.inner) c.ports e h.ports v.port_keys b
+    go e l (stands.port_again b) = repeats_apart (λ (p : design.Port). p.name.id) f (ports_in t) c.ports (each_with MeansPort (λ u p. IsNamed u p.name.id) port_named (ports_in t) (those keywords.Port h.inner) c.ports e h.ports) v.names b
+    go e l (stands.many_ports b) = let m : length c.ports ≤ 65536 = v.ports in beyond_apart 65536 (ports_in t) f (omega (arith, l, m)) b
+    go e l (stands.many_bits b) = bits_apart 1048576 0 (ports_in t) c.ports f (each_with MeansPort (λ u p. declared_width u ≡ port_width p) port_declares (ports_in t) (those keywords.Port h.inner) c.ports e h.ports) v.bits b
+    go e l (stands.interface_properties b) = properties_apart (parts keywords.Interface keywords.Property t) (those keywords.Property h.inner) c.interface_properties f (parts_are keywords.Interface keywords.Property t [] h.inner h.form) h.properties v.keys b

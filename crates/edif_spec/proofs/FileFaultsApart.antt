@@ -12,8 +12,9 @@ use Rattle.edif_spec.specs.Keyword.{same, spelling_of, the}
 use Rattle.edif_spec.specs.Rows.{has_keyword, those, is_one_of, is_follower, IsFormOf, EachAfter}
 use Rattle.edif_spec.specs.Canonical.{library_keyword}
 use Rattle.edif_spec.specs.Means.{meant, Found, MeansName, MeansProperty, MeansCellRef, MeansCell, IsLevel, MeansLibrary, is_library, is_note, MeansPath, MeansNote, MeansDesign, before_design, libs_before_design, MeansFile}
-use Rattle.edif_spec.specs.Faults.{AtTwo, place_of, arguments, followers, parts, Among, RowFault, Beyond}
-use Rattle.edif_spec.specs.Stands.{ValueFault, CellFault, LevelFault, AmongAfter, cells_in, LibraryFault, bad_form, note_parts, StepsFault, NoteFault, SameNote, notes_in, NotesFault, DesignFault, VersionFault, MapFault, before_the_design, libraries, FileFault, Stands}
+use Rattle.edif_spec.specs.Faults.{AtTwo, defined, place_of, arguments, followers, parts, Among, RowFault}
+use Rattle.edif_spec.specs.Stands.{ValueFault, CellFault, LevelFault, AmongAfter, cells_in, LibraryFault, bad_form, note_parts, StepsFault, NoteFault, SameNote, notes_in, DesignFault, VersionFault, MapFault, before_the_design, libraries, FileFault, Stands, PathFault, Notes, MeansTop}
+use Rattle.edif_spec.specs.Stands as stands
 use Rattle.edif_spec.specs.Design as design
 use Rattle.edif_spec.specs.declared.keyword.Keyword.{Keyword}
 use Rattle.edif_spec.specs.declared.keyword.Keyword.TheVariants as keywords
@@ -33,21 +34,21 @@ value_apart : (wanted : ℤ) (kind : Kind) (u : Placed) (f : MeaningFault) → b
 value_apart wanted kind u f e b = let d : integer b.0 ≡ integer wanted = sym (ap bare b.2) ∙ e in let c : b.0 ≡ wanted = cc d in b.3 c
 
 level_apart : (k : Keyword) (t : Placed) (f : MeaningFault) → IsLevel k (bare t) → LevelFault k t f → ⊥
-level_apart k t f h (inl b) = row_apart k t (integer (pos 0) ∷ []) [] f h b
-level_apart k t f h (inr b) = value_apart (pos 0) BadLevel b.0 f (part_is k t (integer (pos 0) ∷ []) [] 0 b.0 (integer (pos 0)) h b.1 refl) b.2
+level_apart k t f h (stands.level_row b) = row_apart k t (integer (pos 0) ∷ []) [] f h b
+level_apart k t f h (stands.other_level b) = value_apart (pos 0) BadLevel b.0 f (part_is k t (integer (pos 0) ∷ []) [] 0 b.0 (integer (pos 0)) h b.1 refl) b.2
 
 abbrev Version : List Bare
 Version = integer (pos 2) ∷ integer (pos 0) ∷ integer (pos 0) ∷ []
 
 version_apart : (t : Placed) (f : MeaningFault) → IsFormOf keywords.EdifVersion (bare t) Version [] → VersionFault t f → ⊥
-version_apart t f h (inl b) = row_apart keywords.EdifVersion t Version [] f h b
-version_apart t f h (inr (inl b)) = value_apart (pos 2) BadVersion b.0 f (part_is keywords.EdifVersion t Version [] 0 b.0 (integer (pos 2)) h b.1 refl) b.2
-version_apart t f h (inr (inr (inl b))) = value_apart (pos 0) BadVersion b.0 f (part_is keywords.EdifVersion t Version [] 1 b.0 (integer (pos 0)) h b.1 refl) b.2
-version_apart t f h (inr (inr (inr b))) = value_apart (pos 0) BadVersion b.0 f (part_is keywords.EdifVersion t Version [] 2 b.0 (integer (pos 0)) h b.1 refl) b.2
+version_apart t f h (stands.version_row b) = row_apart keywords.EdifVersion t Version [] f h b
+version_apart t f h (stands.first_number b) = value_apart (pos 2) BadVersion b.0 f (part_is keywords.EdifVersion t Version [] 0 b.0 (integer (pos 2)) h b.1 refl) b.2
+version_apart t f h (stands.second_number b) = value_apart (pos 0) BadVersion b.0 f (part_is keywords.EdifVersion t Version [] 1 b.0 (integer (pos 0)) h b.1 refl) b.2
+version_apart t f h (stands.third_number b) = value_apart (pos 0) BadVersion b.0 f (part_is keywords.EdifVersion t Version [] 2 b.0 (integer (pos 0)) h b.1 refl) b.2
 
 map_apart : (t : Placed) (level : Bare) (inner : List Bare) (f : MeaningFault) → IsFormOf keywords.KeywordMap (bare t) (level ∷ []) inner → IsLevel keywords.KeywordLevel level → MapFault t f → ⊥
-map_apart t level inner f h l (inl b) = row_apart keywords.KeywordMap t (level ∷ []) inner f h b
-map_apart t level inner f h l (inr b) = level_apart keywords.KeywordLevel b.0 f (subst (IsLevel keywords.KeywordLevel) (sym (part_is keywords.KeywordMap t (level ∷ []) inner 0 b.0 level h b.1 refl)) l) b.2
+map_apart t level inner f h l (stands.map_row b) = row_apart keywords.KeywordMap t (level ∷ []) inner f h b
+map_apart t level inner f h l (stands.map_level b) = level_apart keywords.KeywordLevel b.0 f (subst (IsLevel keywords.KeywordLevel) (sym (part_is keywords.KeywordMap t (level ∷ []) inner 0 b.0 level h b.1 refl)) l) b.3
 
 -- libraries
 pub record FineLibrary (l : design.Lib) : Type 0 where
@@ -78,24 +79,24 @@ library_apart : (before : List design.Lib) (t : Placed) (l : design.Lib) (f : Me
 library_apart before t l f h v b = go (cells_are l.head.external t h.name_part h.level_part h.technology_part h.inner h.form) b
   where
     go : map bare (cells_in t) ≡ those keywords.Cell h.inner → LibraryFault before t f → ⊥
-    go e (inl b) = library_rows l.head.external t h.name_part h.level_part h.technology_part h.inner f h.form (inl b)
-    go e (inr (inl b)) = library_rows l.head.external t h.name_part h.level_part h.technology_part h.inner f h.form (inr b)
-    go e (inr (inr (inl b))) = name_apart b.0 l.head.name f (subst (λ u. MeansName u l.head.name) (sym (part_is (library_keyword l.head.external) t (h.name_part ∷ h.level_part ∷ h.technology_part ∷ []) h.inner 0 b.0 h.name_part h.form b.1 refl)) h.name) b.2
-    go e (inr (inr (inr (inl b)))) = level_apart keywords.EdifLevel b.0 f (subst (IsLevel keywords.EdifLevel) (sym (part_is (library_keyword l.head.external) t (h.name_part ∷ h.level_part ∷ h.technology_part ∷ []) h.inner 1 b.0 h.level_part h.form b.1 refl)) h.level) b.2
-    go e (inr (inr (inr (inr (inl b))))) =
-        let u : bare b.0 ≡ h.name_part = part_is (library_keyword l.head.external) t (h.name_part ∷ h.level_part ∷ h.technology_part ∷ []) h.inner 0 b.0 h.name_part h.form b.2 refl in
-        let name : b.1.name ≡ l.head.name = name_once (bare b.0) b.1.name l.head.name b.3 (subst (λ w. MeansName w l.head.name) (sym u) h.name) in
-        let ext : b.1.external ≡ l.head.external = b.4 ∙ external_is l.head.external (bare t) h.name_part h.level_part h.technology_part h.inner h.form in
-        let head : b.1 ≡ l.head = λ i. record { name = name i; external = ext i } in
+    go e (stands.library_row k b) = library_rows l.head.external t h.name_part h.level_part h.technology_part h.inner f h.form (inl (k, b))
+    go e (stands.external_row k b) = library_rows l.head.external t h.name_part h.level_part h.technology_part h.inner f h.form (inr (k, b))
+    go e (stands.library_name b) = name_apart b.0 l.head.name f (subst (λ u. MeansName u l.head.name) (sym (part_is (library_keyword l.head.external) t (h.name_part ∷ h.level_part ∷ h.technology_part ∷ []) h.inner 0 b.0 h.name_part h.form b.1 refl)) h.name) b.2
+    go e (stands.library_level b) = level_apart keywords.EdifLevel b.0 f (subst (IsLevel keywords.EdifLevel) (sym (part_is (library_keyword l.head.external) t (h.name_part ∷ h.level_part ∷ h.technology_part ∷ []) h.inner 1 b.0 h.level_part h.form b.1 refl)) h.level) b.3
+    go e (stands.library_cells b) =
+        let u : bare b.name_part ≡ h.name_part = part_is (library_keyword l.head.external) t (h.name_part ∷ h.level_part ∷ h.technology_part ∷ []) h.inner 0 b.name_part h.name_part h.form b.there refl in
+        let name : b.head.name ≡ l.head.name = name_once (bare b.name_part) b.head.name l.head.name b.name (subst (λ w. MeansName w l.head.name) (sym u) h.name) in
+        let ext : b.head.external ≡ l.head.external = b.external ∙ external_is l.head.external (bare t) h.name_part h.level_part h.technology_part h.inner h.form in
+        let head : b.head ≡ l.head = λ i. record { name = name i; external = ext i } in
         let P : design.LibHead → Type 0 = λ w. AmongAfter (λ cells. MeansCell (before ++ record { head = w; cells = cells } ∷ []) (Some (length before))) (λ cells. CellFault (before ++ record { head = w; cells = cells } ∷ []) (Some (length before))) [] (cells_in t) f in
         after_apart (λ cells. MeansCell (before ++ record { head = l.head; cells = cells } ∷ []) (Some (length before))) FineCell (λ cells. CellFault (before ++ record { head = l.head; cells = cells } ∷ []) (Some (length before))) f
         (λ cells w c m q k. cell_apart (before ++ record { head = l.head; cells = cells } ∷ []) (Some (length before)) w c f m q k)
         (λ cells. cell_once (before ++ record { head = l.head; cells = cells } ∷ []) (Some (length before)))
-        [] (cells_in t) (those keywords.Cell h.inner) l.cells e h.cells v.cells (subst P head b.5)
-    go e (inr (inr (inr (inr (inr (inl b)))))) = repeats_apart (λ (c : design.CellBody). c.name.id) f (cells_in t) l.cells
+        [] (cells_in t) (those keywords.Cell h.inner) l.cells e h.cells v.cells (subst P head b.fault)
+    go e (stands.cell_again b) = repeats_apart (λ (c : design.CellBody). c.name.id) f (cells_in t) l.cells
         (after_with (λ cells. MeansCell (before ++ record { head = l.head; cells = cells } ∷ []) (Some (length before))) (λ u c. IsNamed u c.name.id) (λ cells u c m. cell_named (before ++ record { head = l.head; cells = cells } ∷ []) (Some (length before)) u c m)
         [] (cells_in t) (those keywords.Cell h.inner) l.cells e h.cells) v.names b
-    go e (inr (inr (inr (inr (inr (inr b)))))) =
+    go e (stands.many_cells b) =
         let n : length (cells_in t) ≡ length l.cells = sym (map_length bare (cells_in t)) ∙ (ap length e ∙ after_length (λ cells. MeansCell (before ++ record { head = l.head; cells = cells } ∷ []) (Some (length before))) [] (those keywords.Cell h.inner) l.cells h.cells) in
         let k : length l.cells ≤ 65536 = v.count in beyond_apart 65536 (cells_in t) f (omega (arith, n, k)) b
 
@@ -107,18 +108,18 @@ steps_apart : (libs : List design.Lib) (id : design.CellId) (ts : List Placed) (
 steps_apart libs id [] bs ns f e h b = b
 steps_apart libs id (t ∷ ts) [] ns f e h b = absurd (cc e)
 steps_apart libs id (t ∷ ts) (u ∷ bs) [] f e h b = absurd h
-steps_apart libs id (t ∷ ts) (u ∷ bs) (n ∷ ns) f e h (inl b) = let w : bare t ≡ u = cc e in b.0 h.0 (w ∙ h.3)
-steps_apart libs id (t ∷ ts) (u ∷ bs) (n ∷ ns) f e h (inr (inl b)) =
+steps_apart libs id (t ∷ ts) (u ∷ bs) (n ∷ ns) f e h (stands.no_step n' k) = let w : bare t ≡ u = cc e in n' h.0 (w ∙ h.3)
+steps_apart libs id (t ∷ ts) (u ∷ bs) (n ∷ ns) f e h (stands.lost_step b) =
     let w : bare t ≡ u = cc e in
-    let d : word b.0 ≡ word h.0 = sym (ap bare b.2) ∙ (w ∙ h.3) in let c : b.0 ≡ h.0 = cc d in
-    b.3 h.1 (ap (meant (design.inst_ids (design.insts_at libs id))) c ∙ h.4)
-steps_apart libs id (t ∷ ts) (u ∷ bs) (n ∷ ns) f e h (inr (inr b)) =
+    let d : word b.spelled ≡ word h.0 = sym (ap bare b.is) ∙ (w ∙ h.3) in let c : b.spelled ≡ h.0 = cc d in
+    b.lost h.1 (ap (meant (design.inst_ids (design.insts_at libs id))) c ∙ h.4)
+steps_apart libs id (t ∷ ts) (u ∷ bs) (n ∷ ns) f e h (stands.later_step x b more) =
     let w : bare t ≡ u = cc e in let r : map bare ts ≡ bs = cc e in
-    let d : word b.0 ≡ word h.0 = sym (ap bare b.4) ∙ (w ∙ h.3) in let c : b.0 ≡ h.0 = cc d in
-    let q : Found b.2 ≡ Found h.1 = sym b.5 ∙ (ap (meant (design.inst_ids (design.insts_at libs id))) c ∙ h.4) in let i : b.2 ≡ h.1 = cc q in
-    let s : Some b.3 ≡ Some h.2 = sym b.6 ∙ (ap (slice_get (design.insts_at libs id)) i ∙ h.5) in let x : b.3 ≡ h.2 = cc s in
+    let d : word b.spelled ≡ word h.0 = sym (ap bare b.is) ∙ (w ∙ h.3) in let c : b.spelled ≡ h.0 = cc d in
+    let q : Found b.at ≡ Found h.1 = sym b.means ∙ (ap (meant (design.inst_ids (design.insts_at libs id))) c ∙ h.4) in let i : b.at ≡ h.1 = cc q in
+    let s : Some x ≡ Some h.2 = sym b.there ∙ (ap (slice_get (design.insts_at libs id)) i ∙ h.5) in let y : x ≡ h.2 = cc s in
     let P : design.Inst → Type 0 = λ v. StepsFault libs v.of ts f in
-    steps_apart libs h.2.of ts bs ns f r h.7 (subst P x b.7)
+    steps_apart libs h.2.of ts bs ns f r h.7 (subst P y more)
 
 -- the parts of a note
 pub note_arguments : (libs : List design.Lib) (top : design.CellId) (t : Placed) (n : design.Note) (h : MeansNote libs top (bare t) n) → map bare (arguments t) ≡ word h.mark ∷ form (word h.path_word ∷ h.steps) ∷ h.property_part ∷ []
@@ -138,37 +139,57 @@ note_property libs top t u n h e =
     let w : bare u ≡ h.property_part = argument_is t u (word h.mark ∷ form (word h.path_word ∷ h.steps) ∷ h.property_part ∷ []) 2 h.property_part (note_arguments libs top t n h) e refl in
     subst (λ v. MeansProperty v n.property) (sym w) h.property
 
+-- a note has a path and a property, where they stand
+pub notes_there : (libs : List design.Lib) (top : design.CellId) (t x u : Placed) (n : design.Note) (place : ℕ) → MeansNote libs top (bare t) n → slice_get (arguments t) 1 ≡ Some x → slice_get (arguments t) 2 ≡ Some u → defined u ≡ Some (n.property.key.id, place)
+    → Notes libs top t n.path n.property.key.id place
+notes_there libs top t x u n place h a b d =
+    let w : bare x ≡ form (word h.path_word ∷ h.steps) = argument_is t x (word h.mark ∷ form (word h.path_word ∷ h.steps) ∷ h.property_part ∷ []) 1 (form (word h.path_word ∷ h.steps)) (note_arguments libs top t n h) a refl in
+    let q = note_property libs top t u n h b in
+    record {
+      path = x;
+      path_there = a;
+      is_path = subst (λ v. IsTrue (has_keyword keywords.Path v)) (sym w) h.path_keyword;
+      means = note_path libs top t x n h a;
+      property = u;
+      property_there = b;
+      is_property = keyword_of keywords.Property (bare u) (q.key_part ∷ q.value_part ∷ []) q.inner q.form;
+      key_there = d;
+    }
+
+path_apart : (libs : List design.Lib) (top : design.CellId) (t : Placed) (ns : List (List ℕ)) (f : MeaningFault) → 0 < length (map bare (arguments t)) → MeansPath libs top (map bare (arguments t)) ns → PathFault libs top t f → ⊥
+path_apart libs top t ns f l h (stands.no_steps k b) = let z : length (map bare (arguments t)) ≡ 0 = ap (λ v. length (map bare v)) k in omega (arith, l, z)
+path_apart libs top t ns f l h (stands.bad_step b) = steps_apart libs top (arguments t) (map bare (arguments t)) ns f refl h b
+
 note_apart : (libs : List design.Lib) (top : design.CellId) (t : Placed) (n : design.Note) (f : MeaningFault) → MeansNote libs top (bare t) n → NoteFault libs top t f → ⊥
-note_apart libs top t n f h (inl b) =
+note_apart libs top t n f h (stands.note_part b) =
     let path_fits : is_one_of (the keywords.Path) (form (word h.path_word ∷ h.steps)) ≡ true = or_first (same h.path_word (spelling_of keywords.Path)) false h.path_keyword in
     let property_fits : is_one_of (the keywords.Property) h.property_part ≡ true = or_first (has_keyword keywords.Property h.property_part) false (keyword_of keywords.Property h.property_part (h.property.key_part ∷ h.property.value_part ∷ []) h.property.inner h.property.form) in
     fixed_apart bad_form (place_of t) note_parts (arguments t) (word h.mark ∷ form (word h.path_word ∷ h.steps) ∷ h.property_part ∷ []) [] f (note_arguments libs top t n h) (refl, (path_fits, (property_fits, tt))) b
-note_apart libs top t n f h (inr (inl b)) =
+note_apart libs top t n f h (stands.note_surplus b) =
     let rest : map bare (drop 3 (arguments t)) ≡ [] = map_drop bare 3 (arguments t) ∙ ap (drop 3) (note_arguments libs top t n h) in
     followers_apart bad_form [] (drop 3 (arguments t)) f (ap (list_all (is_follower [])) rest) b
-note_apart libs top t n f h (inr (inr (inl b))) =
+note_apart libs top t n f h (stands.note_path b) =
     let w : bare b.0 ≡ form (word h.path_word ∷ h.steps) = argument_is t b.0 (word h.mark ∷ form (word h.path_word ∷ h.steps) ∷ h.property_part ∷ []) 1 (form (word h.path_word ∷ h.steps)) (note_arguments libs top t n h) b.1 refl in
     let s : map bare (arguments b.0) ≡ h.steps = arguments_of_form h.path_word b.0 h.steps w in
     let l : 0 < length h.steps = h.some_step in
-    elim (b.3) [ inl k ↦ (let z : length h.steps ≡ 0 = ap length (sym s) ∙ ap (λ v. length (map bare v)) k.0 in omega (arith, l, z)) | inr k ↦ steps_apart libs top (arguments b.0) (map bare (arguments b.0)) n.path f refl (note_path libs top t b.0 n h b.1) k ]
-note_apart libs top t n f h (inr (inr (inr b))) = property_apart b.0 n.property f (note_property libs top t b.0 n h b.1) b.3
+    path_apart libs top b.0 n.path f (let z : length (map bare (arguments b.0)) ≡ length h.steps = ap length s in omega (arith, l, z)) (note_path libs top t b.0 n h b.1) b.3
+note_apart libs top t n f h (stands.note_property b) = property_apart b.0 n.property f (note_property libs top t b.0 n h b.1) b.3
 
 -- the path and the key of a note
 abbrev pub HasKey : List design.Lib → design.CellId → Placed → List (List ℕ) × List ℕ → Type 0
 HasKey libs top u k = (n : design.Note) × MeansNote libs top (bare u) n × (note_key n ≡ k)
 
+-- a note's path and key are those of its form
+key_noted : (libs : List design.Lib) (top : design.CellId) (t : Placed) (x : List (List ℕ) × List ℕ) → HasKey libs top t x → (steps : List (List ℕ)) (key : List ℕ) (place : ℕ) → Notes libs top t steps key place → x ≡ (steps, key)
+key_noted libs top t x h steps key place s =
+    let p : h.0.path ≡ steps = path_once libs top (map bare (arguments s.path)) h.0.path steps (note_path libs top t s.path h.0 h.1 s.path_there) s.means in
+    let i = property_named s.property h.0.property (note_property libs top t s.property h.0 h.1 s.property_there) in
+    let m : h.0.property.key.id ≡ key = first_same (h.0.property.key.id, i.0) (key, place) (sym i.1 ∙ s.key_there) in
+    let g : note_key h.0 ≡ (steps, key) = λ i. (p i, m i) in
+    sym h.2 ∙ g
+
 same_note : (libs : List design.Lib) (top : design.CellId) (f : MeaningFault) (a b : Placed) (x y : List (List ℕ) × List ℕ) → HasKey libs top a x → HasKey libs top b y → SameNote libs top f a b → x ≡ y
-same_note libs top f a b x y h k s =
-    let p : h.0.path ≡ s.0 = path_once libs top (map bare (arguments s.1)) h.0.path s.0 (note_path libs top a s.1 h.0 h.1 s.8) s.9 in
-    let q : k.0.path ≡ s.0 = path_once libs top (map bare (arguments s.2)) k.0.path s.0 (note_path libs top b s.2 k.0 k.1 s.10) s.11 in
-    let i = property_named s.3 h.0.property (note_property libs top a s.3 h.0 h.1 s.12) in
-    let j = property_named s.4 k.0.property (note_property libs top b s.4 k.0 k.1 s.14) in
-    let m : h.0.property.key.id ≡ s.5 = first_same (h.0.property.key.id, i.0) (s.5, s.6) (sym i.1 ∙ s.13) in
-    let n : k.0.property.key.id ≡ s.5 = first_same (k.0.property.key.id, j.0) (s.5, s.7) (sym j.1 ∙ s.15) in
-    let e : h.0.path ≡ k.0.path = p ∙ sym q in
-    let d : h.0.property.key.id ≡ k.0.property.key.id = m ∙ sym n in
-    let g : note_key h.0 ≡ note_key k.0 = λ i. (e i, d i) in
-    sym h.2 ∙ (g ∙ k.2)
+same_note libs top f a b x y h k s = key_noted libs top a x h s.steps s.key s.earlier s.first ∙ sym (key_noted libs top b y k s.steps s.key s.place s.second)
 
 -- the design
 pub record FineTop (notes : List design.Note) (d : design.TopHead) : Type 0 where
@@ -176,28 +197,30 @@ pub record FineTop (notes : List design.Note) (d : design.TopHead) : Type 0 wher
   pub count : length notes ≤ 1048576
   pub differ : AreDistinct (map note_key notes)
 
+notes_are : (libs : List design.Lib) (notes : List design.Note) (t : Placed) (d : design.TopHead) → (h : MeansDesign libs notes (bare t) d) → map bare (notes_in t) ≡ filter is_note h.inner
+notes_are libs notes t d h = filter_bare is_note (followers keywords.Design t) ∙ ap (filter is_note) (followers_are keywords.Design t (h.name_part ∷ h.cell_part ∷ []) h.inner h.form)
+
+-- the cell that a design's form names is its top
+top_once : (libs : List design.Lib) (notes : List design.Note) (t : Placed) (d : design.TopHead) (top : design.CellId) → MeansDesign libs notes (bare t) d → MeansTop libs t top → top ≡ d.cell
+top_once libs notes t d top h b =
+    cell_ref_once libs None (bare b.0) top d.cell b.2 (subst (λ u. MeansCellRef libs None u d.cell) (sym (part_is keywords.Design t (h.name_part ∷ h.cell_part ∷ []) h.inner 1 b.0 h.cell_part h.form b.1 refl)) h.cell)
+
 design_apart : (libs : List design.Lib) (notes : List design.Note) (t : Placed) (d : design.TopHead) (f : MeaningFault) → MeansDesign libs notes (bare t) d → FineTop notes d → DesignFault libs t f → ⊥
-design_apart libs notes t d f h v (inl b) = row_apart keywords.Design t (h.name_part ∷ h.cell_part ∷ []) h.inner f h.form b
-design_apart libs notes t d f h v (inr (inl b)) = name_apart b.0 d.name f (subst (λ u. MeansName u d.name) (sym (part_is keywords.Design t (h.name_part ∷ h.cell_part ∷ []) h.inner 0 b.0 h.name_part h.form b.1 refl)) h.name) b.2
-design_apart libs notes t d f h v (inr (inr (inl b))) = cell_ref_apart libs None b.0 d.cell f (subst (λ u. MeansCellRef libs None u d.cell) (sym (part_is keywords.Design t (h.name_part ∷ h.cell_part ∷ []) h.inner 1 b.0 h.cell_part h.form b.1 refl)) h.cell) b.2
-design_apart libs notes t d f h v (inr (inr (inr (inl b)))) = properties_apart (parts keywords.Design keywords.Property t) (those keywords.Property h.inner) d.properties f (parts_are keywords.Design keywords.Property t (h.name_part ∷ h.cell_part ∷ []) h.inner h.form) h.properties v.keys b
-design_apart libs notes t d f h v (inr (inr (inr (inr b)))) =
-    let e : map bare (notes_in t) ≡ filter is_note h.inner = filter_bare is_note (followers keywords.Design t) ∙ ap (filter is_note) (followers_are keywords.Design t (h.name_part ∷ h.cell_part ∷ []) h.inner h.form) in
-    go e b
-  where
-    go : map bare (notes_in t) ≡ filter is_note h.inner → NotesFault libs t f ⊎ Beyond 1048576 (notes_in t) f → ⊥
-    go e (inr b) =
-        let l : length (notes_in t) ≡ length notes = sym (map_length bare (notes_in t)) ∙ (ap length e ∙ each_length (MeansNote libs d.cell) (filter is_note h.inner) notes h.noted) in
-        let k : length notes ≤ 1048576 = v.count in beyond_apart 1048576 (notes_in t) f (omega (arith, l, k)) b
-    go e (inl b) =
-        let m = subst (λ u. MeansCellRef libs None u d.cell) (sym (part_is keywords.Design t (h.name_part ∷ h.cell_part ∷ []) h.inner 1 b.0 h.cell_part h.form b.2 refl)) h.cell in
-        let i : b.1 ≡ d.cell = cell_ref_once libs None (bare b.0) b.1 d.cell b.3 m in
-        let P : design.CellId → Type 0 = λ w. Among (NoteFault libs w) (notes_in t) f ⊎ AtTwo (SameNote libs w f) (notes_in t) in
-        elim (subst P i b.4) [
-          | inl k ↦ each_apart (MeansNote libs d.cell) (λ n. Unit {0}) (NoteFault libs d.cell) f (λ u n q r s. note_apart libs d.cell u n f q s) (notes_in t) (filter is_note h.inner) notes e h.noted (free_all notes) k
-          | inr k ↦ two_apart (HasKey libs d.cell) (SameNote libs d.cell f) note_key (same_note libs d.cell f) (notes_in t) notes
-              (each_with (MeansNote libs d.cell) (λ u n. HasKey libs d.cell u (note_key n)) (λ u n q. (n, q, refl)) (notes_in t) (filter is_note h.inner) notes e h.noted) (differ (map note_key notes) v.differ) k
-        ]
+design_apart libs notes t d f h v (stands.design_row b) = row_apart keywords.Design t (h.name_part ∷ h.cell_part ∷ []) h.inner f h.form b
+design_apart libs notes t d f h v (stands.design_name b) = name_apart b.0 d.name f (subst (λ u. MeansName u d.name) (sym (part_is keywords.Design t (h.name_part ∷ h.cell_part ∷ []) h.inner 0 b.0 h.name_part h.form b.1 refl)) h.name) b.2
+design_apart libs notes t d f h v (stands.design_cell b) = cell_ref_apart libs None b.0 d.cell f (subst (λ u. MeansCellRef libs None u d.cell) (sym (part_is keywords.Design t (h.name_part ∷ h.cell_part ∷ []) h.inner 1 b.0 h.cell_part h.form b.1 refl)) h.cell) b.3
+design_apart libs notes t d f h v (stands.design_properties b) = properties_apart (parts keywords.Design keywords.Property t) (those keywords.Property h.inner) d.properties f (parts_are keywords.Design keywords.Property t (h.name_part ∷ h.cell_part ∷ []) h.inner h.form) h.properties v.keys b
+design_apart libs notes t d f h v (stands.design_notes (stands.one_note top m b)) =
+    let i = top_once libs notes t d top h m in
+    each_apart (MeansNote libs d.cell) (λ n. Unit {0}) (NoteFault libs d.cell) f (λ u n q r s. note_apart libs d.cell u n f q s) (notes_in t) (filter is_note h.inner) notes (notes_are libs notes t d h) h.noted (free_all notes) (subst (λ w. Among (NoteFault libs w) (notes_in t) f) i b)
+design_apart libs notes t d f h v (stands.design_notes (stands.note_again top m b)) =
+    let i = top_once libs notes t d top h m in
+    two_apart (HasKey libs d.cell) (SameNote libs d.cell f) note_key (same_note libs d.cell f) (notes_in t) notes
+    (each_with (MeansNote libs d.cell) (λ u n. HasKey libs d.cell u (note_key n)) (λ u n q. (n, q, refl)) (notes_in t) (filter is_note h.inner) notes (notes_are libs notes t d h) h.noted) (differ (map note_key notes) v.differ)
+    (subst (λ w. AtTwo (SameNote libs w f) (notes_in t)) i b)
+design_apart libs notes t d f h v (stands.many_notes b) =
+    let l : length (notes_in t) ≡ length notes = sym (map_length bare (notes_in t)) ∙ (ap length (notes_are libs notes t d h) ∙ each_length (MeansNote libs d.cell) (filter is_note h.inner) notes h.noted) in
+    let k : length notes ≤ 1048576 = v.count in beyond_apart 1048576 (notes_in t) f (omega (arith, l, k)) b
 
 -- what stands before the design
 pub before_bare : (ts : List Placed) → map bare (before_the_design ts) ≡ before_design (map bare ts)
@@ -240,40 +263,45 @@ fine_top d (Some x) e v =
     let k : IsCell d x.cell × HasDistinctKeys x.properties = subst P e v.top in
     record { keys = k.1; count = v.limits.notes; differ = v.notes_differ }
 
+-- a fault in the first of some forms is one among them
+among_first : (F : Placed → MeaningFault → Type 0) (f : MeaningFault) (ts : List Placed) (u : Placed) → slice_get ts 0 ≡ Some u → F u f → Among F ts f
+among_first F f [] u e b = absurd (cc e)
+among_first F f (t ∷ ts) u e b = let w : t ≡ u = cc e in inl (subst (λ v. F v f) (sym w) b)
+
 file_apart : (t : Placed) (d : design.Design) (f : MeaningFault) → MeansFile (bare t) d → FileFault t f → ⊥
 file_apart t d f h b =
     let e : map bare (libraries (followers keywords.Edif t)) ≡ filter is_library h.inner = filter_bare is_library (followers keywords.Edif t) ∙ ap (filter is_library) (followers_are keywords.Edif t (h.name_part ∷ h.version_part ∷ h.level_part ∷ h.map_part ∷ []) h.inner h.form) in
     go e b
   where
     go : map bare (libraries (followers keywords.Edif t)) ≡ filter is_library h.inner → FileFault t f → ⊥
-    go e (inl b) = row_apart keywords.Edif t (h.name_part ∷ h.version_part ∷ h.level_part ∷ h.map_part ∷ []) h.inner f h.form b
-    go e (inr (inl b)) = name_apart b.0 d.title f (subst (λ u. MeansName u d.title) (sym (part_is keywords.Edif t (h.name_part ∷ h.version_part ∷ h.level_part ∷ h.map_part ∷ []) h.inner 0 b.0 h.name_part h.form b.1 refl)) h.name) b.2
-    go e (inr (inr (inl b))) = version_apart b.0 f (subst (λ u. IsFormOf keywords.EdifVersion u Version []) (sym (part_is keywords.Edif t (h.name_part ∷ h.version_part ∷ h.level_part ∷ h.map_part ∷ []) h.inner 1 b.0 h.version_part h.form b.1 refl)) h.version) b.2
-    go e (inr (inr (inr (inl b)))) = level_apart keywords.EdifLevel b.0 f (subst (IsLevel keywords.EdifLevel) (sym (part_is keywords.Edif t (h.name_part ∷ h.version_part ∷ h.level_part ∷ h.map_part ∷ []) h.inner 2 b.0 h.level_part h.form b.1 refl)) h.level) b.2
-    go e (inr (inr (inr (inr (inl b))))) = map_apart b.0 h.keyword_level_part h.map_inner f (subst (λ u. IsFormOf keywords.KeywordMap u (h.keyword_level_part ∷ []) h.map_inner) (sym (part_is keywords.Edif t (h.name_part ∷ h.version_part ∷ h.level_part ∷ h.map_part ∷ []) h.inner 3 b.0 h.map_part h.form b.1 refl)) h.keyword_map) h.keyword_level b.2
-    go e (inr (inr (inr (inr (inr (inl b)))))) = after_apart MeansLibrary FineLibrary LibraryFault f (λ before u l m q k. library_apart before u l f m q k) library_once [] (libraries (followers keywords.Edif t)) (filter is_library h.inner) d.libs e h.libs
+    go e (stands.edif_row b) = row_apart keywords.Edif t (h.name_part ∷ h.version_part ∷ h.level_part ∷ h.map_part ∷ []) h.inner f h.form b
+    go e (stands.edif_name b) = name_apart b.0 d.title f (subst (λ u. MeansName u d.title) (sym (part_is keywords.Edif t (h.name_part ∷ h.version_part ∷ h.level_part ∷ h.map_part ∷ []) h.inner 0 b.0 h.name_part h.form b.1 refl)) h.name) b.2
+    go e (stands.edif_version b) = version_apart b.0 f (subst (λ u. IsFormOf keywords.EdifVersion u Version []) (sym (part_is keywords.Edif t (h.name_part ∷ h.version_part ∷ h.level_part ∷ h.map_part ∷ []) h.inner 1 b.0 h.version_part h.form b.1 refl)) h.version) b.3
+    go e (stands.edif_level b) = level_apart keywords.EdifLevel b.0 f (subst (IsLevel keywords.EdifLevel) (sym (part_is keywords.Edif t (h.name_part ∷ h.version_part ∷ h.level_part ∷ h.map_part ∷ []) h.inner 2 b.0 h.level_part h.form b.1 refl)) h.level) b.3
+    go e (stands.edif_map b) = map_apart b.0 h.keyword_level_part h.map_inner f (subst (λ u. IsFormOf keywords.KeywordMap u (h.keyword_level_part ∷ []) h.map_inner) (sym (part_is keywords.Edif t (h.name_part ∷ h.version_part ∷ h.level_part ∷ h.map_part ∷ []) h.inner 3 b.0 h.map_part h.form b.1 refl)) h.keyword_map) h.keyword_level b.3
+    go e (stands.edif_library b) = after_apart MeansLibrary FineLibrary LibraryFault f (λ before u l m q k. library_apart before u l f m q k) library_once [] (libraries (followers keywords.Edif t)) (filter is_library h.inner) d.libs e h.libs
         (all_by_place FineLibrary d.libs (λ i l g. fine_library d i l h.valid g)) b
-    go e (inr (inr (inr (inr (inr (inr (inl b))))))) = repeats_apart (λ (l : design.Lib). l.head.name.id) f (libraries (followers keywords.Edif t)) d.libs
+    go e (stands.library_again b) = repeats_apart (λ (l : design.Lib). l.head.name.id) f (libraries (followers keywords.Edif t)) d.libs
         (after_with MeansLibrary (λ u l. IsNamed u l.head.name.id) library_named [] (libraries (followers keywords.Edif t)) (filter is_library h.inner) d.libs e h.libs) h.valid.names.libs b
-    go e (inr (inr (inr (inr (inr (inr (inr (inl b)))))))) =
+    go e (stands.many_libraries b) =
         let n : length (libraries (followers keywords.Edif t)) ≡ length d.libs = sym (map_length bare (libraries (followers keywords.Edif t))) ∙ (ap length e ∙ after_length MeansLibrary [] (filter is_library h.inner) d.libs h.libs) in
         let k : length d.libs ≤ 1024 = h.valid.limits.libs in beyond_apart 1024 (libraries (followers keywords.Edif t)) f (omega (arith, n, k)) b
-    go e (inr (inr (inr (inr (inr (inr (inr (inr b)))))))) =
+    go e (stands.edif_design b) =
         let ts = followers keywords.Edif t in
         let w : map bare ts ≡ h.inner = followers_are keywords.Edif t (h.name_part ∷ h.version_part ∷ h.level_part ∷ h.map_part ∷ []) h.inner h.form in
         let front : map bare (libraries (before_the_design ts)) ≡ filter is_library (before_design h.inner) = filter_bare is_library (before_the_design ts) ∙ ap (filter is_library) (before_bare ts ∙ ap before_design w) in
         let r = libraries_before h.inner in
         let P : List Bare → Type 0 = λ v. EachAfter MeansLibrary [] v d.libs in
         let g : EachAfter MeansLibrary [] (filter is_library (before_design h.inner)) (libs_before_design h.inner d.libs) = front_after MeansLibrary [] (filter is_library (before_design h.inner)) r.0 d.libs (subst P r.1 h.libs) in
-        let Q : List Bare → Type 0 = λ v. EachAfter MeansLibrary [] v b.0 in
-        let s : b.0 ≡ libs_before_design h.inner d.libs = each_after_once MeansLibrary library_once [] (filter is_library (before_design h.inner)) b.0 (libs_before_design h.inner d.libs) (subst Q front b.1) g in
+        let Q : List Bare → Type 0 = λ v. EachAfter MeansLibrary [] v b.libs in
+        let s : b.libs ≡ libs_before_design h.inner d.libs = each_after_once MeansLibrary library_once [] (filter is_library (before_design h.inner)) b.libs (libs_before_design h.inner d.libs) (subst Q front b.means) g in
         let R : List design.Lib → Type 0 = λ v. Among (DesignFault v) (parts keywords.Edif keywords.Design t) f in
         perhaps_apart (MeansDesign (libs_before_design h.inner d.libs) d.notes) (FineTop d.notes) (DesignFault (libs_before_design h.inner d.libs)) f (λ u x m q k. design_apart (libs_before_design h.inner d.libs) d.notes u x f m q k)
-        (parts keywords.Edif keywords.Design t) (those keywords.Design h.inner) d.top (parts_are keywords.Edif keywords.Design t (h.name_part ∷ h.version_part ∷ h.level_part ∷ h.map_part ∷ []) h.inner h.form) h.top (fine_top d d.top refl h.valid) (subst R s b.2)
+        (parts keywords.Edif keywords.Design t) (those keywords.Design h.inner) d.top (parts_are keywords.Edif keywords.Design t (h.name_part ∷ h.version_part ∷ h.level_part ∷ h.map_part ∷ []) h.inner h.form) h.top (fine_top d d.top refl h.valid) (subst R s (among_first (DesignFault b.libs) f (parts keywords.Edif keywords.Design t) b.first b.there b.fault))
 
 -- No fault stands in a tree that means a design.
 pub stands_apart : (t : Placed) (d : design.Design) (f : MeaningFault) → MeansFile (bare t) d → Stands t f → ⊥
-stands_apart t d f h (inl b) =
+stands_apart t d f h (stands.no_file k b) =
     let yes' : has_keyword keywords.Edif (bare t) ≡ true = keyword_of keywords.Edif (bare t) (h.name_part ∷ h.version_part ∷ h.level_part ∷ h.map_part ∷ []) h.inner h.form in
-    let no' : has_keyword keywords.Edif (bare t) ≡ false = b.0 in absurd (cc)
-stands_apart t d f h (inr b) = file_apart t d f h b
+    let no' : has_keyword keywords.Edif (bare t) ≡ false = k in absurd (cc)
+stands_apart t d f h (stands.in_file k b) = file_apart t d f h b

@@ -22,7 +22,7 @@ use Rattle.netlist_schema.proofs.Cells.{All-slice_get, All-cell_at}
 use Rattle.spelling_spec.specs.Names.{is_empty, is_name}
 use Rattle.spelling_spec.specs.Spelling.{Spells}
 use Rattle.spelling_spec.specs.Tree.{Bare, form, word, integer, string, trees, depth, depths}
-use Rattle.edif_spec.specs.Canonical.{make, perhaps, name_tree, name_with, number_tree, boolean_tree, value_tree, text_tree, property_tree, direction_word, direction_tree, port_name_tree, port_tree, cell_ref_tree, inst_tree, ports_of_end, bit_tree, port_ref_tree, end_tree, net_tree, contents_tree, kind_word, interface_tree, view_tree, cell_tree, zero_tree, library_keyword, library_tree, note_tree, design_tree, tree_of, text}
+use Rattle.edif_spec.specs.Canonical.{make, perhaps, name_tree, name_with, number_tree, boolean_tree, value_tree, text_tree, property_tree, direction_word, direction_tree, port_name_tree, port_tree, cell_ref_tree, inst_tree, ports_of_end, bit_tree, port_ref_tree, end_tree, net_tree, contents_tree, kind_word, interface_tree, view_tree, cell_tree, zero_tree, library_keyword, library_tree, note_tree, design_tree, tree_of, text_as_listed}
 use Rattle.edif_spec.specs.Design as design
 use Rattle.edif_spec.specs.Keyword.{spelling_of}
 use Rattle.edif_spec.specs.Writable.{IsWritable, AreWritable}
@@ -390,5 +390,5 @@ pub tree_low : (d : design.Design) → IsValid d → depth (tree_of d) ≤ 10
 tree_low d v = (fine_tree d v).1
 
 -- so its text spells its tree
-pub text_spelled : (d : design.Design) → IsValid d → Spells (text d) (tree_of d)
+pub text_spelled : (d : design.Design) → IsValid d → Spells (text_as_listed d) (tree_of d)
 text_spelled d v = let low : depth (tree_of d) ≤ 10 = tree_low d v in layout_spells (tree_of d) tt (omega (arith, low)) (tree_writable d v)

@@ -13,8 +13,9 @@ use Rattle.edif_spec.specs.Keyword as keyword
 use Rattle.edif_spec.specs.Rows.{has_keyword, those, is_one_of, IsFormOf, Each, Perhaps, Just}
 use Rattle.edif_spec.specs.Canonical.{kind_word, ports_of_end}
 use Rattle.edif_spec.specs.Means.{Meant as Meaning, equal, equal_or, only_place, meant, Found, Absent, Several, width_at, MeansText, MeansPort, MeansLibraryRef, MeansCellRef, MeansViewRef, MeansInst, MeansInstRef, MeansBit, MeansEnd, MeansNet, MeansContents, IsNetlist, MeansView, MeansKind, MeansCell}
-use Rattle.edif_spec.specs.Faults.{AtTwo, place_of, followers, parts, Among, InPart, RowFault}
-use Rattle.edif_spec.specs.Stands.{Dangles, ports_in, LibraryRefFault, CellRefFault, ViewRefFault, InstFault, InstRefFault, IndexFault, BitFault, EndFault, JoinedFault, NetFault, ends_in, insts_in, nets_in, SameEnd, ContentsFault, is_netlist, TypeFault, ViewFault, is_cell_type, CellTypeFault, CellFault}
+use Rattle.edif_spec.specs.Faults.{AtTwo, place_of, followers, parts, Among, RowFault}
+use Rattle.edif_spec.specs.Stands.{Dangles, ports_in, LibraryRefFault, CellRefFault, ViewRefFault, InstFault, InstRefFault, BitFault, EndFault, JoinedFault, NetFault, ends_in, insts_in, nets_in, SameEnd, ContentsFault, is_netlist, TypeFault, ViewFault, is_cell_type, CellTypeFault, CellFault}
+use Rattle.edif_spec.specs.Stands as stands
 use Rattle.edif_spec.specs.Design as design
 use Rattle.edif_spec.specs.declared.keyword.Keyword.{Keyword}
 use Rattle.edif_spec.specs.declared.keyword.Keyword.TheVariants as keywords
@@ -46,10 +47,10 @@ reference_known scope u h = let a = word_choice u h in go a.0 a.1 a.2 (meant sco
 
 library_ref_known : (libs : List design.Lib) (own : Option ℕ) (t : Placed) → IsOf (has_keyword keywords.LibraryRef) t → ((l : ℕ) × MeansLibraryRef libs own (bare t ∷ []) l) ⊎ Faulty (LibraryRefFault libs t)
 library_ref_known libs own t h = elim (known1 keywords.LibraryRef identifier [] t refl h) [
-  | inr b ↦ inr (b.0, inl b.1)
+  | inr b ↦ inr (b.0, stands.library_ref_row b.1)
   | inl s ↦ (let f : IsFormOf keywords.LibraryRef (bare t) (bare s.a ∷ []) [] = follow_none keywords.LibraryRef (identifier ∷ []) (bare t) (bare s.a ∷ []) (map bare (followers keywords.LibraryRef t)) refl s.form in
       elim (reference_known (design.lib_ids libs) s.a s.is_a) [
-        | inr b ↦ inr (b.0, inr (s.a, s.at_a, b.1))
+        | inr b ↦ inr (b.0, stands.library_ref_name (s.a, s.at_a, b.1))
         | inl r ↦ inl (r.index, (r.name, subst (λ x. IsFormOf keywords.LibraryRef (bare t) (bare x ∷ []) []) r.is f, r.means))
       ])
 ]
@@ -72,14 +73,14 @@ id_of l slot = record { lib = record { 0 = l }; slot = slot }
 
 pub cell_ref_known : (libs : List design.Lib) (own : Option ℕ) (t : Placed) → IsOf (has_keyword keywords.CellRef) t → ((id : design.CellId) × MeansCellRef libs own (bare t) id) ⊎ Faulty (CellRefFault libs own t)
 cell_ref_known libs own t h = elim (known1 keywords.CellRef identifier (One keywords.LibraryRef ∷ []) t refl h) [
-  | inr b ↦ inr (b.0, inl b.1)
+  | inr b ↦ inr (b.0, stands.cell_ref_row b.1)
   | inl s ↦ (let n : length (parts keywords.CellRef keywords.LibraryRef t) ≡ length (those keywords.LibraryRef (map bare (followers keywords.CellRef t))) = parts_length keywords.CellRef keywords.LibraryRef t in
       let m : length (those keywords.LibraryRef (map bare (followers keywords.CellRef t))) ≤ 1 = s.form.fits.2.0 in
       elim (library_refs_known libs own (parts keywords.CellRef keywords.LibraryRef t) (parts_of keywords.CellRef keywords.LibraryRef t h.1) (omega (arith, n, m))) [
-        | inr (inl b) ↦ inr (b.0, inr (inl b.1))
-        | inr (inr b) ↦ inr (At BadForm (place_of t), inr (inr (inr (b.0, b.1, refl))))
+        | inr (inl b) ↦ inr (b.0, stands.cell_ref_library b.1)
+        | inr (inr b) ↦ inr (At BadForm (place_of t), stands.cell_ref_alone b.0 b.1 refl)
         | inl l ↦ elim (reference_known (design.cell_ids libs l.0) s.a s.is_a) [
-          | inr b ↦ inr (b.0, inr (inr (inl (l.0, l.1, (s.a, s.at_a, b.1)))))
+          | inr b ↦ inr (b.0, stands.cell_ref_name l.0 l.1 (s.a, s.at_a, b.1))
           | inl r ↦ inl (
             id_of l.0 r.index,
             record {
@@ -105,12 +106,12 @@ found_first name w i e = by_place (equal w name) (same w name) e
 
 view_ref_known : (libs : List design.Lib) (own : Option ℕ) (t : Placed) → IsOf (has_keyword keywords.ViewRef) t → ((id : design.CellId) × MeansViewRef libs own (bare t) id) ⊎ Faulty (ViewRefFault libs own t)
 view_ref_known libs own t h = elim (known2 keywords.ViewRef identifier (the keywords.CellRef) [] t refl h) [
-  | inr b ↦ inr (b.0, inl b.1)
+  | inr b ↦ inr (b.0, stands.view_ref_row b.1)
   | inl s ↦ (let f : IsFormOf keywords.ViewRef (bare t) (bare s.a ∷ bare s.b ∷ []) [] = follow_none keywords.ViewRef (identifier ∷ the keywords.CellRef ∷ []) (bare t) (bare s.a ∷ bare s.b ∷ []) (map bare (followers keywords.ViewRef t)) refl s.form in
       elim (cell_ref_known libs own s.b (form_choice keywords.CellRef s.b s.is_b, s.written_b)) [
-        | inr b ↦ inr (b.0, inr (inl (s.b, s.at_b, b.1)))
+        | inr b ↦ inr (b.0, stands.view_ref_cell (s.b, s.at_b, form_choice keywords.CellRef s.b s.is_b, b.1))
         | inl c ↦ elim (reference_known (design.view_id libs c.0 ∷ []) s.a s.is_a) [
-          | inr b ↦ inr (b.0, inr (inr (s.b, c.0, s.at_b, c.1, (s.a, s.at_a, b.1))))
+          | inr b ↦ inr (b.0, stands.view_ref_name s.b c.0 s.at_b c.1 (s.a, s.at_a, b.1))
           | inl r ↦ inl (
             c.0,
             record {
@@ -128,15 +129,15 @@ view_ref_known libs own t h = elim (known2 keywords.ViewRef identifier (the keyw
 -- instances
 pub inst_known : (libs : List design.Lib) (own : Option ℕ) (t : Placed) → IsOf (has_keyword keywords.Instance) t → Meant (MeansInst libs own) (λ i. IsTypedInst i × HasDistinctKeys i.properties) t ⊎ Faulty (InstFault libs own t)
 inst_known libs own t h = elim (known2 keywords.Instance name_definition (the keywords.ViewRef) (One keywords.Designator ∷ Many keywords.Property ∷ Many keywords.Comment ∷ Many keywords.UserData ∷ []) t refl h) [
-  | inr b ↦ inr (b.0, inl b.1)
+  | inr b ↦ inr (b.0, stands.inst_row b.1)
   | inl s ↦ elim (name_known s.a s.written_a s.is_a) [
-    | inr b ↦ inr (b.0, inr (inl (s.a, s.at_a, b.1)))
+    | inr b ↦ inr (b.0, stands.inst_name (s.a, s.at_a, b.1))
     | inl n ↦ elim (view_ref_known libs own s.b (form_choice keywords.ViewRef s.b s.is_b, s.written_b)) [
-      | inr b ↦ inr (b.0, inr (inr (inl (s.b, s.at_b, b.1))))
+      | inr b ↦ inr (b.0, stands.inst_view (s.b, s.at_b, form_choice keywords.ViewRef s.b s.is_b, b.1))
       | inl v ↦ elim (perhaps_in (MeansText keywords.Designator) IsBytes (RowFault keywords.Designator) keywords.Instance keywords.Designator t (λ u w. text_known keywords.Designator u refl w) h.1 s.form.fits.2.0) [
-        | inr b ↦ inr (b.0, inr (inr (inr (inl b.1))))
+        | inr b ↦ inr (b.0, stands.inst_designator b.1)
         | inl g ↦ elim (properties_known keywords.Instance t h.1) [
-          | inr b ↦ inr (b.0, inr (inr (inr (inr b.1))))
+          | inr b ↦ inr (b.0, stands.inst_properties b.1)
           | inl ps ↦ inl (
             record { name = n.0; of = v.0; designator = g.0; properties = ps.list },
             record { name_part = bare s.a; view_part = bare s.b; inner = map bare (followers keywords.Instance t); form = s.form; name = n.1; of = v.1; designator = g.1; properties = ps.mean },
@@ -151,10 +152,10 @@ inst_known libs own t h = elim (known2 keywords.Instance name_definition (the ke
 -- ends
 inst_ref_known : (insts : List design.Inst) (t : Placed) → IsOf (has_keyword keywords.InstanceRef) t → Meant (MeansInstRef insts) (λ i. Unit {0}) t ⊎ Faulty (InstRefFault insts t)
 inst_ref_known insts t h = elim (known1 keywords.InstanceRef identifier [] t refl h) [
-  | inr b ↦ inr (b.0, inl b.1)
+  | inr b ↦ inr (b.0, stands.inst_ref_row b.1)
   | inl s ↦ (let f : IsFormOf keywords.InstanceRef (bare t) (bare s.a ∷ []) [] = follow_none keywords.InstanceRef (identifier ∷ []) (bare t) (bare s.a ∷ []) (map bare (followers keywords.InstanceRef t)) refl s.form in
       elim (reference_known (design.inst_ids insts) s.a s.is_a) [
-        | inr b ↦ inr (b.0, inr (s.a, s.at_a, b.1))
+        | inr b ↦ inr (b.0, stands.inst_ref_name (s.a, s.at_a, b.1))
         | inl r ↦ inl (r.index, (r.name, subst (λ x. IsFormOf keywords.InstanceRef (bare t) (bare x ∷ []) []) r.is f, r.means), tt)
       ])
 ]
@@ -171,22 +172,22 @@ index_of (pos m) width = elim (test (nat_lt m width)) [ inl e ↦ inl (m, refl, 
 
 whole_known : (ports : List design.Port) (t : Placed) → is_one_of identifier (bare t) ≡ true → KnownBit ports t ⊎ Faulty (BitFault ports t)
 whole_known ports t h = elim (reference_known (design.port_ids ports) t h) [
-  | inr b ↦ inr (b.0, inl b.1)
+  | inr b ↦ inr (b.0, stands.bit_port b.1)
   | inl r ↦ elim (nat_same (width_at ports r.index) 1) [
-    | inr n ↦ inr (At WholeArray r.place, inr (inl (r.name, r.place, r.index, r.is, r.means, n, refl)))
+    | inr n ↦ inr (At WholeArray r.place, stands.bit_whole (record { spelled = r.name; place = r.place; port = r.index; is = r.is; means = r.means; wide = n; fault = refl }))
     | inl e ↦ inl (record { port = r.index; bit = 0; mean = inl (r.name, ap bare r.is, r.means, e, refl) })
   ]
 ]
 
-member_known : (ports : List design.Port) (t : Placed) → IsOf (has_keyword keywords.Member) t → KnownBit ports t ⊎ Faulty (λ f. RowFault keywords.Member t f ⊎ (InPart 0 (Dangles (design.port_ids ports)) t f ⊎ IndexFault ports t f))
+member_known : (ports : List design.Port) (t : Placed) → IsOf (has_keyword keywords.Member) t → KnownBit ports t ⊎ Faulty (BitFault ports t)
 member_known ports t h = elim (known2 keywords.Member identifier keyword.integer [] t refl h) [
-  | inr b ↦ inr (b.0, inl b.1)
+  | inr b ↦ inr (b.0, stands.member_row h.0 b.1)
   | inl s ↦ (let f : IsFormOf keywords.Member (bare t) (bare s.a ∷ bare s.b ∷ []) [] = follow_none keywords.Member (identifier ∷ keyword.integer ∷ []) (bare t) (bare s.a ∷ bare s.b ∷ []) (map bare (followers keywords.Member t)) refl s.form in
       let b = integer_choice s.b s.is_b in
       elim (reference_known (design.port_ids ports) s.a s.is_a) [
-        | inr d ↦ inr (d.0, inr (inl (s.a, s.at_a, d.1)))
+        | inr d ↦ inr (d.0, stands.member_port h.0 (s.a, s.at_a, d.1))
         | inl r ↦ elim (index_of b.1 (width_at ports r.index)) [
-          | inr n ↦ inr (At BadIndex b.0, inr (inr (r.name, r.place, r.index, b.1, b.0, s.at_a ∙ ap Some r.is, r.means, s.at_b ∙ ap Some b.2, n, refl)))
+          | inr n ↦ inr (At BadIndex b.0, stands.member_index h.0 (record { spelled = r.name; named = r.place; port = r.index; index = b.1; place = b.0; name_there = s.at_a ∙ ap Some r.is; means = r.means; index_there = s.at_b ∙ ap Some b.2; beyond = n; fault = refl }))
           | inl i ↦ (let P : Placed → Placed → Type 0 = λ x y. IsFormOf keywords.Member (bare t) (bare x ∷ bare y ∷ []) [] in
               let g : P (Word' r.place r.name) (Integer' b.0 b.1) = subst (λ y. P (Word' r.place r.name) y) b.2 (subst (λ x. P x s.b) r.is f) in
               let k : IsFormOf keywords.Member (bare t) (word r.name ∷ integer (pos i.0) ∷ []) [] = subst (λ z. IsFormOf keywords.Member (bare t) (word r.name ∷ integer z ∷ []) []) i.1 g in
@@ -202,15 +203,15 @@ bit_known ports (String' p s) v h = absurd (cc h)
 bit_known ports (Form' p ts) v h =
     let t : Placed = Form' p ts in
     let k : has_keyword keywords.Member (bare t) ≡ true = only (has_keyword keywords.Member (bare t)) h in
-    elim (member_known ports t (k, v)) [ inr b ↦ inr (b.0, inr (inr (k, b.1))) | inl x ↦ inl x ]
+    member_known ports t (k, v)
 
 end_known : (libs : List design.Lib) (ports : List design.Port) (insts : List design.Inst) (t : Placed) → IsOf (has_keyword keywords.PortRef) t → Meant (MeansEnd libs ports insts) (λ e. Unit {0}) t ⊎ Faulty (EndFault libs ports insts t)
 end_known libs ports insts t h = elim (known1 keywords.PortRef (AnIdentifier ∷ AForm keywords.Member ∷ []) (One keywords.InstanceRef ∷ []) t refl h) [
-  | inr b ↦ inr (b.0, inl b.1)
+  | inr b ↦ inr (b.0, stands.end_row b.1)
   | inl s ↦ elim (perhaps_in (MeansInstRef insts) (λ i. Unit {0}) (InstRefFault insts) keywords.PortRef keywords.InstanceRef t (inst_ref_known insts) h.1 s.form.fits.2.0) [
-    | inr b ↦ inr (b.0, inr (inl b.1))
+    | inr b ↦ inr (b.0, stands.end_inst b.1)
     | inl o ↦ elim (bit_known (ports_of_end libs ports insts o.0) s.a s.written_a s.is_a) [
-      | inr b ↦ inr (b.0, inr (inr (o.0, subst (λ v. Perhaps (MeansInstRef insts) v o.0) (sym (parts_bare keywords.PortRef keywords.InstanceRef t)) o.1, (s.a, s.at_a, b.1))))
+      | inr b ↦ inr (b.0, stands.end_bit o.0 (subst (λ v. Perhaps (MeansInstRef insts) v o.0) (sym (parts_bare keywords.PortRef keywords.InstanceRef t)) o.1) (s.a, s.at_a, b.1))
       | inl x ↦ inl (record { inst = o.0; port = x.port; bit = x.bit }, record { bit_part = bare s.a; inner = map bare (followers keywords.PortRef t); form = s.form; inst = o.1; bit = x.mean }, tt)
     ]
   ]
@@ -225,22 +226,22 @@ pub record KnownJoined (libs : List design.Lib) (ports : List design.Port) (inst
 
 joined_known : (libs : List design.Lib) (ports : List design.Port) (insts : List design.Inst) (t : Placed) → IsOf (has_keyword keywords.Joined) t → KnownJoined libs ports insts t ⊎ Faulty (JoinedFault libs ports insts t)
 joined_known libs ports insts t h = elim (known0 keywords.Joined (Many keywords.PortRef ∷ []) t refl h.0) [
-  | inr b ↦ inr (b.0, inl b.1)
+  | inr b ↦ inr (b.0, stands.joined_row b.1)
   | inl s ↦ elim (each_in (MeansEnd libs ports insts) (λ e. Unit {0}) (EndFault libs ports insts) keywords.Joined keywords.PortRef t (end_known libs ports insts) h.1) [
-    | inr b ↦ inr (b.0, inr b.1)
+    | inr b ↦ inr (b.0, stands.joined_end b.1)
     | inl x ↦ inl (record { refs = map bare (followers keywords.Joined t); form = s.form; ends = x.0; mean = subst (λ v. Each (MeansEnd libs ports insts) v x.0) (all_kept keywords.PortRef (map bare (followers keywords.Joined t)) s.form.fits.1) x.1 })
   ]
 ]
 
 net_known : (libs : List design.Lib) (ports : List design.Port) (insts : List design.Inst) (t : Placed) → IsOf (has_keyword keywords.Net) t → Meant (MeansNet libs ports insts) (λ n. IsTypedNet n × HasDistinctKeys n.properties) t ⊎ Faulty (NetFault libs ports insts t)
 net_known libs ports insts t h = elim (known2 keywords.Net name_definition (the keywords.Joined) (Many keywords.Property ∷ Many keywords.Comment ∷ Many keywords.UserData ∷ []) t refl h) [
-  | inr b ↦ inr (b.0, inl b.1)
+  | inr b ↦ inr (b.0, stands.net_row b.1)
   | inl s ↦ elim (name_known s.a s.written_a s.is_a) [
-    | inr b ↦ inr (b.0, inr (inl (s.a, s.at_a, b.1)))
+    | inr b ↦ inr (b.0, stands.net_name (s.a, s.at_a, b.1))
     | inl n ↦ elim (joined_known libs ports insts s.b (form_choice keywords.Joined s.b s.is_b, s.written_b)) [
-      | inr b ↦ inr (b.0, inr (inr (inl (s.b, s.at_b, b.1))))
+      | inr b ↦ inr (b.0, stands.net_joined (s.b, s.at_b, form_choice keywords.Joined s.b s.is_b, b.1))
       | inl j ↦ elim (properties_known keywords.Net t h.1) [
-        | inr b ↦ inr (b.0, inr (inr (inr b.1)))
+        | inr b ↦ inr (b.0, stands.net_properties b.1)
         | inl ps ↦ inl (
           record { name = n.0; ends = j.ends; properties = ps.list },
           record { name_part = bare s.a; joined_part = bare s.b; refs = j.refs; inner = map bare (followers keywords.Net t); form = s.form; joined = j.form; name = n.1; ends = j.mean; properties = ps.mean },
@@ -280,14 +281,14 @@ ends_known libs ports insts ts es h = elim (distinct_known (λ u e. MeansEnd lib
 -- contents
 pub contents_known : (libs : List design.Lib) (own : Option ℕ) (ports : List design.Port) (t : Placed) → IsOf (has_keyword keywords.Contents) t → Meant (MeansContents libs own ports) (λ c. IsTypedContents c × FineContents c) t ⊎ Faulty (ContentsFault libs own ports t)
 contents_known libs own ports t h = elim (known0 keywords.Contents (Many keywords.Instance ∷ Many keywords.Net ∷ Many keywords.Comment ∷ Many keywords.UserData ∷ []) t refl h.0) [
-  | inr b ↦ inr (b.0, inl b.1)
+  | inr b ↦ inr (b.0, stands.contents_row b.1)
   | inl s ↦ elim (each_in (MeansInst libs own) (λ i. IsTypedInst i × HasDistinctKeys i.properties) (InstFault libs own) keywords.Contents keywords.Instance t (inst_known libs own) h.1) [
-    | inr b ↦ inr (b.0, inr (inl b.1))
+    | inr b ↦ inr (b.0, stands.contents_inst b.1)
     | inl x ↦ (let e : map bare (insts_in t) ≡ those keywords.Instance (map bare (followers keywords.Contents t)) = parts_bare keywords.Contents keywords.Instance t in
         let d : map bare (nets_in t) ≡ those keywords.Net (map bare (followers keywords.Contents t)) = parts_bare keywords.Contents keywords.Net t in
         let xs : Each (MeansInst libs own) (map bare (insts_in t)) x.0 = subst (λ v. Each (MeansInst libs own) v x.0) (sym e) x.1 in
         elim (each_in (MeansNet libs ports x.0) (λ n. IsTypedNet n × HasDistinctKeys n.properties) (NetFault libs ports x.0) keywords.Contents keywords.Net t (net_known libs ports x.0) h.1) [
-          | inr b ↦ inr (b.0, inr (inr (inl (inr (x.0, xs, inl b.1)))))
+          | inr b ↦ inr (b.0, stands.contents_nets (stands.one_net x.0 xs b.1))
           | inl y ↦ (let nets : AllZip (λ u n. MeansNet libs ports x.0 (bare u) n) (nets_in t) y.0 = each_with (MeansNet libs ports x.0) (λ u n. MeansNet libs ports x.0 (bare u) n) (λ u n k. k) (nets_in t) (those keywords.Net (map bare (followers keywords.Contents t))) y.0 d y.1 in
               let ends : AllZip (λ u z. MeansEnd libs ports x.0 (bare u) z) (flat_map ends_in (nets_in t)) (flat_map (λ (n : design.Net). n.ends) y.0) =
               zip_flat (λ u n. MeansNet libs ports x.0 (bare u) n) (λ u z. MeansEnd libs ports x.0 (bare u) z) ends_in (λ (n : design.Net). n.ends) (net_ends libs ports x.0) (nets_in t) y.0 nets in
@@ -295,17 +296,17 @@ contents_known libs own ports t h = elim (known0 keywords.Contents (Many keyword
               let mn : length (nets_in t) ≡ length y.0 = each_count (MeansNet libs ports x.0) (nets_in t) (those keywords.Net (map bare (followers keywords.Contents t))) y.0 d y.1 in
               let en : length (flat_map ends_in (nets_in t)) ≡ length (flat_map (λ (n : design.Net). n.ends) y.0) = zip_length (λ u z. MeansEnd libs ports x.0 (bare u) z) (flat_map ends_in (nets_in t)) (flat_map (λ (n : design.Net). n.ends) y.0) ends in
               elim (ends_known libs ports x.0 (flat_map ends_in (nets_in t)) (flat_map (λ (n : design.Net). n.ends) y.0) ends) [
-                | inr b ↦ inr (b.0, inr (inr (inl (inr (x.0, xs, inr b.1)))))
+                | inr b ↦ inr (b.0, stands.contents_nets (stands.end_again x.0 xs b.1))
                 | inl once ↦ elim (names_known (λ (i : design.Inst). i.name.id) (insts_in t) x.0 (each_with (MeansInst libs own) (λ u i. IsNamed u i.name.id) (inst_named libs own) (insts_in t) (those keywords.Instance (map bare (followers keywords.Contents t))) x.0 e x.1)) [
-                  | inr b ↦ inr (b.0, inr (inr (inr (inl b.1))))
+                  | inr b ↦ inr (b.0, stands.inst_again b.1)
                   | inl di ↦ elim (names_known (λ (n : design.Net). n.name.id) (nets_in t) y.0 (each_with (MeansNet libs ports x.0) (λ u n. IsNamed u n.name.id) (net_named libs ports x.0) (nets_in t) (those keywords.Net (map bare (followers keywords.Contents t))) y.0 d y.1)) [
-                    | inr b ↦ inr (b.0, inr (inr (inr (inr (inl b.1)))))
+                    | inr b ↦ inr (b.0, stands.net_again b.1)
                     | inl dn ↦ elim (beyond_known 1048576 (insts_in t)) [
-                      | inr b ↦ inr (b.0, inr (inr (inr (inr (inr (inl b.1))))))
+                      | inr b ↦ inr (b.0, stands.many_insts b.1)
                       | inl li ↦ elim (beyond_known 1048576 (nets_in t)) [
-                        | inr b ↦ inr (b.0, inr (inr (inr (inr (inr (inr (inl b.1)))))))
+                        | inr b ↦ inr (b.0, stands.many_nets b.1)
                         | inl lm ↦ elim (beyond_known 4194304 (flat_map ends_in (nets_in t))) [
-                          | inr b ↦ inr (b.0, inr (inr (inr (inr (inr (inr (inr b.1)))))))
+                          | inr b ↦ inr (b.0, stands.many_ends b.1)
                           | inl le ↦ inl (
                             record { insts = x.0; nets = y.0 },
                             record { inner = map bare (followers keywords.Contents t); form = s.form; insts = x.1; nets = y.1 },
@@ -336,11 +337,11 @@ contents_known libs own ports t h = elim (known0 keywords.Contents (Many keyword
 -- views
 type_known : (t : Placed) → IsOf (has_keyword keywords.ViewType) t → IsNetlist (bare t) ⊎ Faulty (TypeFault t)
 type_known t h = elim (known1 keywords.ViewType identifier [] t refl h) [
-  | inr b ↦ inr (b.0, inl b.1)
+  | inr b ↦ inr (b.0, stands.view_type_row b.1)
   | inl s ↦ (let a = word_choice s.a s.is_a in
       let f : IsFormOf keywords.ViewType (bare t) (bare s.a ∷ []) [] = follow_none keywords.ViewType (identifier ∷ []) (bare t) (bare s.a ∷ []) (map bare (followers keywords.ViewType t)) refl s.form in
       elim (test (is_netlist a.1)) [
-        | inr e ↦ inr (At NotNetlist a.0, inr (s.a, s.at_a, (a.1, a.0, a.2, e, refl)))
+        | inr e ↦ inr (At NotNetlist a.0, stands.other_view_type (s.a, s.at_a, (a.1, a.0, a.2, e, refl)))
         | inl e ↦ inl (a.1, subst (λ x. IsFormOf keywords.ViewType (bare t) (bare x ∷ []) []) a.2 f, e)
       ])
 ]
@@ -357,18 +358,18 @@ pub record FineView (c : design.CellBody) : Type 0 where
 
 view_known : (libs : List design.Lib) (own : Option ℕ) (t : Placed) → IsOf (has_keyword keywords.View) t → Meant (MeansView libs own) FineView t ⊎ Faulty (ViewFault libs own t)
 view_known libs own t h = elim (known3 keywords.View name_definition (the keywords.ViewType) (the keywords.Interface) (Many keywords.Status ∷ One keywords.Contents ∷ Many keywords.Property ∷ Many keywords.Comment ∷ Many keywords.UserData ∷ []) t refl h) [
-  | inr b ↦ inr (b.0, inl b.1)
+  | inr b ↦ inr (b.0, stands.view_row b.1)
   | inl s ↦ elim (name_known s.a s.written_a s.is_a) [
-    | inr b ↦ inr (b.0, inr (inl (s.a, s.at_a, b.1)))
+    | inr b ↦ inr (b.0, stands.view_name (s.a, s.at_a, b.1))
     | inl n ↦ elim (type_known s.b (form_choice keywords.ViewType s.b s.is_b, s.written_b)) [
-      | inr b ↦ inr (b.0, inr (inr (inl (s.b, s.at_b, b.1))))
+      | inr b ↦ inr (b.0, stands.view_type (s.b, s.at_b, form_choice keywords.ViewType s.b s.is_b, b.1))
       | inl y ↦ elim (interface_known s.x (form_choice keywords.Interface s.x s.is_x, s.written_x)) [
-        | inr b ↦ inr (b.0, inr (inr (inr (inl (s.x, s.at_x, b.1)))))
+        | inr b ↦ inr (b.0, stands.view_interface (s.x, s.at_x, form_choice keywords.Interface s.x s.is_x, b.1))
         | inl i ↦ (let ps : Each MeansPort (map bare (ports_in s.x)) i.ports = subst (λ v. Each MeansPort v i.ports) (sym (parts_bare keywords.Interface keywords.Port s.x)) i.mean in
             elim (perhaps_in (MeansContents libs own i.ports) (λ c. IsTypedContents c × FineContents c) (ContentsFault libs own i.ports) keywords.View keywords.Contents t (contents_known libs own i.ports) h.1 s.form.fits.2.0) [
-              | inr b ↦ inr (b.0, inr (inr (inr (inr (inl (s.x, i.ports, s.at_x, ps, b.1))))))
+              | inr b ↦ inr (b.0, stands.view_contents (record { interface = s.x; ports = i.ports; there = s.at_x; is_interface = form_choice keywords.Interface s.x s.is_x; means = ps; fault = b.1 }))
               | inl o ↦ elim (properties_known keywords.View t h.1) [
-                | inr b ↦ inr (b.0, inr (inr (inr (inr (inr b.1)))))
+                | inr b ↦ inr (b.0, stands.view_properties b.1)
                 | inl qs ↦ inl (
                   record { name = n.0; kind = kinds.Generic; properties = []; view = n.0; view_properties = qs.list; interface_properties = i.properties.list; ports = i.ports; contents = o.0 },
                   record {
@@ -409,11 +410,11 @@ kind_of w h = elim (either (same w (kind_word kinds.Generic)) (same w (kind_word
 
 kind_known : (t : Placed) → IsOf (has_keyword keywords.CellType) t → ((k : design.CellKind) × MeansKind (bare t) k) ⊎ Faulty (CellTypeFault t)
 kind_known t h = elim (known1 keywords.CellType identifier [] t refl h) [
-  | inr b ↦ inr (b.0, inl b.1)
+  | inr b ↦ inr (b.0, stands.cell_type_row b.1)
   | inl s ↦ (let a = word_choice s.a s.is_a in
       let f : IsFormOf keywords.CellType (bare t) (bare s.a ∷ []) [] = follow_none keywords.CellType (identifier ∷ []) (bare t) (bare s.a ∷ []) (map bare (followers keywords.CellType t)) refl s.form in
       elim (test (is_cell_type a.1)) [
-        | inr e ↦ inr (At BadForm a.0, inr (s.a, s.at_a, (a.1, a.0, a.2, e, refl)))
+        | inr e ↦ inr (At BadForm a.0, stands.other_cell_type (s.a, s.at_a, (a.1, a.0, a.2, e, refl)))
         | inl e ↦ (let d = kind_of a.1 e in inl (d.0, (a.1, subst (λ x. IsFormOf keywords.CellType (bare t) (bare x ∷ []) []) a.2 f, d.1)))
       ])
 ]
@@ -483,18 +484,18 @@ inside (Some x) h = record {
 
 pub cell_known : (libs : List design.Lib) (own : Option ℕ) (t : Placed) → IsOf (has_keyword keywords.Cell) t → Meant (MeansCell libs own) (λ c. IsTypedCell c × FineCell c) t ⊎ Faulty (CellFault libs own t)
 cell_known libs own t h = elim (known2 keywords.Cell name_definition (the keywords.CellType) (Many keywords.Status ∷ One keywords.View ∷ Many keywords.Property ∷ Many keywords.Comment ∷ Many keywords.UserData ∷ []) t refl h) [
-  | inr b ↦ inr (b.0, inl b.1)
+  | inr b ↦ inr (b.0, stands.cell_row b.1)
   | inl s ↦ elim (name_known s.a s.written_a s.is_a) [
-    | inr b ↦ inr (b.0, inr (inl (s.a, s.at_a, b.1)))
+    | inr b ↦ inr (b.0, stands.cell_name (s.a, s.at_a, b.1))
     | inl n ↦ elim (kind_known s.b (form_choice keywords.CellType s.b s.is_b, s.written_b)) [
-      | inr b ↦ inr (b.0, inr (inr (inl (s.b, s.at_b, b.1))))
+      | inr b ↦ inr (b.0, stands.cell_type (s.b, s.at_b, form_choice keywords.CellType s.b s.is_b, b.1))
       | inl k ↦ (let l : length (parts keywords.Cell keywords.View t) ≡ length (those keywords.View (map bare (followers keywords.Cell t))) = parts_length keywords.Cell keywords.View t in
           let m : length (those keywords.View (map bare (followers keywords.Cell t))) ≤ 1 = s.form.fits.2.0 in
           elim (one_view_known libs own (parts keywords.Cell keywords.View t) (parts_of keywords.Cell keywords.View t h.1) (omega (arith, l, m))) [
-            | inr (inl b) ↦ inr (b.0, inr (inr (inr (inl b.1))))
-            | inr (inr e) ↦ inr (At BadForm (place_of t), inr (inr (inr (inr (inl (e, refl))))))
+            | inr (inl b) ↦ inr (b.0, stands.cell_view b.1)
+            | inr (inr e) ↦ inr (At BadForm (place_of t), stands.without_view e refl)
             | inl v ↦ elim (properties_known keywords.Cell t h.1) [
-              | inr b ↦ inr (b.0, inr (inr (inr (inr (inr b.1)))))
+              | inr b ↦ inr (b.0, stands.cell_properties b.1)
               | inl ps ↦ (let c : design.CellBody = record v.0 { name = n.0; kind = k.0; properties = ps.list } in
                   let i : FineInside (insts_of v.0) (nets_of v.0) = inside v.0.contents v.2.contents in
                   let w : Just (λ u b. MeansView libs own u b) (those keywords.View (map bare (followers keywords.Cell t))) c =

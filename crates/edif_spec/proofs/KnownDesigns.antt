@@ -12,7 +12,8 @@ use Rattle.edif_spec.specs.Keyword.{Choice, Many, One, name_definition, the}
 use Rattle.edif_spec.specs.Rows.{has_keyword, those, is_one_of, IsFormOf, EachAfter, Perhaps}
 use Rattle.edif_spec.specs.Means.{MeansLibrary, is_library, is_note, MeansDesign, MeansCellRef, before_design, libs_before_design, MeansFile}
 use Rattle.edif_spec.specs.Faults.{arguments, followers, parts, Among, misplaced}
-use Rattle.edif_spec.specs.Stands.{LibraryFault, DesignFault, before_the_design, libraries, FileFault, file_row, Stands}
+use Rattle.edif_spec.specs.Stands.{LibraryFault, DesignFault, before_the_design, libraries, FileFault, file_row, Stands, InDesign}
+use Rattle.edif_spec.specs.Stands as stands
 use Rattle.edif_spec.specs.Design as design
 use Rattle.edif_spec.specs.declared.keyword.Keyword.TheVariants as keywords
 use Rattle.edif_spec.specs.declared.fault.Kind.TheVariants.{BadForm}
@@ -124,7 +125,7 @@ some_weaker : {A : Type 0} (o : Option A) (P Q : A → Type 0) → ((x : A) → 
 some_weaker None P Q f h = tt
 some_weaker (Some x) P Q f h = f x h
 
-design_is_valid : (d : design.Design) (ts us : List Bare) (n : ℕ) → IsTypedName d.title → EachAfter MeansLibrary [] ts d.libs → AllByRecursion FineLib d.libs → AreDistinct (lib_names d.libs) → length d.libs ≤ 1024
+pub design_is_valid : (d : design.Design) (ts us : List Bare) (n : ℕ) → IsTypedName d.title → EachAfter MeansLibrary [] ts d.libs → AllByRecursion FineLib d.libs → AreDistinct (lib_names d.libs) → length d.libs ≤ 1024
     → Perhaps (MeansDesign (take n d.libs) d.notes) us d.top → IfSome d.top (λ x. FineTop d.notes x × IsTypedName x.name × All IsTypedProperty x.properties) → IfNone d.top (d.notes ≡ []) → AllByRecursion FineNote d.notes → length d.notes ≤ 1048576 → AreDistinct (map note_key d.notes)
     → IsValid d
 design_is_valid d ts us n title libs fine names count top ft none fn nc nd =
@@ -156,25 +157,34 @@ design_is_valid d ts us n title libs fine names count top ft none fn nc nd =
       notes_differ = nd;
     }
 
+in_first : (t : Placed) (libs : List design.Lib) (f : MeaningFault) → EachAfter MeansLibrary [] (map bare (libraries (before_the_design (followers keywords.Edif t)))) libs → length (parts keywords.Edif keywords.Design t) ≤ 1 → Among (DesignFault libs) (parts keywords.Edif keywords.Design t) f → InDesign t f
+in_first t libs f m l b = let u = the_first (DesignFault libs) f (parts keywords.Edif keywords.Design t) l b in record { libs = libs; means = m; first = u.0; there = u.1; fault = u.2 }
+  where
+    the_first : (F : Placed → MeaningFault → Type 0) (f : MeaningFault) (ts : List Placed) → length ts ≤ 1 → Among F ts f → (u : Placed) × (slice_get ts 0 ≡ Some u) × F u f
+    the_first F f [] l b = absurd b
+    the_first F f (t ∷ []) l (inl b) = (t, refl, b)
+    the_first F f (t ∷ []) l (inr b) = absurd b
+    the_first F f (t ∷ u ∷ ts) l b = absurd (omega arith)
+
 file_known : (t : Placed) → IsOf (has_keyword keywords.Edif) t → ((d : design.Design) × MeansFile (bare t) d) ⊎ Faulty (FileFault t)
 file_known t h = elim (row_known keywords.Edif FileChoices (Many keywords.Status ∷ Many keywords.External ∷ Many keywords.Library ∷ One keywords.Design ∷ Many keywords.Comment ∷ Many keywords.UserData ∷ []) t refl h.0) [
-  | inr b ↦ inr (b.0, inl b.1)
+  | inr b ↦ inr (b.0, stands.edif_row b.1)
   | inl q ↦ (let s = file_parts t h.1 q in
       let us : List Placed = followers keywords.Edif t in
       elim (name_known s.a s.written_a s.is_a) [
-        | inr b ↦ inr (b.0, inr (inl (s.a, s.at_a, b.1)))
+        | inr b ↦ inr (b.0, stands.edif_name (s.a, s.at_a, b.1))
         | inl n ↦ elim (version_known s.b (s.is_b, s.written_b)) [
-          | inr b ↦ inr (b.0, inr (inr (inl (s.b, s.at_b, b.1))))
+          | inr b ↦ inr (b.0, stands.edif_version (s.b, s.at_b, s.is_b, b.1))
           | inl v ↦ elim (level_known keywords.EdifLevel s.c refl (s.is_c, s.written_c)) [
-            | inr b ↦ inr (b.0, inr (inr (inr (inl (s.c, s.at_c, b.1)))))
+            | inr b ↦ inr (b.0, stands.edif_level (s.c, s.at_c, s.is_c, b.1))
             | inl l ↦ elim (map_known s.d (s.is_d, s.written_d)) [
-              | inr b ↦ inr (b.0, inr (inr (inr (inr (inl (s.d, s.at_d, b.1))))))
+              | inr b ↦ inr (b.0, stands.edif_map (s.d, s.at_d, s.is_d, b.1))
               | inl m ↦ elim (after_known MeansLibrary FineLib LibraryFault (IsOf is_library) library_known [] (libraries (followers keywords.Edif t)) (kept_of is_library (followers keywords.Edif t) (followers_written keywords.Edif t h.1))) [
-                | inr b ↦ inr (b.0, inr (inr (inr (inr (inr (inl b.1))))))
+                | inr b ↦ inr (b.0, stands.edif_library b.1)
                 | inl x ↦ elim (names_known (λ (y : design.Lib). y.head.name.id) (libraries (followers keywords.Edif t)) x.0 (after_with MeansLibrary (λ u y. IsNamed u y.head.name.id) library_named [] (libraries (followers keywords.Edif t)) (map bare (libraries (followers keywords.Edif t))) x.0 refl x.1)) [
-                  | inr b ↦ inr (b.0, inr (inr (inr (inr (inr (inr (inl b.1)))))))
+                  | inr b ↦ inr (b.0, stands.library_again b.1)
                   | inl d ↦ elim (beyond_known 1024 (libraries (followers keywords.Edif t))) [
-                    | inr b ↦ inr (b.0, inr (inr (inr (inr (inr (inr (inr (inl b.1))))))))
+                    | inr b ↦ inr (b.0, stands.many_libraries b.1)
                     | inl c ↦ (let inner : List Bare = map bare (followers keywords.Edif t) in
                         let e : map bare (libraries (followers keywords.Edif t)) ≡ filter is_library (map bare (followers keywords.Edif t)) = filter_bare is_library (followers keywords.Edif t) in
                         let z : length (libraries (followers keywords.Edif t)) ≡ length x.0 = sym (map_length bare (libraries (followers keywords.Edif t))) ∙ after_length MeansLibrary [] (map bare (libraries (followers keywords.Edif t))) x.0 x.1 in
@@ -189,7 +199,7 @@ file_known t h = elim (row_known keywords.Edif FileChoices (Many keywords.Status
                         let o : length (parts keywords.Edif keywords.Design t) ≡ length (those keywords.Design (map bare (followers keywords.Edif t))) = sym (map_length bare (parts keywords.Edif keywords.Design t)) ∙ ap length (parts_bare keywords.Edif keywords.Design t) in
                         let once : length (those keywords.Design (map bare (followers keywords.Edif t))) ≤ 1 = s.form.fits.2.0 in
                         elim (top_known (libs_before_design (map bare (followers keywords.Edif t)) x.0) fit (parts keywords.Edif keywords.Design t) (parts_of keywords.Edif keywords.Design t h.1) (omega (arith, o, once))) [
-                          | inr b ↦ inr (b.0, inr (inr (inr (inr (inr (inr (inr (inr (libs_before_design (map bare (followers keywords.Edif t)) x.0, gp, b.1)))))))))
+                          | inr b ↦ inr (b.0, stands.edif_design (in_first t (libs_before_design (map bare (followers keywords.Edif t)) x.0) b.0 gp (omega (arith, o, once)) b.1))
                           | inl k ↦ (let y : design.Design = record { title = n.0; libs = x.0; top = k.top; notes = k.notes } in
                               let top : Perhaps (MeansDesign (libs_before_design (map bare (followers keywords.Edif t)) x.0) k.notes) (those keywords.Design (map bare (followers keywords.Edif t))) k.top =
                               subst (λ w. Perhaps (MeansDesign (libs_before_design (map bare (followers keywords.Edif t)) x.0) k.notes) w k.top) (parts_bare keywords.Edif keywords.Design t) k.mean in
@@ -234,6 +244,6 @@ file_known t h = elim (row_known keywords.Edif FileChoices (Many keywords.Status
 -- A tree that can be written means a design, or a fault stands in it.
 pub stands_known : (t : Placed) → Written t → ((d : design.Design) × MeansFile (bare t) d) ⊎ ((f : MeaningFault) × Stands t f)
 stands_known t w = elim (test (has_keyword keywords.Edif (bare t))) [
-  | inr e ↦ inr (misplaced BadForm file_row t, inl (e, refl))
-  | inl e ↦ elim (file_known t (e, w)) [ inl x ↦ inl x | inr b ↦ inr (b.0, inr b.1) ]
+  | inr e ↦ inr (misplaced BadForm file_row t, stands.no_file e refl)
+  | inl e ↦ elim (file_known t (e, w)) [ inl x ↦ inl x | inr b ↦ inr (b.0, stands.in_file e b.1) ]
 ]

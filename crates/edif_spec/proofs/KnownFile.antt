@@ -13,7 +13,8 @@ use Rattle.edif_spec.specs.Rows.{has_keyword, those, is_one_of, is_follower, IsF
 use Rattle.edif_spec.specs.Canonical.{library_keyword}
 use Rattle.edif_spec.specs.Means.{Meant as Meaning, meant, Found, Absent, Several, MeansCell, IsLevel, MeansLibrary, is_library, is_note, has_mark, MeansPath, MeansNote, MeansDesign}
 use Rattle.edif_spec.specs.Faults.{place_of, arguments, followers, FixedFault, FollowerFault}
-use Rattle.edif_spec.specs.Stands.{ValueFault, CellFault, LevelFault, cells_in, LibraryFault, bad_form, note_parts, StepsFault, PathFault, NoteFault, SameNote, notes_in, DesignFault, VersionFault, MapFault}
+use Rattle.edif_spec.specs.Stands.{ValueFault, CellFault, LevelFault, cells_in, LibraryFault, bad_form, note_parts, StepsFault, PathFault, NoteFault, SameNote, notes_in, DesignFault, VersionFault, MapFault, Notes}
+use Rattle.edif_spec.specs.Stands as stands
 use Rattle.edif_spec.specs.Design as design
 use Rattle.edif_spec.specs.declared.keyword.Keyword.{Keyword}
 use Rattle.edif_spec.specs.declared.keyword.Keyword.TheVariants as keywords
@@ -27,7 +28,7 @@ use Rattle.edif_spec.proofs.Scopes.{some_of}
 use Rattle.edif_spec.proofs.FaultForms.{filter_bare, map_length, after_length, after_with, each_with, IsNamed, get_unmap}
 use Rattle.edif_spec.proofs.FaultsApart.{property_named}
 use Rattle.edif_spec.proofs.CellFaultsApart.{cell_named, FineCell}
-use Rattle.edif_spec.proofs.FileFaultsApart.{external_is, cells_are, note_path, note_property, note_arguments, HasKey, FineTop}
+use Rattle.edif_spec.proofs.FileFaultsApart.{external_is, cells_are, note_property, note_arguments, notes_there, HasKey, FineTop}
 use Rattle.edif_spec.proofs.KnownForms.{Faulty, Written, IsOf, Meant, each_known, after_known, beyond_known, names_known, distinct_known, bytes_same, list_same, nat_same, kept_of, parts_of, arguments_written, followers_written, followers_known, fixed_known, FixedFit, trees_bares, integer_choice, word_choice, either, form_choice, Fits3, known1, known2, known3}
 use Rattle.edif_spec.proofs.KnownRows.{follow_none, name_known, property_known, properties_known, first_all, second_all, each_count}
 use Rattle.edif_spec.proofs.KnownCells.{cell_ref_known, cell_known}
@@ -45,22 +46,22 @@ value_known wanted kind u h = (let a = integer_choice u h in
 
 pub level_known : (k : Keyword) (t : Placed) → keyword.row k ≡ keyword.Takes (keyword.integer ∷ []) [] → IsOf (has_keyword k) t → IsLevel k (bare t) ⊎ Faulty (LevelFault k t)
 level_known k t r h = elim (known1 k keyword.integer [] t r h) [
-  | inr b ↦ inr (b.0, inl b.1)
+  | inr b ↦ inr (b.0, stands.level_row b.1)
   | inl s ↦ elim (value_known (pos 0) BadLevel s.a s.is_a) [
-    | inr b ↦ inr (b.0, inr (s.a, s.at_a, b.1))
+    | inr b ↦ inr (b.0, stands.other_level (s.a, s.at_a, b.1))
     | inl e ↦ inl (subst (λ v. IsFormOf k (bare t) (v ∷ []) []) e (follow_none k (keyword.integer ∷ []) (bare t) (bare s.a ∷ []) (map bare (followers k t)) r s.form))
   ]
 ]
 
 pub version_known : (t : Placed) → IsOf (has_keyword keywords.EdifVersion) t → IsFormOf keywords.EdifVersion (bare t) (integer (pos 2) ∷ integer (pos 0) ∷ integer (pos 0) ∷ []) [] ⊎ Faulty (VersionFault t)
 version_known t h = elim (known3 keywords.EdifVersion keyword.integer keyword.integer keyword.integer [] t refl h) [
-  | inr b ↦ inr (b.0, inl b.1)
+  | inr b ↦ inr (b.0, stands.version_row b.1)
   | inl s ↦ elim (value_known (pos 2) BadVersion s.a s.is_a) [
-    | inr b ↦ inr (b.0, inr (inl (s.a, s.at_a, b.1)))
+    | inr b ↦ inr (b.0, stands.first_number (s.a, s.at_a, b.1))
     | inl e ↦ elim (value_known (pos 0) BadVersion s.b s.is_b) [
-      | inr b ↦ inr (b.0, inr (inr (inl (s.b, s.at_b, b.1))))
+      | inr b ↦ inr (b.0, stands.second_number (s.b, s.at_b, b.1))
       | inl f ↦ elim (value_known (pos 0) BadVersion s.x s.is_x) [
-        | inr b ↦ inr (b.0, inr (inr (inr (s.x, s.at_x, b.1))))
+        | inr b ↦ inr (b.0, stands.third_number (s.x, s.at_x, b.1))
         | inl g ↦ (let P : Bare → Bare → Bare → Type 0 = λ x y z. IsFormOf keywords.EdifVersion (bare t) (x ∷ y ∷ z ∷ []) [] in
             let w : P (bare s.a) (bare s.b) (bare s.x) = follow_none keywords.EdifVersion (keyword.integer ∷ keyword.integer ∷ keyword.integer ∷ []) (bare t) (bare s.a ∷ bare s.b ∷ bare s.x ∷ []) (map bare (followers keywords.EdifVersion t)) refl s.form in
             inl (subst (λ z. P (integer (pos 2)) (integer (pos 0)) z) g (subst (λ y. P (integer (pos 2)) y (bare s.x)) f (subst (λ x. P x (bare s.b) (bare s.x)) e w))))
@@ -77,9 +78,9 @@ pub record KnownMap (t : Placed) : Type 0 where
 
 pub map_known : (t : Placed) → IsOf (has_keyword keywords.KeywordMap) t → KnownMap t ⊎ Faulty (MapFault t)
 map_known t h = elim (known1 keywords.KeywordMap (the keywords.KeywordLevel) (Many keywords.Comment ∷ []) t refl h) [
-  | inr b ↦ inr (b.0, inl b.1)
+  | inr b ↦ inr (b.0, stands.map_row b.1)
   | inl s ↦ elim (level_known keywords.KeywordLevel s.a refl (form_choice keywords.KeywordLevel s.a s.is_a, s.written_a)) [
-    | inr b ↦ inr (b.0, inr (s.a, s.at_a, b.1))
+    | inr b ↦ inr (b.0, stands.map_level (s.a, s.at_a, form_choice keywords.KeywordLevel s.a s.is_a, b.1))
     | inl l ↦ inl (record { level_part = bare s.a; inner = map bare (followers keywords.KeywordMap t); form = s.form; level = l })
   ]
 ]
@@ -97,19 +98,19 @@ In before head cells = before ++ record { head = head; cells = cells } ∷ []
 
 library_rest : (e : Bool) (before : List design.Lib) (t : Placed) → Written t → Fits3 (library_keyword e) name_definition (the keywords.EdifLevel) (the keywords.Technology) t → Meant (MeansLibrary before) FineLib t ⊎ Faulty (LibraryFault before t)
 library_rest e before t w s = elim (name_known s.a s.written_a s.is_a) [
-  | inr b ↦ inr (b.0, inr (inr (inl (s.a, s.at_a, b.1))))
+  | inr b ↦ inr (b.0, stands.library_name (s.a, s.at_a, b.1))
   | inl n ↦ elim (level_known keywords.EdifLevel s.b refl (form_choice keywords.EdifLevel s.b s.is_b, s.written_b)) [
-    | inr b ↦ inr (b.0, inr (inr (inr (inl (s.b, s.at_b, b.1)))))
+    | inr b ↦ inr (b.0, stands.library_level (s.b, s.at_b, form_choice keywords.EdifLevel s.b s.is_b, b.1))
     | inl l ↦ (let head : design.LibHead = record { name = n.0; external = e } in
         let x : e ≡ has_keyword keywords.External (bare t) = sym (external_is e (bare t) (bare s.a) (bare s.b) (bare s.x) (map bare (followers (library_keyword e) t)) s.form) in
         let c : map bare (cells_in t) ≡ those keywords.Cell (map bare (followers (library_keyword e) t)) = cells_are e t (bare s.a) (bare s.b) (bare s.x) (map bare (followers (library_keyword e) t)) s.form in
         elim (after_known (λ cells. MeansCell (In before head cells) (Some (length before))) (λ c. IsTypedCell c × FineCell c) (λ cells. CellFault (In before head cells) (Some (length before))) (IsOf (has_keyword keywords.Cell))
         (λ cells u h. cell_known (In before head cells) (Some (length before)) u h) [] (cells_in t) (parts_of keywords.Library keywords.Cell t w)) [
-          | inr b ↦ inr (b.0, inr (inr (inr (inr (inl (s.a, head, s.at_a, n.1, x, b.1))))))
+          | inr b ↦ inr (b.0, stands.library_cells (record { name_part = s.a; head = head; there = s.at_a; name = n.1; external = x; fault = b.1 }))
           | inl cs ↦ elim (names_known (λ (c : design.CellBody). c.name.id) (cells_in t) cs.0 (after_with (λ cells. MeansCell (In before head cells) (Some (length before))) (λ u c. IsNamed u c.name.id) (λ cells u c m. cell_named (In before head cells) (Some (length before)) u c m) [] (cells_in t) (map bare (cells_in t)) cs.0 refl cs.1)) [
-            | inr b ↦ inr (b.0, inr (inr (inr (inr (inr (inl b.1))))))
+            | inr b ↦ inr (b.0, stands.cell_again b.1)
             | inl d ↦ elim (beyond_known 65536 (cells_in t)) [
-              | inr b ↦ inr (b.0, inr (inr (inr (inr (inr (inr b.1))))))
+              | inr b ↦ inr (b.0, stands.many_cells b.1)
               | inl k ↦ (let m : length (cells_in t) ≡ length cs.0 = sym (map_length bare (cells_in t)) ∙ after_length (λ cells. MeansCell (In before head cells) (Some (length before))) [] (map bare (cells_in t)) cs.0 cs.1 in
                   inl (
                     record { head = head; cells = cs.0 },
@@ -133,8 +134,8 @@ library_rest e before t w s = elim (name_known s.a s.written_a s.is_a) [
 
 pub library_known : (before : List design.Lib) (t : Placed) → IsOf is_library t → Meant (MeansLibrary before) FineLib t ⊎ Faulty (LibraryFault before t)
 library_known before t h = elim (either (has_keyword keywords.Library (bare t)) (has_keyword keywords.External (bare t)) h.0) [
-  | inl k ↦ elim (known3 keywords.Library name_definition (the keywords.EdifLevel) (the keywords.Technology) (Many keywords.Status ∷ Many keywords.Cell ∷ Many keywords.Comment ∷ Many keywords.UserData ∷ []) t refl (k, h.1)) [ inr b ↦ inr (b.0, inl (k, b.1)) | inl s ↦ library_rest false before t h.1 s ]
-  | inr k ↦ elim (known3 keywords.External name_definition (the keywords.EdifLevel) (the keywords.Technology) (Many keywords.Status ∷ Many keywords.Cell ∷ Many keywords.Comment ∷ Many keywords.UserData ∷ []) t refl (k, h.1)) [ inr b ↦ inr (b.0, inr (inl (k, b.1))) | inl s ↦ library_rest true before t h.1 s ]
+  | inl k ↦ elim (known3 keywords.Library name_definition (the keywords.EdifLevel) (the keywords.Technology) (Many keywords.Status ∷ Many keywords.Cell ∷ Many keywords.Comment ∷ Many keywords.UserData ∷ []) t refl (k, h.1)) [ inr b ↦ inr (b.0, stands.library_row k b.1) | inl s ↦ library_rest false before t h.1 s ]
+  | inr k ↦ elim (known3 keywords.External name_definition (the keywords.EdifLevel) (the keywords.Technology) (Many keywords.Status ∷ Many keywords.Cell ∷ Many keywords.Comment ∷ Many keywords.UserData ∷ []) t refl (k, h.1)) [ inr b ↦ inr (b.0, stands.external_row k b.1) | inl s ↦ library_rest true before t h.1 s ]
 ]
 
 -- paths
@@ -157,23 +158,23 @@ found_or Several = inr (λ i e. absurd (cc e))
 
 steps_known : (libs : List design.Lib) → NamesFit libs → (id : design.CellId) (ts : List Placed) → KnownSteps libs id ts ⊎ Faulty (StepsFault libs id ts)
 steps_known libs fit id [] = inl (record { path = []; mean = tt; typed = tt; count = refl })
-steps_known libs fit id (Form' p us ∷ ts) = inr (At BadForm p, inl ((λ w e. absurd (cc e)), refl))
-steps_known libs fit id (Integer' p z ∷ ts) = inr (At BadForm p, inl ((λ w e. absurd (cc e)), refl))
-steps_known libs fit id (String' p s ∷ ts) = inr (At BadForm p, inl ((λ w e. absurd (cc e)), refl))
+steps_known libs fit id (Form' p us ∷ ts) = inr (At BadForm p, stands.no_step (λ w e. absurd (cc e)) refl)
+steps_known libs fit id (Integer' p z ∷ ts) = inr (At BadForm p, stands.no_step (λ w e. absurd (cc e)) refl)
+steps_known libs fit id (String' p s ∷ ts) = inr (At BadForm p, stands.no_step (λ w e. absurd (cc e)) refl)
 steps_known libs fit id (Word' p w ∷ ts) = go (λ x. steps_known libs fit x ts)
   where
     go : ((x : design.CellId) → KnownSteps libs x ts ⊎ Faulty (StepsFault libs x ts)) → KnownSteps libs id (Word' p w ∷ ts) ⊎ Faulty (StepsFault libs id (Word' p w ∷ ts))
     go more = elim (found_or (meant (design.inst_ids (design.insts_at libs id)) w)) [
-      | inr n ↦ inr (At BadPath p, inr (inl (w, p, refl, n, refl)))
+      | inr n ↦ inr (At BadPath p, stands.lost_step (record { spelled = w; place = p; is = refl; lost = n; fault = refl }))
       | inl i ↦ (let x = inst_found libs id w i.0 i.1 in
           elim (more x.0.of) [
-            | inr b ↦ inr (b.0, inr (inr (w, p, i.0, x.0, refl, i.1, x.1, b.1)))
+            | inr b ↦ inr (b.0, stands.later_step x.0 (record { spelled = w; place = p; at = i.0; is = refl; means = i.1; there = x.1 }) b.1)
             | inl r ↦ inl (record { path = x.0.name.id ∷ r.path; mean = (w, i.0, x.0, refl, i.1, x.1, refl, r.mean); typed = (fit id i.0 x.0 x.1, r.typed); count = ap suc r.count })
           ])
     ]
 
 -- notes
-keyword_form : (k : Keyword) (t : Placed) → has_keyword k (bare t) ≡ true → (w : List ℕ) × (bare t ≡ form (word w ∷ map bare (arguments t))) × (same w (spelling_of k) ≡ true)
+pub keyword_form : (k : Keyword) (t : Placed) → has_keyword k (bare t) ≡ true → (w : List ℕ) × (bare t ≡ form (word w ∷ map bare (arguments t))) × (same w (spelling_of k) ≡ true)
 keyword_form k (Form' p (More (Word' q w) ts)) h = (w, ap (λ v. Form' tt (More (word w) v)) (sym (trees_bares ts)), h)
 keyword_form k (Form' p (More (Form' q us) ts)) h = absurd (cc h)
 keyword_form k (Form' p (More (Integer' q z) ts)) h = absurd (cc h)
@@ -214,20 +215,20 @@ path_known : (libs : List design.Lib) → NamesFit libs → (top : design.CellId
 path_known libs fit top t = go (arguments t) refl
   where
     go : (us : List Placed) → arguments t ≡ us → ((n : List (List ℕ)) × MeansPath libs top (map bare (arguments t)) n × AllByRecursion IsIdentifier n × (0 < length n)) ⊎ Faulty (PathFault libs top t)
-    go [] e = inr (At BadPath (place_of t), inl (e, refl))
+    go [] e = inr (At BadPath (place_of t), stands.no_steps e refl)
     go (u ∷ us) e = elim (steps_known libs fit top (arguments t)) [
-      | inr b ↦ inr (b.0, inr b.1)
+      | inr b ↦ inr (b.0, stands.bad_step b.1)
       | inl s ↦ (let l : length s.path ≡ length (arguments t) = s.count in let m : length (arguments t) ≡ suc (length us) = ap length e in inl (s.path, s.mean, s.typed, omega (arith, l, m)))
     ]
 
 note_known : (libs : List design.Lib) → NamesFit libs → (top : design.CellId) (t : Placed) → IsOf is_note t → Meant (MeansNote libs top) FineNote t ⊎ Faulty (NoteFault libs top t)
 note_known libs fit top t h = elim (shape_known t) [
-  | inr b ↦ inr (b.0, elim (b.1) [ inl x ↦ inl x | inr x ↦ inr (inl x) ])
+  | inr b ↦ inr (b.0, elim (b.1) [ inl x ↦ stands.note_part x | inr x ↦ stands.note_surplus x ])
   | inl s ↦ (let w : AllByRecursion Written (s.a ∷ s.b ∷ s.c ∷ []) = subst (λ v. AllByRecursion Written v) s.are (arguments_written t h.1) in
       elim (path_known libs fit top s.b) [
-        | inr b ↦ inr (b.0, inr (inr (inl (s.b, ap (λ v. slice_get v 1) s.are, s.is_b, b.1))))
+        | inr b ↦ inr (b.0, stands.note_path (s.b, ap (λ v. slice_get v 1) s.are, s.is_b, b.1))
         | inl p ↦ elim (property_known s.c (s.is_c, w.1.1.0)) [
-          | inr b ↦ inr (b.0, inr (inr (inr (s.c, ap (λ v. slice_get v 2) s.are, s.is_c, b.1))))
+          | inr b ↦ inr (b.0, stands.note_property (s.c, ap (λ v. slice_get v 2) s.are, s.is_c, b.1))
           | inl q ↦ (let u = (both (has_keyword keywords.UserData (bare t)) (has_mark (bare t)) h.0).0 in
               let k = keyword_form keywords.UserData t u in
               let m = word_choice s.a s.is_a in
@@ -270,37 +271,31 @@ pair_same x y = elim (list_same bytes_same x.0 y.0) [
 note_part : (libs : List design.Lib) (top : design.CellId) (t : Placed) (n : design.Note) (h : MeansNote libs top (bare t) n) (i : ℕ) (b : Bare) → slice_get (word h.mark ∷ form (word h.path_word ∷ h.steps) ∷ h.property_part ∷ []) i ≡ Some b → (u : Placed) × (slice_get (arguments t) i ≡ Some u) × (bare u ≡ b)
 note_part libs top t n h i b e = get_unmap bare (arguments t) i b (ap (λ v. slice_get v i) (note_arguments libs top t n h) ∙ e)
 
+noted_at : (libs : List design.Lib) (top : design.CellId) (t : Placed) (n : design.Note) (h : MeansNote libs top (bare t) n) → (p : ℕ) × Notes libs top t n.path n.property.key.id p
+noted_at libs top t n h =
+    let x = note_part libs top t n h 1 (form (word h.path_word ∷ h.steps)) refl in
+    let u = note_part libs top t n h 2 h.property_part refl in
+    let p = property_named u.0 n.property (note_property libs top t u.0 n h u.1) in
+    (p.0, notes_there libs top t x.0 u.0 n p.0 h x.1 u.1 p.1)
+
 repeated_note : (libs : List design.Lib) (top : design.CellId) (a b : Placed) (k : List (List ℕ) × List ℕ) → HasKey libs top a k → HasKey libs top b k → Faulty (λ f. SameNote libs top f a b)
 repeated_note libs top a b k h g =
-    let x = note_part libs top a h.0 h.1 1 (form (word h.1.path_word ∷ h.1.steps)) refl in
-    let y = note_part libs top b g.0 g.1 1 (form (word g.1.path_word ∷ g.1.steps)) refl in
-    let u = note_part libs top a h.0 h.1 2 h.1.property_part refl in
-    let v = note_part libs top b g.0 g.1 2 g.1.property_part refl in
-    let p = property_named u.0 h.0.property (note_property libs top a u.0 h.0 h.1 u.1) in
-    let q = property_named v.0 g.0.property (note_property libs top b v.0 g.0 g.1 v.1) in
+    let p = noted_at libs top a h.0 h.1 in
+    let q = noted_at libs top b g.0 g.1 in
     let e : note_key g.0 ≡ note_key h.0 = g.2 ∙ sym h.2 in
     let path : g.0.path ≡ h.0.path = ap (λ v. v.0) e in
-    let key : g.0.property.key.id ≡ h.0.property.key.id = ap (λ v. v.1) e in (
+    let key : g.0.property.key.id ≡ h.0.property.key.id = ap (λ v. v.1) e in
+    let P : List (List ℕ) → List ℕ → Type 0 = λ v w. Notes libs top b v w q.0 in (
       Clash Duplicate q.0 p.0,
-      (
-        h.0.path,
-        x.0,
-        y.0,
-        u.0,
-        v.0,
-        h.0.property.key.id,
-        p.0,
-        q.0,
-        x.1,
-        note_path libs top a x.0 h.0 h.1 x.1,
-        y.1,
-        subst (λ w. MeansPath libs top (map bare (arguments y.0)) w) path (note_path libs top b y.0 g.0 g.1 y.1),
-        u.1,
-        p.1,
-        v.1,
-        q.1 ∙ ap (λ w. Some (w, q.0)) key,
-        refl,
-      ),
+      record {
+        steps = h.0.path;
+        key = h.0.property.key.id;
+        earlier = p.0;
+        place = q.0;
+        first = p.1;
+        second = subst (λ w. P h.0.path w) key (subst (λ v. P v g.0.property.key.id) path q.1);
+        fault = refl;
+      },
     )
 
 -- the design
@@ -315,19 +310,19 @@ pub record KnownDesign (libs : List design.Lib) (t : Placed) : Type 0 where
 
 pub design_known : (libs : List design.Lib) → NamesFit libs → (t : Placed) → IsOf (has_keyword keywords.Design) t → KnownDesign libs t ⊎ Faulty (DesignFault libs t)
 design_known libs fit t h = elim (known2 keywords.Design name_definition (the keywords.CellRef) (Many keywords.Status ∷ Many keywords.Property ∷ Many keywords.Comment ∷ Many keywords.UserData ∷ []) t refl h) [
-  | inr b ↦ inr (b.0, inl b.1)
+  | inr b ↦ inr (b.0, stands.design_row b.1)
   | inl s ↦ elim (name_known s.a s.written_a s.is_a) [
-    | inr b ↦ inr (b.0, inr (inl (s.a, s.at_a, b.1)))
+    | inr b ↦ inr (b.0, stands.design_name (s.a, s.at_a, b.1))
     | inl n ↦ elim (cell_ref_known libs None s.b (form_choice keywords.CellRef s.b s.is_b, s.written_b)) [
-      | inr b ↦ inr (b.0, inr (inr (inl (s.b, s.at_b, b.1))))
+      | inr b ↦ inr (b.0, stands.design_cell (s.b, s.at_b, form_choice keywords.CellRef s.b s.is_b, b.1))
       | inl c ↦ elim (properties_known keywords.Design t h.1) [
-        | inr b ↦ inr (b.0, inr (inr (inr (inl b.1))))
+        | inr b ↦ inr (b.0, stands.design_properties b.1)
         | inl ps ↦ elim (each_known (MeansNote libs c.0) FineNote (NoteFault libs c.0) (IsOf is_note) (note_known libs fit c.0) (notes_in t) (kept_of is_note (followers keywords.Design t) (followers_written keywords.Design t h.1))) [
-          | inr b ↦ inr (b.0, inr (inr (inr (inr (inl (s.b, c.0, s.at_b, c.1, inl b.1))))))
+          | inr b ↦ inr (b.0, stands.design_notes (stands.one_note c.0 (s.b, s.at_b, c.1) b.1))
           | inl ns ↦ elim (distinct_known (HasKey libs c.0) (SameNote libs c.0) note_key pair_same (repeated_note libs c.0) (notes_in t) ns.0 (each_with (MeansNote libs c.0) (λ u n. HasKey libs c.0 u (note_key n)) (λ u n q. (n, q, refl)) (notes_in t) (map bare (notes_in t)) ns.0 refl ns.1)) [
-            | inr b ↦ inr (b.0, inr (inr (inr (inr (inl (s.b, c.0, s.at_b, c.1, inr b.1))))))
+            | inr b ↦ inr (b.0, stands.design_notes (stands.note_again c.0 (s.b, s.at_b, c.1) b.1))
             | inl d ↦ elim (beyond_known 1048576 (notes_in t)) [
-              | inr b ↦ inr (b.0, inr (inr (inr (inr (inr b.1)))))
+              | inr b ↦ inr (b.0, stands.many_notes b.1)
               | inl k ↦ (let e : map bare (notes_in t) ≡ filter is_note (map bare (followers keywords.Design t)) = filter_bare is_note (followers keywords.Design t) in
                   let l : length (notes_in t) ≡ length ns.0 = each_count (MeansNote libs c.0) (notes_in t) (map bare (notes_in t)) ns.0 refl ns.1 in
                   inl (record {

@@ -15,8 +15,9 @@ use Rattle.edif_spec.specs.Keyword as keyword
 use Rattle.edif_spec.specs.Rows.{has_keyword, those, is_one_of, is_follower, FitsRow, IsFormOf, Each, Perhaps}
 use Rattle.edif_spec.specs.Canonical.{direction_word}
 use Rattle.edif_spec.specs.Means.{MeansName, MeansText, MeansBoolean, MeansNumber, MeansValue, MeansProperty, MeansProperties, MeansDirection, MeansPortName, MeansPort}
-use Rattle.edif_spec.specs.Faults.{place_of, followers, parts, Among, InPart, RowFault, BeyondBits, declared_width}
-use Rattle.edif_spec.specs.Stands.{NameFault, BooleanFault, NumberFault, InValue, PropertyFault, PropertiesFault, is_direction, DirectionFault, SizeFault, PortNameFault, PortFault, ports_in, InterfaceFault}
+use Rattle.edif_spec.specs.Faults.{place_of, followers, parts, Among, RowFault, BeyondBits, declared_width}
+use Rattle.edif_spec.specs.Stands.{NameFault, BooleanFault, NumberFault, InValue, PropertyFault, PropertiesFault, is_direction, DirectionFault, PortNameFault, PortFault, ports_in, InterfaceFault}
+use Rattle.edif_spec.specs.Stands as stands
 use Rattle.edif_spec.specs.Design as design
 use Rattle.edif_spec.specs.declared.keyword.Keyword.{Keyword}
 use Rattle.edif_spec.specs.declared.keyword.Keyword.TheVariants as keywords
@@ -88,9 +89,9 @@ text_known k t r h = elim (known1 k keyword.string [] t r h) [
 -- values
 boolean_known : (t : Placed) → Written t → is_one_of (AForm keywords.True ∷ AForm keywords.False ∷ []) (bare t) ≡ true → Meant MeansBoolean (λ b. Unit {0}) t ⊎ Faulty (BooleanFault t)
 boolean_known t v h = elim (either (has_keyword keywords.True (bare t)) (has_keyword keywords.False (bare t) || false) h) [
-  | inl k ↦ elim (known0 keywords.True [] t refl k) [ inr b ↦ inr (b.0, inl (k, b.1)) | inl s ↦ inl (true, follow_none keywords.True [] (bare t) [] (map bare (followers keywords.True t)) refl s.form, tt) ]
+  | inl k ↦ elim (known0 keywords.True [] t refl k) [ inr b ↦ inr (b.0, stands.true_row k b.1) | inl s ↦ inl (true, follow_none keywords.True [] (bare t) [] (map bare (followers keywords.True t)) refl s.form, tt) ]
   | inr k ↦ (let g : has_keyword keywords.False (bare t) ≡ true = only (has_keyword keywords.False (bare t)) k in
-      elim (known0 keywords.False [] t refl g) [ inr b ↦ inr (b.0, inr (g, b.1)) | inl s ↦ inl (false, follow_none keywords.False [] (bare t) [] (map bare (followers keywords.False t)) refl s.form, tt) ])
+      elim (known0 keywords.False [] t refl g) [ inr b ↦ inr (b.0, stands.false_row g b.1) | inl s ↦ inl (false, follow_none keywords.False [] (bare t) [] (map bare (followers keywords.False t)) refl s.form, tt) ])
 ]
 
 fits_32 : (z : ℤ) → FitsSigned w32 z ⊎ (¬ FitsSigned w32 z)
@@ -105,43 +106,43 @@ number_known (Form' p ts) v h =
     let t : Placed = Form' p ts in
     let k : has_keyword keywords.E (bare t) ≡ true = only (has_keyword keywords.E (bare t)) h in
     elim (known2 keywords.E keyword.integer keyword.integer [] t refl (k, v)) [
-      | inr b ↦ inr (b.0, (k, inl b.1))
+      | inr b ↦ inr (b.0, stands.scaled_row k b.1)
       | inl s ↦ (let a = integer_choice s.a s.is_a in let b = integer_choice s.b s.is_b in
           let P : Placed → Placed → Type 0 = λ x y. IsFormOf keywords.E (bare t) (bare x ∷ bare y ∷ []) [] in
           let f : P s.a s.b = follow_none keywords.E (keyword.integer ∷ keyword.integer ∷ []) (bare t) (bare s.a ∷ bare s.b ∷ []) (map bare (followers keywords.E t)) refl s.form in
           let i : P (Integer' a.0 a.1) (Integer' b.0 b.1) = subst (λ y. P (Integer' a.0 a.1) y) b.2 (subst (λ x. P x s.b) a.2 f) in
           elim (fits_32 b.1) [
             | inl e ↦ inl (numbers.Scaled a.1 b.1, (i, e), (subst Written a.2 s.written_a, e))
-            | inr n ↦ inr (At BadForm b.0, (k, inr (s.b, s.at_b, (b.1, b.0, b.2, n, refl))))
+            | inr n ↦ inr (At BadForm b.0, stands.scaled_exponent k (s.b, s.at_b, (b.1, b.0, b.2, n, refl)))
           ])
     ]
 
 value_known : (t : Placed) → Written t → is_one_of (AForm keywords.Boolean ∷ AForm keywords.Integer ∷ AForm keywords.Number ∷ AForm keywords.String ∷ []) (bare t) ≡ true → Meant MeansValue IsTypedValue t ⊎ Faulty (InValue t)
 value_known t v h = elim (either (has_keyword keywords.Boolean (bare t)) (has_keyword keywords.Integer (bare t) || (has_keyword keywords.Number (bare t) || (has_keyword keywords.String (bare t) || false))) h) [
   | inl k ↦ elim (known1 keywords.Boolean (AForm keywords.True ∷ AForm keywords.False ∷ []) [] t refl (k, v)) [
-    | inr b ↦ inr (b.0, inl (k, inl b.1))
+    | inr b ↦ inr (b.0, stands.boolean_row k b.1)
     | inl s ↦ elim (boolean_known s.a s.written_a s.is_a) [
-      | inr b ↦ inr (b.0, inl (k, inr (s.a, s.at_a, b.1)))
+      | inr b ↦ inr (b.0, stands.boolean_truth k (s.a, s.at_a, b.1))
       | inl x ↦ inl (values.Boolean x.0, (bare s.a, follow_none keywords.Boolean ((AForm keywords.True ∷ AForm keywords.False ∷ []) ∷ []) (bare t) (bare s.a ∷ []) (map bare (followers keywords.Boolean t)) refl s.form, x.1), tt)
     ]
   ]
   | inr k ↦ elim (either (has_keyword keywords.Integer (bare t)) (has_keyword keywords.Number (bare t) || (has_keyword keywords.String (bare t) || false)) k) [
     | inl g ↦ elim (known1 keywords.Integer keyword.integer [] t refl (g, v)) [
-      | inr b ↦ inr (b.0, inr (inl (g, b.1)))
+      | inr b ↦ inr (b.0, stands.integer_row g b.1)
       | inl s ↦ (let a = integer_choice s.a s.is_a in
           let f : IsFormOf keywords.Integer (bare t) (bare s.a ∷ []) [] = follow_none keywords.Integer (keyword.integer ∷ []) (bare t) (bare s.a ∷ []) (map bare (followers keywords.Integer t)) refl s.form in
           inl (values.Integer a.1, subst (λ x. IsFormOf keywords.Integer (bare t) (bare x ∷ []) []) a.2 f, subst Written a.2 s.written_a))
     ]
     | inr g ↦ elim (either (has_keyword keywords.Number (bare t)) (has_keyword keywords.String (bare t) || false) g) [
       | inl i ↦ elim (known1 keywords.Number (AnInteger ∷ AForm keywords.E ∷ []) [] t refl (i, v)) [
-        | inr b ↦ inr (b.0, inr (inr (inl (i, inl b.1))))
+        | inr b ↦ inr (b.0, stands.number_row i b.1)
         | inl s ↦ elim (number_known s.a s.written_a s.is_a) [
-          | inr b ↦ inr (b.0, inr (inr (inl (i, inr (s.a, s.at_a, b.1)))))
+          | inr b ↦ inr (b.0, stands.number_scaled i (s.a, s.at_a, b.1))
           | inl x ↦ inl (values.Number x.0, (bare s.a, follow_none keywords.Number ((AnInteger ∷ AForm keywords.E ∷ []) ∷ []) (bare t) (bare s.a ∷ []) (map bare (followers keywords.Number t)) refl s.form, x.1), x.2)
         ]
       ]
       | inr i ↦ (let j : has_keyword keywords.String (bare t) ≡ true = only (has_keyword keywords.String (bare t)) i in
-          elim (text_known keywords.String t refl (j, v)) [ inr b ↦ inr (b.0, inr (inr (inr (j, b.1)))) | inl x ↦ inl (values.Text x.0, x.1, x.2) ])
+          elim (text_known keywords.String t refl (j, v)) [ inr b ↦ inr (b.0, stands.string_row j b.1) | inl x ↦ inl (values.Text x.0, x.1, x.2) ])
     ]
   ]
 ]
@@ -152,13 +153,13 @@ value_choices = AForm keywords.Boolean ∷ AForm keywords.Integer ∷ AForm keyw
 
 pub property_known : (t : Placed) → IsOf (has_keyword keywords.Property) t → Meant MeansProperty IsTypedProperty t ⊎ Faulty (PropertyFault t)
 property_known t h = elim (known2 keywords.Property name_definition value_choices (One keywords.Owner ∷ Many keywords.Comment ∷ []) t refl h) [
-  | inr b ↦ inr (b.0, inl b.1)
+  | inr b ↦ inr (b.0, stands.property_row b.1)
   | inl s ↦ elim (name_known s.a s.written_a s.is_a) [
-    | inr b ↦ inr (b.0, inr (inl (s.a, s.at_a, b.1)))
+    | inr b ↦ inr (b.0, stands.property_key (s.a, s.at_a, b.1))
     | inl key ↦ elim (value_known s.b s.written_b s.is_b) [
-      | inr b ↦ inr (b.0, inr (inr (inl (s.b, s.at_b, b.1))))
+      | inr b ↦ inr (b.0, stands.property_value (s.b, s.at_b, b.1))
       | inl value ↦ elim (perhaps_in (MeansText keywords.Owner) IsBytes (RowFault keywords.Owner) keywords.Property keywords.Owner t (λ u w. text_known keywords.Owner u refl w) h.1 s.form.fits.2.0) [
-        | inr b ↦ inr (b.0, inr (inr (inr b.1)))
+        | inr b ↦ inr (b.0, stands.property_owner b.1)
         | inl owner ↦ inl (
           record { key = key.0; value = value.0; owner = owner.0 },
           record { key_part = bare s.a; value_part = bare s.b; inner = map bare (followers keywords.Property t); form = s.form; key = key.1; value = value.1; owner = owner.1 },
@@ -178,10 +179,10 @@ pub record KnownProperties (k : Keyword) (t : Placed) : Type 0 where
 
 pub properties_known : (k : Keyword) (t : Placed) → Written t → KnownProperties k t ⊎ Faulty (PropertiesFault (parts k keywords.Property t))
 properties_known k t w = elim (each_in MeansProperty IsTypedProperty PropertyFault k keywords.Property t property_known w) [
-  | inr b ↦ inr (b.0, inl b.1)
+  | inr b ↦ inr (b.0, stands.one_property b.1)
   | inl x ↦ (let e : map bare (parts k keywords.Property t) ≡ those keywords.Property (map bare (followers k t)) = filter_bare (has_keyword keywords.Property) (followers k t) in
       elim (names_known (λ (p : design.Property). p.key.id) (parts k keywords.Property t) x.0 (each_with MeansProperty (λ u p. IsNamed u p.key.id) property_named (parts k keywords.Property t) (those keywords.Property (map bare (followers k t))) x.0 e x.1)) [
-        | inr b ↦ inr (b.0, inr b.1)
+        | inr b ↦ inr (b.0, stands.key_again b.1)
         | inl d ↦ inl (record { list = x.0; mean = x.1; typed = All-from_recursion IsTypedProperty x.0 x.2; keys = d })
       ])
 ]
@@ -195,11 +196,11 @@ direction_of w h = elim (either (same w (direction_word directions.Input)) (same
 
 direction_known : (t : Placed) → IsOf (has_keyword keywords.Direction) t → Meant MeansDirection (λ d. Unit {0}) t ⊎ Faulty (DirectionFault t)
 direction_known t h = elim (known1 keywords.Direction identifier [] t refl h) [
-  | inr b ↦ inr (b.0, inl b.1)
+  | inr b ↦ inr (b.0, stands.direction_row b.1)
   | inl s ↦ (let a = word_choice s.a s.is_a in
       let f : IsFormOf keywords.Direction (bare t) (bare s.a ∷ []) [] = follow_none keywords.Direction (identifier ∷ []) (bare t) (bare s.a ∷ []) (map bare (followers keywords.Direction t)) refl s.form in
       elim (test (is_direction a.1)) [
-        | inr e ↦ inr (At BadForm a.0, inr (s.a, s.at_a, (a.1, a.0, a.2, e, refl)))
+        | inr e ↦ inr (At BadForm a.0, stands.other_direction (s.a, s.at_a, (a.1, a.0, a.2, e, refl)))
         | inl e ↦ (let d = direction_of a.1 e in inl (d.0, (a.1, subst (λ x. IsFormOf keywords.Direction (bare t) (bare x ∷ []) []) a.2 f, d.1), tt))
       ])
 ]
@@ -223,19 +224,18 @@ pub record KnownPortName (t : Placed) : Type 0 where
 abbrev pub port_choices : List Choice
 port_choices = AnIdentifier ∷ AForm keywords.Rename ∷ AForm keywords.Array ∷ []
 
-array_known : (t : Placed) → IsOf (has_keyword keywords.Array) t → KnownPortName t ⊎ Faulty (λ f. RowFault keywords.Array t f ⊎ (InPart 0 NameFault t f ⊎ InPart 1 SizeFault t f))
+array_known : (t : Placed) → IsOf (has_keyword keywords.Array) t → KnownPortName t ⊎ Faulty (PortNameFault t)
 array_known t h = elim (known2 keywords.Array name_definition keyword.integer [] t refl h) [
-  | inr b ↦ inr (b.0, inl b.1)
+  | inr b ↦ inr (b.0, stands.array_row h.0 b.1)
   | inl s ↦ elim (name_known s.a s.written_a s.is_a) [
-    | inr b ↦ inr (b.0, inr (inl (s.a, s.at_a, b.1)))
+    | inr b ↦ inr (b.0, stands.array_name h.0 (s.a, s.at_a, b.1))
     | inl name ↦ (let b = integer_choice s.b s.is_b in
         let f : IsFormOf keywords.Array (bare t) (bare s.a ∷ bare s.b ∷ []) [] = follow_none keywords.Array (name_definition ∷ keyword.integer ∷ []) (bare t) (bare s.a ∷ bare s.b ∷ []) (map bare (followers keywords.Array t)) refl s.form in
         let g : IsFormOf keywords.Array (bare t) (bare s.a ∷ integer b.1 ∷ []) [] = subst (λ x. IsFormOf keywords.Array (bare t) (bare s.a ∷ bare x ∷ []) []) b.2 f in
         elim (size_of b.1) [
-          | inr n ↦ inr (At BadIndex b.0, inr (inr (s.b, s.at_b, (b.1, b.0, b.2, n, refl))))
+          | inr n ↦ inr (At BadIndex b.0, stands.array_size h.0 (s.b, s.at_b, (b.1, b.0, b.2, n, refl)))
           | inl z ↦ (let i : IsFormOf keywords.Array (bare t) (bare s.a ∷ integer (pos z.0) ∷ []) [] = subst (λ x. IsFormOf keywords.Array (bare t) (bare s.a ∷ integer x ∷ []) []) z.1 g in
-              let l : 1 ≤ z.0 = z.2.0 in
-              inl (record { name = name.0; array = Some z.0; mean = (bare s.a, i, name.1, omega (arith, l), z.2.1); typed = name.2; width = z.2 }))
+              inl (record { name = name.0; array = Some z.0; mean = (bare s.a, i, name.1, z.2); typed = name.2; width = z.2 }))
         ])
   ]
 ]
@@ -244,29 +244,29 @@ plain_name : (t : Placed) → Written t → is_one_of name_definition (bare t) �
 plain_name t w h = elim (name_known t w h) [ inr b ↦ inr b | inl x ↦ inl (record { name = x.0; array = None; mean = x.1; typed = x.2; width = tt }) ]
 
 port_name_known : (t : Placed) → Written t → is_one_of port_choices (bare t) ≡ true → KnownPortName t ⊎ Faulty (PortNameFault t)
-port_name_known (Word' p w) v h = elim (plain_name (Word' p w) v refl) [ inr b ↦ inr (b.0, inl b.1) | inl x ↦ inl x ]
+port_name_known (Word' p w) v h = elim (plain_name (Word' p w) v refl) [ inr b ↦ inr (b.0, stands.scalar_name b.1) | inl x ↦ inl x ]
 port_name_known (Integer' p z) v h = absurd (cc h)
 port_name_known (String' p s) v h = absurd (cc h)
 port_name_known (Form' p ts) v h =
     let t : Placed = Form' p ts in
     elim (either (has_keyword keywords.Rename (bare t)) (has_keyword keywords.Array (bare t) || false) h) [
       | inl k ↦ (let n : is_one_of name_definition (bare t) ≡ true = or_first (has_keyword keywords.Rename (bare t)) false k in
-          elim (plain_name t v n) [ inr b ↦ inr (b.0, inl b.1) | inl x ↦ inl x ])
+          elim (plain_name t v n) [ inr b ↦ inr (b.0, stands.scalar_name b.1) | inl x ↦ inl x ])
       | inr k ↦ (let g : has_keyword keywords.Array (bare t) ≡ true = only (has_keyword keywords.Array (bare t)) k in
-          elim (array_known t (g, v)) [ inr b ↦ inr (b.0, inr (g, b.1)) | inl x ↦ inl x ])
+          array_known t (g, v))
     ]
 
 pub port_known : (t : Placed) → IsOf (has_keyword keywords.Port) t → Meant MeansPort (λ p. IsTypedPort p × HasDistinctKeys p.properties) t ⊎ Faulty (PortFault t)
 port_known t h = elim (known1 keywords.Port port_choices (One keywords.Direction ∷ One keywords.Designator ∷ Many keywords.Property ∷ Many keywords.Comment ∷ Many keywords.UserData ∷ []) t refl h) [
-  | inr b ↦ inr (b.0, inl b.1)
+  | inr b ↦ inr (b.0, stands.port_row b.1)
   | inl s ↦ elim (port_name_known s.a s.written_a s.is_a) [
-    | inr b ↦ inr (b.0, inr (inl (s.a, s.at_a, b.1)))
+    | inr b ↦ inr (b.0, stands.port_name (s.a, s.at_a, b.1))
     | inl n ↦ elim (perhaps_in MeansDirection (λ d. Unit {0}) DirectionFault keywords.Port keywords.Direction t direction_known h.1 s.form.fits.2.0) [
-      | inr b ↦ inr (b.0, inr (inr (inl b.1)))
+      | inr b ↦ inr (b.0, stands.port_direction b.1)
       | inl d ↦ elim (perhaps_in (MeansText keywords.Designator) IsBytes (RowFault keywords.Designator) keywords.Port keywords.Designator t (λ u w. text_known keywords.Designator u refl w) h.1 s.form.fits.2.1.0) [
-        | inr b ↦ inr (b.0, inr (inr (inr (inl b.1))))
+        | inr b ↦ inr (b.0, stands.port_designator b.1)
         | inl g ↦ elim (properties_known keywords.Port t h.1) [
-          | inr b ↦ inr (b.0, inr (inr (inr (inr b.1))))
+          | inr b ↦ inr (b.0, stands.port_properties b.1)
           | inl ps ↦ inl (
             record { name = n.name; array = n.array; direction = d.0; designator = g.0; properties = ps.list },
             record { name_part = bare s.a; inner = map bare (followers keywords.Port t); form = s.form; name = n.mean; direction = d.1; designator = g.1; properties = ps.mean },
@@ -317,19 +317,19 @@ each_count M ts bs xs e h = sym (map_length bare ts) ∙ (ap length e ∙ each_l
 
 pub interface_known : (t : Placed) → IsOf (has_keyword keywords.Interface) t → KnownInterface t ⊎ Faulty (InterfaceFault t)
 interface_known t h = elim (known0 keywords.Interface (Many keywords.Port ∷ Many keywords.Property ∷ Many keywords.Comment ∷ Many keywords.UserData ∷ []) t refl h.0) [
-  | inr b ↦ inr (b.0, inl b.1)
+  | inr b ↦ inr (b.0, stands.interface_row b.1)
   | inl s ↦ elim (each_in MeansPort (λ p. IsTypedPort p × HasDistinctKeys p.properties) PortFault keywords.Interface keywords.Port t port_known h.1) [
-    | inr b ↦ inr (b.0, inr (inl b.1))
+    | inr b ↦ inr (b.0, stands.interface_port b.1)
     | inl x ↦ (let e : map bare (ports_in t) ≡ those keywords.Port (map bare (followers keywords.Interface t)) = filter_bare (has_keyword keywords.Port) (followers keywords.Interface t) in
         let n : length (ports_in t) ≡ length x.0 = each_count MeansPort (ports_in t) (those keywords.Port (map bare (followers keywords.Interface t))) x.0 e x.1 in
         elim (names_known (λ (p : design.Port). p.name.id) (ports_in t) x.0 (each_with MeansPort (λ u p. IsNamed u p.name.id) port_named (ports_in t) (those keywords.Port (map bare (followers keywords.Interface t))) x.0 e x.1)) [
-          | inr b ↦ inr (b.0, inr (inr (inl b.1)))
+          | inr b ↦ inr (b.0, stands.port_again b.1)
           | inl d ↦ elim (beyond_known 65536 (ports_in t)) [
-            | inr b ↦ inr (b.0, inr (inr (inr (inl b.1))))
+            | inr b ↦ inr (b.0, stands.many_ports b.1)
             | inl c ↦ elim (bits_known 1048576 0 (ports_in t) x.0 (each_with MeansPort (λ u p. declared_width u ≡ port_width p) port_declares (ports_in t) (those keywords.Port (map bare (followers keywords.Interface t))) x.0 e x.1) (omega arith)) [
-              | inr b ↦ inr (b.0, inr (inr (inr (inr (inl b.1)))))
+              | inr b ↦ inr (b.0, stands.many_bits b.1)
               | inl m ↦ elim (properties_known keywords.Interface t h.1) [
-                | inr b ↦ inr (b.0, inr (inr (inr (inr (inr b.1)))))
+                | inr b ↦ inr (b.0, stands.interface_properties b.1)
                 | inl ps ↦ inl (record {
                   form = s.form;
                   ports = x.0;

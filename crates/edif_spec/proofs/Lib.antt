@@ -26,14 +26,11 @@ pub mod Meanings
 pub mod Once
 pub mod OnceFile
 pub mod Order
-pub mod PlainLemmas
-pub mod PlainMeanings
 pub mod ReadBack
-pub mod Ready
 pub mod SameLemmas
 pub mod Scopes
 pub mod SpelledTrees
 pub mod StringLemmas
+pub mod ToldLemmas
 pub mod ValidForms
 pub mod Whole
-pub mod WholeOrder

@@ -90,7 +90,7 @@ direction_meant d = (direction_word d, record { spelled = codes "direction"; is 
 
 port_name_meant : (name : design.Name) (array : Option ℕ) → IfSome array IsWidth → MeansPortName (port_name_tree name array) name array
 port_name_meant name None h = name_meant name.id name.shown
-port_name_meant name (Some n) h = (name_tree name, record { spelled = codes "array"; is = refl; keyword = refl; fits = ((name_fits name.id name.shown, (refl, tt)), refl, tt) }, name_meant name.id name.shown, omega arith, h.1)
+port_name_meant name (Some n) h = (name_tree name, record { spelled = codes "array"; is = refl; keyword = refl; fits = ((name_fits name.id name.shown, (refl, tt)), refl, tt) }, name_meant name.id name.shown, h)
 
 port_name_fits : (id : List ℕ) (shown : Option (List ℕ)) (array : Option ℕ) → IsTrue (is_one_of (AnIdentifier ∷ AForm keywords.Rename ∷ AForm keywords.Array ∷ []) (port_name_tree (record { id = id; shown = shown }) array))
 port_name_fits id None None = refl

@@ -7,16 +7,13 @@ use Rattle.std.proofs.lemmas.Bool.Decides.{nat_tests}
 use Rattle.netlist_schema.specs.Design.{insts_in}
 use Rattle.edif_spec.specs.Arranged.{is_written, is_ready, first_ready, order_from, order_of, orders_from, place_in, new_id, new_inst, new_contents, new_cell, new_top, new_cells, new_libs, arranged}
 use Rattle.edif_spec.specs.Defined.{AllAfter, DefinedBefore}
+use Rattle.order_spec.proofs.Places.{range}
 use Rattle.edif_spec.specs.Design as design
 use Rattle.edif_spec.proofs.CellPlaces.{get_below, get_after, length_last, some_of, any_append, lib_of_cell}
 
 abbrev pub upto : ℕ → List ℕ
 upto zero = []
 upto (suc k) = upto k ++ k ∷ []
-
-abbrev pub range : ℕ → ℕ → List ℕ
-range k zero = []
-range k (suc n) = k ∷ range (suc k) n
 
 -- instances in their own library place earlier cells
 abbrev pub IsEarlier : ℕ → ℕ → design.Inst → Type 0

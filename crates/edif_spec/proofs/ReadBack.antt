@@ -9,14 +9,11 @@ use Rattle.edif_spec.specs.Arranged.{arranged, canonical_text}
 use Rattle.edif_spec.specs.Canonical.{tree_of}
 use Rattle.edif_spec.specs.Design.{Design}
 use Rattle.edif_spec.specs.Means.{MeansFile}
-use Rattle.edif_spec.specs.Plain.{IsPlainDesign}
 use Rattle.edif_spec.proofs.Arrange.{arranged_valid}
 use Rattle.edif_spec.proofs.ArrangeOrder.{arranged_defined, defined_stays}
 use Rattle.edif_spec.proofs.Defined.{defined_before}
 use Rattle.edif_spec.proofs.Fine.{text_spelled}
 use Rattle.edif_spec.proofs.OnceFile.{file_once}
-use Rattle.edif_spec.proofs.PlainLemmas.{plain_spelled}
-use Rattle.edif_spec.proofs.PlainMeanings.{plain_tree, plain_meant}
 use Rattle.edif_spec.proofs.Whole.{tree_meant}
 
 -- a text that spells a tree that means a design means no other
@@ -32,6 +29,3 @@ text_meant_back d valid = tree_meant (arranged d) (arranged_valid d valid) (arra
 
 pub meant_stays : (t : Bare) (d : Design) → MeansFile t d → arranged d ≡ d
 meant_stays t d means = defined_stays d means.valid (defined_before t d means)
-
-pub plain_back : (d : Design) → IsPlainDesign d → IsValid d → Spells (canonical_text d) (tree_of d) × MeansFile (tree_of d) d
-plain_back d plain valid = (plain_spelled d plain valid, plain_meant (tree_of d) d (plain_tree d plain) valid)

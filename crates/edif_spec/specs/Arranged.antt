@@ -1,30 +1,8 @@
 -- The design with the cells of each library in the order in which they are written, and the ids renumbered to fit.
-use Rattle.std.specs.Prelude.{ℕ, zero, suc, List, [], ◌∷◌, ◌++◌, map, length, filter_map, Bool, not, ◌||◌, ◌&&◌, Option, Some, None, slice_get, option_map, unwrap_or, nat_eq, if◌then◌else◌}
-use Rattle.std.specs.List.{list_all, list_any}
-use Rattle.edif_spec.specs.Canonical.{text}
+use Rattle.std.specs.Prelude.{ℕ, suc, List, [], ◌∷◌, map, filter_map, slice_get, option_map, unwrap_or, nat_eq, if◌then◌else◌}
+pub use Rattle.order_spec.specs.Order.{is_written, is_ready, first_ready, order_from, order_of}
+use Rattle.edif_spec.specs.Canonical.{text_as_listed}
 use Rattle.edif_spec.specs.Design as design
-
--- the placed cell is written, or stands in another library
-abbrev pub is_written : ℕ → List ℕ → design.Inst → Bool
-is_written own written i = not (nat_eq i.of.lib.0 own) || list_any (nat_eq i.of.slot) written
-
--- the cell is not written yet, and its children in its library all are
-abbrev pub is_ready : ℕ → List ℕ → ℕ → design.CellBody → Bool
-is_ready own written slot c = not (list_any (nat_eq slot) written) && list_all (is_written own written) (design.insts_of c)
-
--- the first cell that is ready, from a place on
-abbrev pub first_ready : ℕ → List ℕ → ℕ → List design.CellBody → Option ℕ
-first_ready own written slot [] = None
-first_ready own written slot (c ∷ cs) = if is_ready own written slot c then Some slot else first_ready own written (suc slot) cs
-
--- repeatedly the first cell that is ready, at most n more
-abbrev pub order_from : ℕ → List design.CellBody → ℕ → List ℕ → List ℕ
-order_from own cells zero written = []
-order_from own cells (suc n) written = unwrap_or (option_map (λ slot. slot ∷ order_from own cells n (written ++ slot ∷ [])) (first_ready own written 0 cells)) []
-
--- the order in which the cells of a library are written
-abbrev pub order_of : ℕ → List design.CellBody → List ℕ
-order_of own cells = order_from own cells (length cells) []
 
 -- the order of each library, from a library on
 abbrev pub orders_from : ℕ → List design.Lib → List (List ℕ)
@@ -81,4 +59,4 @@ arranged d = let orders = orders_from 0 d.libs in
 
 -- the canonical text of a design: its cells stand in arranged order
 abbrev pub canonical_text : design.Design → List ℕ
-canonical_text d = text (arranged d)
+canonical_text d = text_as_listed (arranged d)

@@ -224,6 +224,6 @@ abbrev mutual
   layouts level zero (More t ts) = new_line level ++ (layout (suc level) t ++ layouts level zero ts)
   layouts level (suc n) (More t ts) = 32 ∷ (layout (suc level) t ++ layouts level n ts)
 
--- the text of a design, with its cells in the order of the directories
-abbrev pub text : design.Design → List ℕ
-text d = layout 1 (tree_of d) ++ 10 ∷ []
+-- The text of a design with its cells in the order of the directories. The canonical text is that of the arranged design.
+abbrev pub text_as_listed : design.Design → List ℕ
+text_as_listed d = layout 1 (tree_of d) ++ 10 ∷ []

@@ -1,6 +1,7 @@
 -- What may be wrong with a form by itself: breaches of its row, names that repeat, limits. Places are the numbers beside the nodes.
-use Rattle.std.specs.Prelude.{◌≡◌, ℕ, ◌+◌, ◌<◌, ◌≤◌, ◌⊎◌, pos, List, [], ◌∷◌, length, filter, drop, Bool, true, false, ◌||◌, Option, Some, None, slice_get, if◌then◌else◌}
+use Rattle.std.specs.Prelude.{◌≡◌, ℕ, ◌+◌, ◌<◌, ◌≤◌, ◌⊎◌, pos, List, [], ◌∷◌, length, filter, drop, Bool, true, false, ◌&&◌, ◌||◌, nat_le, Option, Some, None, IsTrue, slice_get, if◌then◌else◌}
 use Rattle.std.specs.List.{list_any}
+use Rattle.netlist_schema.specs.declared.limits.TheConstants.{MOST_WIDTH}
 use Rattle.spelling_spec.specs.Tree.{Bare, Placed, Trees, Form', Word', Integer', String', End, More, bare, items}
 use Rattle.edif_spec.specs.Keyword.{spelling_of, same, row, Row, Takes, Skips, Choice, Follower, Many, One}
 use Rattle.edif_spec.specs.Rows.{has_keyword, is_one_of, is_follower}
@@ -58,6 +59,10 @@ Among F ts f = AtOne (λ u. F u f) ts
 -- the fault is in the argument at this place of the form
 abbrev pub InPart : ℕ → (Placed → MeaningFault → Type 0) → Placed → MeaningFault → Type 0
 InPart i F t f = (u : Placed) × (slice_get (arguments t) i ≡ Some u) × F u f
+
+-- the fault is in the argument at this place of the form, which is a form of this keyword
+abbrev pub InForm : ℕ → Keyword → (Placed → MeaningFault → Type 0) → Placed → MeaningFault → Type 0
+InForm i k F t f = (u : Placed) × (slice_get (arguments t) i ≡ Some u) × IsTrue (has_keyword k (bare u)) × F u f
 
 -- the row has such an argument somewhere
 abbrev pub row_has : Row → Bare → Bool
@@ -143,9 +148,13 @@ Repeats ts f = AtTwo (SameName f) ts
 abbrev pub Beyond : ℕ → List Placed → MeaningFault → Type 0
 Beyond limit ts f = (u : Placed) × (slice_get ts limit ≡ Some u) × (f ≡ OverLimit limit (place_of u))
 
--- the integer of an array, 1 for any other name
+-- a size counts where a port may have it, any other as 1
+abbrev pub counted : ℕ → ℕ
+counted size = if nat_le 1 size && nat_le size MOST_WIDTH then size else 1
+
+-- the size of an array, 1 for any other name
 abbrev pub width_with : Bool → Option Placed → ℕ
-width_with true (Some (Integer' p (pos size))) = size
+width_with true (Some (Integer' p (pos size))) = counted size
 width_with _ _ = 1
 
 -- the bits that the name of a port gives it as it is written

@@ -4,10 +4,10 @@ pub mod Defined
 pub mod Design
 pub mod Examples
 pub mod Faults
-pub mod InTime
 pub mod Keyword
 pub mod Means
-pub mod Plain
+pub mod PropertyText
 pub mod Rows
 pub mod Stands
+pub mod Told
 pub mod Writable

@@ -1,11 +1,12 @@
 -- What a tree means as a design: a definition for each row of the table of forms.
-use Rattle.std.specs.Prelude.{◌≡◌, ℕ, suc, ◌<◌, ◌≤◌, pos, FitsSigned, List, [], ◌∷◌, ◌++◌, take, length, filter, count_by, Bool, true, false, ◌||◌, ◌&&◌, Option, Some, None, IsTrue, option_map, unwrap_or, slice_get, ◌⊎◌, codes, nat_eq, if◌then◌else◌}
+use Rattle.std.specs.Prelude.{◌≡◌, ℕ, suc, ◌<◌, pos, FitsSigned, List, [], ◌∷◌, ◌++◌, take, length, filter, count_by, Bool, true, false, ◌||◌, ◌&&◌, Option, Some, None, IsTrue, option_map, unwrap_or, slice_get, ◌⊎◌, codes, nat_eq, if◌then◌else◌}
 use Rattle.spelling_spec.specs.Tree.{Bare, Form', Word', More, form, word, integer, string}
 use Rattle.edif_spec.specs.Keyword.{spelling_of, same}
 use Rattle.edif_spec.specs.Rows.{has_keyword, those, IsFormOf, Each, EachAfter, Perhaps, Just}
 use Rattle.edif_spec.specs.declared.keyword.Keyword.{Keyword}
 use Rattle.edif_spec.specs.declared.keyword.Keyword.TheVariants as keywords
 use Rattle.netlist_schema.specs.Valid.{IsValid}
+use Rattle.netlist_schema.specs.Width.{IsWidth}
 use Rattle.std.specs.Int.{w32}
 use Rattle.edif_spec.specs.Design as design
 use Rattle.edif_spec.specs.Canonical.{direction_word, kind_word, library_keyword, ports_of_end}
@@ -91,7 +92,7 @@ MeansDirection t d = (w : List ℕ) × IsFormOf keywords.Direction t (word w ∷
 -- the name of a scalar port, or that of an array with its width
 abbrev pub MeansPortName : Bare → design.Name → Option ℕ → Type 0
 MeansPortName t name None = MeansName t name
-MeansPortName t name (Some n) = (u : Bare) × IsFormOf keywords.Array t (u ∷ integer (pos n) ∷ []) [] × MeansName u name × (0 < n) × (n ≤ 65536)
+MeansPortName t name (Some n) = (u : Bare) × IsFormOf keywords.Array t (u ∷ integer (pos n) ∷ []) [] × MeansName u name × IsWidth n
 
 -- a port is its name, perhaps a direction and a designator, and its properties
 pub record MeansPort (t : Bare) (p : design.Port) : Type 0 where

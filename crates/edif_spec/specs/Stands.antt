@@ -5,11 +5,12 @@ use Rattle.std.specs.Int.{w32}
 use Rattle.std.specs.List.{flat_map}
 use Rattle.spelling_spec.specs.Tree.{Bare, Placed, Word', Integer', bare, word}
 use Rattle.netlist_schema.specs.Width.{IsWidth}
+use Rattle.netlist_schema.specs.declared.limits.TheConstants.{MOST_LIBS, MOST_CELLS, MOST_PORTS, MOST_BITS, MOST_INSTS, MOST_NETS, MOST_ENDS, MOST_NOTES}
 use Rattle.edif_spec.specs.Keyword.{same, identifier, the, Choice, Row, Takes}
 use Rattle.edif_spec.specs.Rows.{has_keyword, Each, EachAfter, Perhaps}
 use Rattle.edif_spec.specs.Canonical.{ports_of_end}
 use Rattle.edif_spec.specs.Means.{meant, Found, Absent, Several, width_at, is_library, is_note, MeansName, MeansPort, MeansLibraryRef, MeansCellRef, MeansInst, MeansInstRef, MeansEnd, MeansCell, MeansLibrary, MeansPath}
-use Rattle.edif_spec.specs.Faults.{AtTwo, place_of, arguments, followers, parts, Among, InPart, misplaced, FixedFault, FollowerFault, RowFault, defined, Repeats, Beyond, BeyondBits}
+use Rattle.edif_spec.specs.Faults.{AtTwo, place_of, arguments, followers, parts, Among, InPart, InForm, misplaced, FixedFault, FollowerFault, RowFault, defined, Repeats, Beyond, BeyondBits}
 use Rattle.edif_spec.specs.Design as design
 use Rattle.edif_spec.specs.declared.keyword.Keyword.{Keyword}
 use Rattle.edif_spec.specs.declared.keyword.Keyword.TheVariants as keywords
@@ -41,131 +42,184 @@ abbrev pub ExponentFault : Placed → MeaningFault → Type 0
 ExponentFault u f = (z : ℤ) × (p : ℕ) × (u ≡ Integer' p z) × (¬ FitsSigned w32 z) × (f ≡ At BadForm p)
 
 -- in a truth value: its row
-abbrev pub BooleanFault : Placed → MeaningFault → Type 0
-BooleanFault t f = (IsTrue (has_keyword keywords.True (bare t)) × RowFault keywords.True t f) ⊎ (IsTrue (has_keyword keywords.False (bare t)) × RowFault keywords.False t f)
+pub data BooleanFault (t : Placed) (f : MeaningFault) : Type 0 where
+  true_row : IsTrue (has_keyword keywords.True (bare t)) → RowFault keywords.True t f → BooleanFault t f
+  false_row : IsTrue (has_keyword keywords.False (bare t)) → RowFault keywords.False t f → BooleanFault t f
 
 -- in a mantissa with an exponent: its row, its exponent
-abbrev pub NumberFault : Placed → MeaningFault → Type 0
-NumberFault t f = IsTrue (has_keyword keywords.E (bare t)) × (RowFault keywords.E t f ⊎ InPart 1 ExponentFault t f)
+pub data NumberFault (t : Placed) (f : MeaningFault) : Type 0 where
+  scaled_row : IsTrue (has_keyword keywords.E (bare t)) → RowFault keywords.E t f → NumberFault t f
+  scaled_exponent : IsTrue (has_keyword keywords.E (bare t)) → InPart 1 ExponentFault t f → NumberFault t f
 
 -- in a value, by its keyword
-abbrev pub InValue : Placed → MeaningFault → Type 0
-InValue t f = (IsTrue (has_keyword keywords.Boolean (bare t)) × (RowFault keywords.Boolean t f ⊎ InPart 0 BooleanFault t f))
-    ⊎ ((IsTrue (has_keyword keywords.Integer (bare t)) × RowFault keywords.Integer t f)
-    ⊎ ((IsTrue (has_keyword keywords.Number (bare t)) × (RowFault keywords.Number t f ⊎ InPart 0 NumberFault t f))
-    ⊎ (IsTrue (has_keyword keywords.String (bare t)) × RowFault keywords.String t f)))
+pub data InValue (t : Placed) (f : MeaningFault) : Type 0 where
+  boolean_row : IsTrue (has_keyword keywords.Boolean (bare t)) → RowFault keywords.Boolean t f → InValue t f
+  boolean_truth : IsTrue (has_keyword keywords.Boolean (bare t)) → InPart 0 BooleanFault t f → InValue t f
+  integer_row : IsTrue (has_keyword keywords.Integer (bare t)) → RowFault keywords.Integer t f → InValue t f
+  number_row : IsTrue (has_keyword keywords.Number (bare t)) → RowFault keywords.Number t f → InValue t f
+  number_scaled : IsTrue (has_keyword keywords.Number (bare t)) → InPart 0 NumberFault t f → InValue t f
+  string_row : IsTrue (has_keyword keywords.String (bare t)) → RowFault keywords.String t f → InValue t f
 
 -- in a property: its row, its key, its value, its owner
-abbrev pub PropertyFault : Placed → MeaningFault → Type 0
-PropertyFault t f = RowFault keywords.Property t f ⊎ (InPart 0 NameFault t f ⊎ (InPart 1 InValue t f
-    ⊎ Among (RowFault keywords.Owner) (parts keywords.Property keywords.Owner t) f))
+pub data PropertyFault (t : Placed) (f : MeaningFault) : Type 0 where
+  property_row : RowFault keywords.Property t f → PropertyFault t f
+  property_key : InPart 0 NameFault t f → PropertyFault t f
+  property_value : InPart 1 InValue t f → PropertyFault t f
+  property_owner : Among (RowFault keywords.Owner) (parts keywords.Property keywords.Owner t) f → PropertyFault t f
 
 -- in the properties of an owner: in one of them, or a key that repeats
-abbrev pub PropertiesFault : List Placed → MeaningFault → Type 0
-PropertiesFault ts f = Among PropertyFault ts f ⊎ Repeats ts f
+pub data PropertiesFault (ts : List Placed) (f : MeaningFault) : Type 0 where
+  one_property : Among PropertyFault ts f → PropertiesFault ts f
+  key_again : Repeats ts f → PropertiesFault ts f
 
 -- the word of a direction, ignoring case
 abbrev pub is_direction : List ℕ → Bool
 is_direction w = same w (codes "INPUT") || (same w (codes "OUTPUT") || same w (codes "INOUT"))
 
 -- in a direction: its row, or another word
-abbrev pub DirectionFault : Placed → MeaningFault → Type 0
-DirectionFault t f = RowFault keywords.Direction t f ⊎ InPart 0 (WordFault is_direction BadForm) t f
+pub data DirectionFault (t : Placed) (f : MeaningFault) : Type 0 where
+  direction_row : RowFault keywords.Direction t f → DirectionFault t f
+  other_direction : InPart 0 (WordFault is_direction BadForm) t f → DirectionFault t f
 
 -- a size that is not from 1 to 65,536
 abbrev pub SizeFault : Placed → MeaningFault → Type 0
 SizeFault u f = (z : ℤ) × (p : ℕ) × (u ≡ Integer' p z) × ((n : ℕ) → z ≡ pos n → IsWidth n → ⊥) × (f ≡ At BadIndex p)
 
 -- in the name of a port, or in its array
-abbrev pub PortNameFault : Placed → MeaningFault → Type 0
-PortNameFault t f = NameFault t f ⊎ (IsTrue (has_keyword keywords.Array (bare t)) × (RowFault keywords.Array t f ⊎ (InPart 0 NameFault t f ⊎ InPart 1 SizeFault t f)))
+pub data PortNameFault (t : Placed) (f : MeaningFault) : Type 0 where
+  scalar_name : NameFault t f → PortNameFault t f
+  array_row : IsTrue (has_keyword keywords.Array (bare t)) → RowFault keywords.Array t f → PortNameFault t f
+  array_name : IsTrue (has_keyword keywords.Array (bare t)) → InPart 0 NameFault t f → PortNameFault t f
+  array_size : IsTrue (has_keyword keywords.Array (bare t)) → InPart 1 SizeFault t f → PortNameFault t f
 
 -- in a port: its row, its name, its direction, its designator, its properties
-abbrev pub PortFault : Placed → MeaningFault → Type 0
-PortFault t f = RowFault keywords.Port t f ⊎ (InPart 0 PortNameFault t f ⊎ (Among DirectionFault (parts keywords.Port keywords.Direction t) f
-    ⊎ (Among (RowFault keywords.Designator) (parts keywords.Port keywords.Designator t) f ⊎ PropertiesFault (parts keywords.Port keywords.Property t) f)))
+pub data PortFault (t : Placed) (f : MeaningFault) : Type 0 where
+  port_row : RowFault keywords.Port t f → PortFault t f
+  port_name : InPart 0 PortNameFault t f → PortFault t f
+  port_direction : Among DirectionFault (parts keywords.Port keywords.Direction t) f → PortFault t f
+  port_designator : Among (RowFault keywords.Designator) (parts keywords.Port keywords.Designator t) f → PortFault t f
+  port_properties : PropertiesFault (parts keywords.Port keywords.Property t) f → PortFault t f
 
 -- the ports of an interface
 abbrev pub ports_in : Placed → List Placed
 ports_in t = parts keywords.Interface keywords.Port t
 
 -- in an interface: its row, its ports, a port's name that repeats, more ports or bits than allowed, its properties
-abbrev pub InterfaceFault : Placed → MeaningFault → Type 0
-InterfaceFault t f = RowFault keywords.Interface t f ⊎ (Among PortFault (ports_in t) f ⊎ (Repeats (ports_in t) f ⊎ (Beyond 65536 (ports_in t) f
-    ⊎ (BeyondBits 1048576 0 (ports_in t) f ⊎ PropertiesFault (parts keywords.Interface keywords.Property t) f))))
+pub data InterfaceFault (t : Placed) (f : MeaningFault) : Type 0 where
+  interface_row : RowFault keywords.Interface t f → InterfaceFault t f
+  interface_port : Among PortFault (ports_in t) f → InterfaceFault t f
+  port_again : Repeats (ports_in t) f → InterfaceFault t f
+  many_ports : Beyond MOST_PORTS (ports_in t) f → InterfaceFault t f
+  many_bits : BeyondBits MOST_BITS 0 (ports_in t) f → InterfaceFault t f
+  interface_properties : PropertiesFault (parts keywords.Interface keywords.Property t) f → InterfaceFault t f
 
 -- in a reference to a library
-abbrev pub LibraryRefFault : List design.Lib → Placed → MeaningFault → Type 0
-LibraryRefFault libs t f = RowFault keywords.LibraryRef t f ⊎ InPart 0 (Dangles (design.lib_ids libs)) t f
+pub data LibraryRefFault (libs : List design.Lib) (t : Placed) (f : MeaningFault) : Type 0 where
+  library_ref_row : RowFault keywords.LibraryRef t f → LibraryRefFault libs t f
+  library_ref_name : InPart 0 (Dangles (design.lib_ids libs)) t f → LibraryRefFault libs t f
 
 -- In a reference to a cell: its row; its library; the cell's name among the cells of the library that is meant; and no library
 -- where there is none in which the reference stands.
-abbrev pub CellRefFault : List design.Lib → Option ℕ → Placed → MeaningFault → Type 0
-CellRefFault libs own t f = RowFault keywords.CellRef t f ⊎ (Among (LibraryRefFault libs) (parts keywords.CellRef keywords.LibraryRef t) f
-    ⊎ (((l : ℕ) × MeansLibraryRef libs own (map bare (parts keywords.CellRef keywords.LibraryRef t)) l × InPart 0 (Dangles (design.cell_ids libs l)) t f)
-    ⊎ ((own ≡ None) × (parts keywords.CellRef keywords.LibraryRef t ≡ []) × (f ≡ At BadForm (place_of t)))))
+pub data CellRefFault (libs : List design.Lib) (own : Option ℕ) (t : Placed) (f : MeaningFault) : Type 0 where
+  cell_ref_row : RowFault keywords.CellRef t f → CellRefFault libs own t f
+  cell_ref_library : Among (LibraryRefFault libs) (parts keywords.CellRef keywords.LibraryRef t) f → CellRefFault libs own t f
+  cell_ref_name : (l : ℕ) → MeansLibraryRef libs own (map bare (parts keywords.CellRef keywords.LibraryRef t)) l → InPart 0 (Dangles (design.cell_ids libs l)) t f → CellRefFault libs own t f
+  cell_ref_alone : own ≡ None → parts keywords.CellRef keywords.LibraryRef t ≡ [] → f ≡ At BadForm (place_of t) → CellRefFault libs own t f
 
 -- in a reference to the view of a cell: its row, its cell, the name of the view of the cell that is meant
-abbrev pub ViewRefFault : List design.Lib → Option ℕ → Placed → MeaningFault → Type 0
-ViewRefFault libs own t f = RowFault keywords.ViewRef t f ⊎ (InPart 1 (CellRefFault libs own) t f
-    ⊎ ((u : Placed) × (id : design.CellId) × (slice_get (arguments t) 1 ≡ Some u) × MeansCellRef libs own (bare u) id × InPart 0 (Dangles (design.view_id libs id ∷ [])) t f))
+pub data ViewRefFault (libs : List design.Lib) (own : Option ℕ) (t : Placed) (f : MeaningFault) : Type 0 where
+  view_ref_row : RowFault keywords.ViewRef t f → ViewRefFault libs own t f
+  view_ref_cell : InForm 1 keywords.CellRef (CellRefFault libs own) t f → ViewRefFault libs own t f
+  view_ref_name : (u : Placed) (id : design.CellId) → slice_get (arguments t) 1 ≡ Some u → MeansCellRef libs own (bare u) id → InPart 0 (Dangles (design.view_id libs id ∷ [])) t f → ViewRefFault libs own t f
 
 -- in an instance: its row, its name, its cell, its designator, its properties
-abbrev pub InstFault : List design.Lib → Option ℕ → Placed → MeaningFault → Type 0
-InstFault libs own t f = RowFault keywords.Instance t f ⊎ (InPart 0 NameFault t f ⊎ (InPart 1 (ViewRefFault libs own) t f
-    ⊎ (Among (RowFault keywords.Designator) (parts keywords.Instance keywords.Designator t) f ⊎ PropertiesFault (parts keywords.Instance keywords.Property t) f)))
+pub data InstFault (libs : List design.Lib) (own : Option ℕ) (t : Placed) (f : MeaningFault) : Type 0 where
+  inst_row : RowFault keywords.Instance t f → InstFault libs own t f
+  inst_name : InPart 0 NameFault t f → InstFault libs own t f
+  inst_view : InForm 1 keywords.ViewRef (ViewRefFault libs own) t f → InstFault libs own t f
+  inst_designator : Among (RowFault keywords.Designator) (parts keywords.Instance keywords.Designator t) f → InstFault libs own t f
+  inst_properties : PropertiesFault (parts keywords.Instance keywords.Property t) f → InstFault libs own t f
 
 -- in a reference to an instance of the same contents
-abbrev pub InstRefFault : List design.Inst → Placed → MeaningFault → Type 0
-InstRefFault insts t f = RowFault keywords.InstanceRef t f ⊎ InPart 0 (Dangles (design.inst_ids insts)) t f
+pub data InstRefFault (insts : List design.Inst) (t : Placed) (f : MeaningFault) : Type 0 where
+  inst_ref_row : RowFault keywords.InstanceRef t f → InstRefFault insts t f
+  inst_ref_name : InPart 0 (Dangles (design.inst_ids insts)) t f → InstRefFault insts t f
 
 -- a port of several bits, or of none, where one bit is wanted
-abbrev pub WholeFault : List design.Port → Placed → MeaningFault → Type 0
-WholeFault ports t f = (w : List ℕ) × (p : ℕ) × (i : ℕ) × (t ≡ Word' p w) × (meant (design.port_ids ports) w ≡ Found i) × (width_at ports i ≢ 1) × (f ≡ At WholeArray p)
+pub record WholeFault (ports : List design.Port) (t : Placed) (f : MeaningFault) : Type 0 where
+  pub spelled : List ℕ
+  pub place : ℕ
+  pub port : ℕ
+  pub is : t ≡ Word' place spelled
+  pub means : meant (design.port_ids ports) spelled ≡ Found port
+  pub wide : width_at ports port ≢ 1
+  pub fault : f ≡ At WholeArray place
 
 -- an index that the port does not have: below 0, or not below its width
-abbrev pub IndexFault : List design.Port → Placed → MeaningFault → Type 0
-IndexFault ports t f = (w : List ℕ) × (q : ℕ) × (i : ℕ) × (z : ℤ) × (p : ℕ) × (slice_get (arguments t) 0 ≡ Some (Word' q w)) × (meant (design.port_ids ports) w ≡ Found i)
-    × (slice_get (arguments t) 1 ≡ Some (Integer' p z)) × ((n : ℕ) → z ≡ pos n → n < width_at ports i → ⊥) × (f ≡ At BadIndex p)
+pub record IndexFault (ports : List design.Port) (t : Placed) (f : MeaningFault) : Type 0 where
+  pub spelled : List ℕ
+  pub named : ℕ
+  pub port : ℕ
+  pub index : ℤ
+  pub place : ℕ
+  pub name_there : slice_get (arguments t) 0 ≡ Some (Word' named spelled)
+  pub means : meant (design.port_ids ports) spelled ≡ Found port
+  pub index_there : slice_get (arguments t) 1 ≡ Some (Integer' place index)
+  pub beyond : (n : ℕ) → index ≡ pos n → n < width_at ports port → ⊥
+  pub fault : f ≡ At BadIndex place
 
 -- in what names a bit among these ports: a port, or a member of one
-abbrev pub BitFault : List design.Port → Placed → MeaningFault → Type 0
-BitFault ports t f = Dangles (design.port_ids ports) t f ⊎ (WholeFault ports t f
-    ⊎ (IsTrue (has_keyword keywords.Member (bare t)) × (RowFault keywords.Member t f ⊎ (InPart 0 (Dangles (design.port_ids ports)) t f ⊎ IndexFault ports t f))))
+pub data BitFault (ports : List design.Port) (t : Placed) (f : MeaningFault) : Type 0 where
+  bit_port : Dangles (design.port_ids ports) t f → BitFault ports t f
+  bit_whole : WholeFault ports t f → BitFault ports t f
+  member_row : IsTrue (has_keyword keywords.Member (bare t)) → RowFault keywords.Member t f → BitFault ports t f
+  member_port : IsTrue (has_keyword keywords.Member (bare t)) → InPart 0 (Dangles (design.port_ids ports)) t f → BitFault ports t f
+  member_index : IsTrue (has_keyword keywords.Member (bare t)) → IndexFault ports t f → BitFault ports t f
 
 -- in an end: its row, its instance, and its bit among the ports of the cell or of the instance that is meant
-abbrev pub EndFault : List design.Lib → List design.Port → List design.Inst → Placed → MeaningFault → Type 0
-EndFault libs ports insts t f = RowFault keywords.PortRef t f ⊎ (Among (InstRefFault insts) (parts keywords.PortRef keywords.InstanceRef t) f
-    ⊎ ((o : Option ℕ) × Perhaps (MeansInstRef insts) (map bare (parts keywords.PortRef keywords.InstanceRef t)) o × InPart 0 (BitFault (ports_of_end libs ports insts o)) t f))
+pub data EndFault (libs : List design.Lib) (ports : List design.Port) (insts : List design.Inst) (t : Placed) (f : MeaningFault) : Type 0 where
+  end_row : RowFault keywords.PortRef t f → EndFault libs ports insts t f
+  end_inst : Among (InstRefFault insts) (parts keywords.PortRef keywords.InstanceRef t) f → EndFault libs ports insts t f
+  end_bit : (o : Option ℕ) → Perhaps (MeansInstRef insts) (map bare (parts keywords.PortRef keywords.InstanceRef t)) o → InPart 0 (BitFault (ports_of_end libs ports insts o)) t f → EndFault libs ports insts t f
 
 -- in what a net joins: its row, and its ends
-abbrev pub JoinedFault : List design.Lib → List design.Port → List design.Inst → Placed → MeaningFault → Type 0
-JoinedFault libs ports insts t f = RowFault keywords.Joined t f ⊎ Among (EndFault libs ports insts) (parts keywords.Joined keywords.PortRef t) f
+pub data JoinedFault (libs : List design.Lib) (ports : List design.Port) (insts : List design.Inst) (t : Placed) (f : MeaningFault) : Type 0 where
+  joined_row : RowFault keywords.Joined t f → JoinedFault libs ports insts t f
+  joined_end : Among (EndFault libs ports insts) (parts keywords.Joined keywords.PortRef t) f → JoinedFault libs ports insts t f
 
 -- in a net: its row, its name, what it joins, its properties
-abbrev pub NetFault : List design.Lib → List design.Port → List design.Inst → Placed → MeaningFault → Type 0
-NetFault libs ports insts t f = RowFault keywords.Net t f ⊎ (InPart 0 NameFault t f ⊎ (InPart 1 (JoinedFault libs ports insts) t f ⊎ PropertiesFault (parts keywords.Net keywords.Property t) f))
+pub data NetFault (libs : List design.Lib) (ports : List design.Port) (insts : List design.Inst) (t : Placed) (f : MeaningFault) : Type 0 where
+  net_row : RowFault keywords.Net t f → NetFault libs ports insts t f
+  net_name : InPart 0 NameFault t f → NetFault libs ports insts t f
+  net_joined : InForm 1 keywords.Joined (JoinedFault libs ports insts) t f → NetFault libs ports insts t f
+  net_properties : PropertiesFault (parts keywords.Net keywords.Property t) f → NetFault libs ports insts t f
 
 -- in a member, the shape alone
 abbrev pub MemberShapeFault : Placed → MeaningFault → Type 0
 MemberShapeFault t f = IsTrue (has_keyword keywords.Member (bare t)) × RowFault keywords.Member t f
 
 -- in an end, the shape alone: its row, that of its instance, that of its member
-abbrev pub EndShapeFault : Placed → MeaningFault → Type 0
-EndShapeFault t f = RowFault keywords.PortRef t f ⊎ (Among (RowFault keywords.InstanceRef) (parts keywords.PortRef keywords.InstanceRef t) f ⊎ InPart 0 MemberShapeFault t f)
+pub data EndShapeFault (t : Placed) (f : MeaningFault) : Type 0 where
+  end_shape_row : RowFault keywords.PortRef t f → EndShapeFault t f
+  end_shape_inst : Among (RowFault keywords.InstanceRef) (parts keywords.PortRef keywords.InstanceRef t) f → EndShapeFault t f
+  end_shape_member : InPart 0 MemberShapeFault t f → EndShapeFault t f
 
 -- in what a net joins, the shape alone: its row, that of each end
-abbrev pub JoinedShapeFault : Placed → MeaningFault → Type 0
-JoinedShapeFault t f = RowFault keywords.Joined t f ⊎ Among EndShapeFault (parts keywords.Joined keywords.PortRef t) f
+pub data JoinedShapeFault (t : Placed) (f : MeaningFault) : Type 0 where
+  joined_shape_row : RowFault keywords.Joined t f → JoinedShapeFault t f
+  joined_shape_end : Among EndShapeFault (parts keywords.Joined keywords.PortRef t) f → JoinedShapeFault t f
 
 -- in a net, whatever its ends mean: its row, its name, the shape of what it joins, its properties
-abbrev pub NetShapeFault : Placed → MeaningFault → Type 0
-NetShapeFault t f = RowFault keywords.Net t f ⊎ (InPart 0 NameFault t f ⊎ (InPart 1 JoinedShapeFault t f ⊎ PropertiesFault (parts keywords.Net keywords.Property t) f))
+pub data NetShapeFault (t : Placed) (f : MeaningFault) : Type 0 where
+  net_shape_row : RowFault keywords.Net t f → NetShapeFault t f
+  net_shape_name : InPart 0 NameFault t f → NetShapeFault t f
+  net_shape_joined : InForm 1 keywords.Joined JoinedShapeFault t f → NetShapeFault t f
+  net_shape_properties : PropertiesFault (parts keywords.Net keywords.Property t) f → NetShapeFault t f
 
--- the ends of what a net joins
+-- the ends of what a net joins, none where it is no form of that keyword
 abbrev pub ends_joined : Option Placed → List Placed
 ends_joined None = []
-ends_joined (Some u) = parts keywords.Joined keywords.PortRef u
+ends_joined (Some u) = if has_keyword keywords.Joined (bare u) then parts keywords.Joined keywords.PortRef u else []
 
 -- the ends of a net
 abbrev pub ends_in : Placed → List Placed
@@ -184,50 +238,72 @@ abbrev pub SameEnd : List design.Lib → List design.Port → List design.Inst �
 SameEnd libs ports insts f a b = (e : design.End) × MeansEnd libs ports insts (bare a) e × MeansEnd libs ports insts (bare b) e × (f ≡ Clash EndTwice (place_of b) (place_of a))
 
 -- where the instances are meant: in a net, or an end that is joined twice
-abbrev pub NetsFault : List design.Lib → Option ℕ → List design.Port → Placed → MeaningFault → Type 0
-NetsFault libs own ports t f = (insts : List design.Inst) × Each (MeansInst libs own) (map bare (insts_in t)) insts
-    × (Among (NetFault libs ports insts) (nets_in t) f ⊎ AtTwo (SameEnd libs ports insts f) (flat_map ends_in (nets_in t)))
+pub data NetsFault (libs : List design.Lib) (own : Option ℕ) (ports : List design.Port) (t : Placed) (f : MeaningFault) : Type 0 where
+  one_net : (insts : List design.Inst) → Each (MeansInst libs own) (map bare (insts_in t)) insts → Among (NetFault libs ports insts) (nets_in t) f → NetsFault libs own ports t f
+  end_again : (insts : List design.Inst) → Each (MeansInst libs own) (map bare (insts_in t)) insts → AtTwo (SameEnd libs ports insts f) (flat_map ends_in (nets_in t)) → NetsFault libs own ports t f
 
 -- In contents: its row; its instances; the shape of its nets; its nets and their ends, where the instances are meant; a name of
 -- an instance or of a net that repeats; more instances, nets or ends than allowed.
-abbrev pub ContentsFault : List design.Lib → Option ℕ → List design.Port → Placed → MeaningFault → Type 0
-ContentsFault libs own ports t f = RowFault keywords.Contents t f ⊎ (Among (InstFault libs own) (insts_in t) f ⊎ ((Among NetShapeFault (nets_in t) f ⊎ NetsFault libs own ports t f)
-    ⊎ (Repeats (insts_in t) f ⊎ (Repeats (nets_in t) f ⊎ (Beyond 1048576 (insts_in t) f ⊎ (Beyond 1048576 (nets_in t) f ⊎ Beyond 4194304 (flat_map ends_in (nets_in t)) f))))))
+pub data ContentsFault (libs : List design.Lib) (own : Option ℕ) (ports : List design.Port) (t : Placed) (f : MeaningFault) : Type 0 where
+  contents_row : RowFault keywords.Contents t f → ContentsFault libs own ports t f
+  contents_inst : Among (InstFault libs own) (insts_in t) f → ContentsFault libs own ports t f
+  contents_net_shape : Among NetShapeFault (nets_in t) f → ContentsFault libs own ports t f
+  contents_nets : NetsFault libs own ports t f → ContentsFault libs own ports t f
+  inst_again : Repeats (insts_in t) f → ContentsFault libs own ports t f
+  net_again : Repeats (nets_in t) f → ContentsFault libs own ports t f
+  many_insts : Beyond MOST_INSTS (insts_in t) f → ContentsFault libs own ports t f
+  many_nets : Beyond MOST_NETS (nets_in t) f → ContentsFault libs own ports t f
+  many_ends : Beyond MOST_ENDS (flat_map ends_in (nets_in t)) f → ContentsFault libs own ports t f
 
 -- the word of the one type of view, ignoring case
 abbrev pub is_netlist : List ℕ → Bool
 is_netlist w = same w (codes "NETLIST")
 
 -- in the type of a view: its row, or another word
-abbrev pub TypeFault : Placed → MeaningFault → Type 0
-TypeFault t f = RowFault keywords.ViewType t f ⊎ InPart 0 (WordFault is_netlist NotNetlist) t f
+pub data TypeFault (t : Placed) (f : MeaningFault) : Type 0 where
+  view_type_row : RowFault keywords.ViewType t f → TypeFault t f
+  other_view_type : InPart 0 (WordFault is_netlist NotNetlist) t f → TypeFault t f
 
 -- in the contents of a view whose interface means these ports
-abbrev pub InContents : List design.Lib → Option ℕ → Placed → MeaningFault → Type 0
-InContents libs own t f = (u : Placed) × (ports : List design.Port) × (slice_get (arguments t) 2 ≡ Some u) × Each MeansPort (map bare (ports_in u)) ports
-    × Among (ContentsFault libs own ports) (parts keywords.View keywords.Contents t) f
+pub record InContents (libs : List design.Lib) (own : Option ℕ) (t : Placed) (f : MeaningFault) : Type 0 where
+  pub interface : Placed
+  pub ports : List design.Port
+  pub there : slice_get (arguments t) 2 ≡ Some interface
+  pub is_interface : IsTrue (has_keyword keywords.Interface (bare interface))
+  pub means : Each MeansPort (map bare (ports_in interface)) ports
+  pub fault : Among (ContentsFault libs own ports) (parts keywords.View keywords.Contents t) f
 
 -- in a view: its row, its name, its type, its interface, its contents, its properties
-abbrev pub ViewFault : List design.Lib → Option ℕ → Placed → MeaningFault → Type 0
-ViewFault libs own t f = RowFault keywords.View t f ⊎ (InPart 0 NameFault t f ⊎ (InPart 1 TypeFault t f ⊎ (InPart 2 InterfaceFault t f
-    ⊎ (InContents libs own t f ⊎ PropertiesFault (parts keywords.View keywords.Property t) f))))
+pub data ViewFault (libs : List design.Lib) (own : Option ℕ) (t : Placed) (f : MeaningFault) : Type 0 where
+  view_row : RowFault keywords.View t f → ViewFault libs own t f
+  view_name : InPart 0 NameFault t f → ViewFault libs own t f
+  view_type : InForm 1 keywords.ViewType TypeFault t f → ViewFault libs own t f
+  view_interface : InForm 2 keywords.Interface InterfaceFault t f → ViewFault libs own t f
+  view_contents : InContents libs own t f → ViewFault libs own t f
+  view_properties : PropertiesFault (parts keywords.View keywords.Property t) f → ViewFault libs own t f
 
 -- the word of a kind of cell, ignoring case
 abbrev pub is_cell_type : List ℕ → Bool
 is_cell_type w = same w (codes "GENERIC") || (same w (codes "TIE") || same w (codes "RIPPER"))
 
 -- in the type of a cell: its row, or another word
-abbrev pub CellTypeFault : Placed → MeaningFault → Type 0
-CellTypeFault t f = RowFault keywords.CellType t f ⊎ InPart 0 (WordFault is_cell_type BadForm) t f
+pub data CellTypeFault (t : Placed) (f : MeaningFault) : Type 0 where
+  cell_type_row : RowFault keywords.CellType t f → CellTypeFault t f
+  other_cell_type : InPart 0 (WordFault is_cell_type BadForm) t f → CellTypeFault t f
 
 -- in a cell: its row, its name, its type, its view, no view at all, its properties
-abbrev pub CellFault : List design.Lib → Option ℕ → Placed → MeaningFault → Type 0
-CellFault libs own t f = RowFault keywords.Cell t f ⊎ (InPart 0 NameFault t f ⊎ (InPart 1 CellTypeFault t f ⊎ (Among (ViewFault libs own) (parts keywords.Cell keywords.View t) f
-    ⊎ (((parts keywords.Cell keywords.View t ≡ []) × (f ≡ At BadForm (place_of t))) ⊎ PropertiesFault (parts keywords.Cell keywords.Property t) f))))
+pub data CellFault (libs : List design.Lib) (own : Option ℕ) (t : Placed) (f : MeaningFault) : Type 0 where
+  cell_row : RowFault keywords.Cell t f → CellFault libs own t f
+  cell_name : InPart 0 NameFault t f → CellFault libs own t f
+  cell_type : InForm 1 keywords.CellType CellTypeFault t f → CellFault libs own t f
+  cell_view : Among (ViewFault libs own) (parts keywords.Cell keywords.View t) f → CellFault libs own t f
+  without_view : parts keywords.Cell keywords.View t ≡ [] → f ≡ At BadForm (place_of t) → CellFault libs own t f
+  cell_properties : PropertiesFault (parts keywords.Cell keywords.Property t) f → CellFault libs own t f
 
 -- in a level: its row, or another number than 0
-abbrev pub LevelFault : Keyword → Placed → MeaningFault → Type 0
-LevelFault k t f = RowFault k t f ⊎ InPart 0 (ValueFault (pos 0) BadLevel) t f
+pub data LevelFault (k : Keyword) (t : Placed) (f : MeaningFault) : Type 0 where
+  level_row : RowFault k t f → LevelFault k t f
+  other_level : InPart 0 (ValueFault (pos 0) BadLevel) t f → LevelFault k t f
 
 -- in the first of these that is faulty, where the values before it are meant
 abbrev pub AmongAfter : {A : Type 0} → (List A → Bare → A → Type 0) → (List A → Placed → MeaningFault → Type 0) → List A → List Placed → MeaningFault → Type 0
@@ -239,15 +315,23 @@ abbrev pub cells_in : Placed → List Placed
 cells_in t = parts keywords.Library keywords.Cell t
 
 -- in a cell of a library, where the library's name and the cells before it are meant
-abbrev pub CellsFault : List design.Lib → Placed → MeaningFault → Type 0
-CellsFault before t f = (u : Placed) × (head : design.LibHead) × (slice_get (arguments t) 0 ≡ Some u) × MeansName (bare u) head.name × (head.external ≡ has_keyword keywords.External (bare t))
-    × AmongAfter (λ cells. MeansCell (before ++ record { head = head; cells = cells } ∷ []) (Some (length before))) (λ cells. CellFault (before ++ record { head = head; cells = cells } ∷ []) (Some (length before))) [] (cells_in t) f
+pub record CellsFault (before : List design.Lib) (t : Placed) (f : MeaningFault) : Type 0 where
+  pub name_part : Placed
+  pub head : design.LibHead
+  pub there : slice_get (arguments t) 0 ≡ Some name_part
+  pub name : MeansName (bare name_part) head.name
+  pub external : head.external ≡ has_keyword keywords.External (bare t)
+  pub fault : AmongAfter (λ cells. MeansCell (before ++ record { head = head; cells = cells } ∷ []) (Some (length before))) (λ cells. CellFault (before ++ record { head = head; cells = cells } ∷ []) (Some (length before))) [] (cells_in t) f
 
 -- in a library: its row, its name, its level, its cells, a cell's name that repeats, more cells than allowed
-abbrev pub LibraryFault : List design.Lib → Placed → MeaningFault → Type 0
-LibraryFault before t f = (IsTrue (has_keyword keywords.Library (bare t)) × RowFault keywords.Library t f)
-    ⊎ ((IsTrue (has_keyword keywords.External (bare t)) × RowFault keywords.External t f)
-    ⊎ (InPart 0 NameFault t f ⊎ (InPart 1 (LevelFault keywords.EdifLevel) t f ⊎ (CellsFault before t f ⊎ (Repeats (cells_in t) f ⊎ Beyond 65536 (cells_in t) f)))))
+pub data LibraryFault (before : List design.Lib) (t : Placed) (f : MeaningFault) : Type 0 where
+  library_row : IsTrue (has_keyword keywords.Library (bare t)) → RowFault keywords.Library t f → LibraryFault before t f
+  external_row : IsTrue (has_keyword keywords.External (bare t)) → RowFault keywords.External t f → LibraryFault before t f
+  library_name : InPart 0 NameFault t f → LibraryFault before t f
+  library_level : InForm 1 keywords.EdifLevel (LevelFault keywords.EdifLevel) t f → LibraryFault before t f
+  library_cells : CellsFault before t f → LibraryFault before t f
+  cell_again : Repeats (cells_in t) f → LibraryFault before t f
+  many_cells : Beyond MOST_CELLS (cells_in t) f → LibraryFault before t f
 
 -- inside a note every breach of its shape is a bad form
 abbrev pub bad_form : Placed → MeaningFault
@@ -257,51 +341,101 @@ bad_form u = At BadForm (place_of u)
 abbrev pub note_parts : List (List Choice)
 note_parts = identifier ∷ the keywords.Path ∷ the keywords.Property ∷ []
 
--- a step of a path that is no identifier, or that means no instance or several of the cell that the steps before it reach
+-- a step that means an instance of a cell
+pub record StepsTo (libs : List design.Lib) (id : design.CellId) (t : Placed) (x : design.Inst) : Type 0 where
+  pub spelled : List ℕ
+  pub place : ℕ
+  pub at : ℕ
+  pub is : t ≡ Word' place spelled
+  pub means : meant (design.inst_ids (design.insts_at libs id)) spelled ≡ Found at
+  pub there : slice_get (design.insts_at libs id) at ≡ Some x
+
+-- a step that means no instance of a cell, or several
+pub record LosesStep (libs : List design.Lib) (id : design.CellId) (t : Placed) (f : MeaningFault) : Type 0 where
+  pub spelled : List ℕ
+  pub place : ℕ
+  pub is : t ≡ Word' place spelled
+  pub lost : (i : ℕ) → meant (design.inst_ids (design.insts_at libs id)) spelled ≡ Found i → ⊥
+  pub fault : f ≡ At BadPath place
+
+-- at a step from a cell: it is no identifier, it means no instance or several, or the fault is at a later step, from the cell of
+-- the instance that it means
+pub data StepFault (libs : List design.Lib) (id : design.CellId) (later : design.CellId → Type 0) (t : Placed) (f : MeaningFault) : Type 0 where
+  no_step : ((w : List ℕ) → bare t ≡ word w → ⊥) → f ≡ At BadForm (place_of t) → StepFault libs id later t f
+  lost_step : LosesStep libs id t f → StepFault libs id later t f
+  later_step : (x : design.Inst) → StepsTo libs id t x → later x.of → StepFault libs id later t f
+
+-- in the steps of a path, from a cell on
 abbrev pub StepsFault : List design.Lib → design.CellId → List Placed → MeaningFault → Type 0
 StepsFault libs id [] f = ⊥
-StepsFault libs id (t ∷ ts) f = (((w : List ℕ) → bare t ≡ word w → ⊥) × (f ≡ At BadForm (place_of t)))
-    ⊎ (((w : List ℕ) × (p : ℕ) × (t ≡ Word' p w) × ((i : ℕ) → meant (design.inst_ids (design.insts_at libs id)) w ≡ Found i → ⊥) × (f ≡ At BadPath p))
-    ⊎ ((w : List ℕ) × (p : ℕ) × (i : ℕ) × (x : design.Inst) × (t ≡ Word' p w) × (meant (design.inst_ids (design.insts_at libs id)) w ≡ Found i)
-    × (slice_get (design.insts_at libs id) i ≡ Some x) × StepsFault libs x.of ts f))
+StepsFault libs id (t ∷ ts) f = StepFault libs id (λ i. StepsFault libs i ts f) t f
 
 -- in a path: no step, or a bad one
-abbrev pub PathFault : List design.Lib → design.CellId → Placed → MeaningFault → Type 0
-PathFault libs top t f = ((arguments t ≡ []) × (f ≡ At BadPath (place_of t))) ⊎ StepsFault libs top (arguments t) f
+pub data PathFault (libs : List design.Lib) (top : design.CellId) (t : Placed) (f : MeaningFault) : Type 0 where
+  no_steps : arguments t ≡ [] → f ≡ At BadPath (place_of t) → PathFault libs top t f
+  bad_step : StepsFault libs top (arguments t) f → PathFault libs top t f
 
 -- in a note: its shape, its path, its property
-abbrev pub NoteFault : List design.Lib → design.CellId → Placed → MeaningFault → Type 0
-NoteFault libs top t f = FixedFault bad_form (place_of t) note_parts (arguments t) f ⊎ (FollowerFault bad_form [] (drop 3 (arguments t)) f
-    ⊎ (((u : Placed) × (slice_get (arguments t) 1 ≡ Some u) × IsTrue (has_keyword keywords.Path (bare u)) × PathFault libs top u f)
-    ⊎ ((u : Placed) × (slice_get (arguments t) 2 ≡ Some u) × IsTrue (has_keyword keywords.Property (bare u)) × PropertyFault u f)))
+pub data NoteFault (libs : List design.Lib) (top : design.CellId) (t : Placed) (f : MeaningFault) : Type 0 where
+  note_part : FixedFault bad_form (place_of t) note_parts (arguments t) f → NoteFault libs top t f
+  note_surplus : FollowerFault bad_form [] (drop 3 (arguments t)) f → NoteFault libs top t f
+  note_path : InForm 1 keywords.Path (PathFault libs top) t f → NoteFault libs top t f
+  note_property : InForm 2 keywords.Property PropertyFault t f → NoteFault libs top t f
+
+-- a note with a path of these instances and a property of this key, which stands at a place
+pub record Notes (libs : List design.Lib) (top : design.CellId) (t : Placed) (steps : List (List ℕ)) (key : List ℕ) (place : ℕ) : Type 0 where
+  pub path : Placed
+  pub path_there : slice_get (arguments t) 1 ≡ Some path
+  pub is_path : IsTrue (has_keyword keywords.Path (bare path))
+  pub means : MeansPath libs top (map bare (arguments path)) steps
+  pub property : Placed
+  pub property_there : slice_get (arguments t) 2 ≡ Some property
+  pub is_property : IsTrue (has_keyword keywords.Property (bare property))
+  pub key_there : defined property ≡ Some (key, place)
 
 -- two notes of one path and key, at the identifiers of their keys
-abbrev pub SameNote : List design.Lib → design.CellId → MeaningFault → Placed → Placed → Type 0
-SameNote libs top f a b = (path : List (List ℕ)) × (x : Placed) × (y : Placed) × (u : Placed) × (v : Placed) × (key : List ℕ) × (p : ℕ) × (q : ℕ)
-    × (slice_get (arguments a) 1 ≡ Some x) × MeansPath libs top (map bare (arguments x)) path × (slice_get (arguments b) 1 ≡ Some y) × MeansPath libs top (map bare (arguments y)) path
-    × (slice_get (arguments a) 2 ≡ Some u) × (defined u ≡ Some (key, p)) × (slice_get (arguments b) 2 ≡ Some v) × (defined v ≡ Some (key, q)) × (f ≡ Clash Duplicate q p)
+pub record SameNote (libs : List design.Lib) (top : design.CellId) (f : MeaningFault) (a b : Placed) : Type 0 where
+  pub steps : List (List ℕ)
+  pub key : List ℕ
+  pub earlier : ℕ
+  pub place : ℕ
+  pub first : Notes libs top a steps key earlier
+  pub second : Notes libs top b steps key place
+  pub fault : f ≡ Clash Duplicate place earlier
+
+-- the cell that a design names is meant
+abbrev pub MeansTop : List design.Lib → Placed → design.CellId → Type 0
+MeansTop libs t top = (u : Placed) × (slice_get (arguments t) 1 ≡ Some u) × MeansCellRef libs None (bare u) top
 
 -- the notes of a design
 abbrev pub notes_in : Placed → List Placed
 notes_in t = filter (λ u. is_note (bare u)) (followers keywords.Design t)
 
 -- where the top cell is meant: in a note, or two notes of one path and key
-abbrev pub NotesFault : List design.Lib → Placed → MeaningFault → Type 0
-NotesFault libs t f = (u : Placed) × (top : design.CellId) × (slice_get (arguments t) 1 ≡ Some u) × MeansCellRef libs None (bare u) top
-    × (Among (NoteFault libs top) (notes_in t) f ⊎ AtTwo (SameNote libs top f) (notes_in t))
+pub data NotesFault (libs : List design.Lib) (t : Placed) (f : MeaningFault) : Type 0 where
+  one_note : (top : design.CellId) → MeansTop libs t top → Among (NoteFault libs top) (notes_in t) f → NotesFault libs t f
+  note_again : (top : design.CellId) → MeansTop libs t top → AtTwo (SameNote libs top f) (notes_in t) → NotesFault libs t f
 
 -- in a design: its row, its name, its cell, its properties, its notes, more notes than allowed
-abbrev pub DesignFault : List design.Lib → Placed → MeaningFault → Type 0
-DesignFault libs t f = RowFault keywords.Design t f ⊎ (InPart 0 NameFault t f ⊎ (InPart 1 (CellRefFault libs None) t f ⊎ (PropertiesFault (parts keywords.Design keywords.Property t) f
-    ⊎ (NotesFault libs t f ⊎ Beyond 1048576 (notes_in t) f))))
+pub data DesignFault (libs : List design.Lib) (t : Placed) (f : MeaningFault) : Type 0 where
+  design_row : RowFault keywords.Design t f → DesignFault libs t f
+  design_name : InPart 0 NameFault t f → DesignFault libs t f
+  design_cell : InForm 1 keywords.CellRef (CellRefFault libs None) t f → DesignFault libs t f
+  design_properties : PropertiesFault (parts keywords.Design keywords.Property t) f → DesignFault libs t f
+  design_notes : NotesFault libs t f → DesignFault libs t f
+  many_notes : Beyond MOST_NOTES (notes_in t) f → DesignFault libs t f
 
 -- in the version: its row, or other numbers than 2 0 0
-abbrev pub VersionFault : Placed → MeaningFault → Type 0
-VersionFault t f = RowFault keywords.EdifVersion t f ⊎ (InPart 0 (ValueFault (pos 2) BadVersion) t f ⊎ (InPart 1 (ValueFault (pos 0) BadVersion) t f ⊎ InPart 2 (ValueFault (pos 0) BadVersion) t f))
+pub data VersionFault (t : Placed) (f : MeaningFault) : Type 0 where
+  version_row : RowFault keywords.EdifVersion t f → VersionFault t f
+  first_number : InPart 0 (ValueFault (pos 2) BadVersion) t f → VersionFault t f
+  second_number : InPart 1 (ValueFault (pos 0) BadVersion) t f → VersionFault t f
+  third_number : InPart 2 (ValueFault (pos 0) BadVersion) t f → VersionFault t f
 
 -- in the keyword map: its row, its level
-abbrev pub MapFault : Placed → MeaningFault → Type 0
-MapFault t f = RowFault keywords.KeywordMap t f ⊎ InPart 0 (LevelFault keywords.KeywordLevel) t f
+pub data MapFault (t : Placed) (f : MeaningFault) : Type 0 where
+  map_row : RowFault keywords.KeywordMap t f → MapFault t f
+  map_level : InForm 0 keywords.KeywordLevel (LevelFault keywords.KeywordLevel) t f → MapFault t f
 
 -- what stands before the design
 abbrev pub before_the_design : List Placed → List Placed
@@ -312,22 +446,32 @@ before_the_design (t ∷ ts) = if has_keyword keywords.Design (bare t) then [] e
 abbrev pub libraries : List Placed → List Placed
 libraries ts = filter (λ u. is_library (bare u)) ts
 
--- in the design, where the libraries before it are meant
-abbrev pub InDesign : Placed → MeaningFault → Type 0
-InDesign t f = (libs : List design.Lib) × EachAfter MeansLibrary [] (map bare (libraries (before_the_design (followers keywords.Edif t)))) libs
-    × Among (DesignFault libs) (parts keywords.Edif keywords.Design t) f
+-- in the first design, where the libraries before it are meant
+pub record InDesign (t : Placed) (f : MeaningFault) : Type 0 where
+  pub libs : List design.Lib
+  pub means : EachAfter MeansLibrary [] (map bare (libraries (before_the_design (followers keywords.Edif t)))) libs
+  pub first : Placed
+  pub there : slice_get (parts keywords.Edif keywords.Design t) 0 ≡ Some first
+  pub fault : DesignFault libs first f
 
--- in the form of a file: its row, its name, its version, its levels, its libraries, a library's name that repeats, more libraries
--- than allowed, its design
-abbrev pub FileFault : Placed → MeaningFault → Type 0
-FileFault t f = RowFault keywords.Edif t f ⊎ (InPart 0 NameFault t f ⊎ (InPart 1 VersionFault t f ⊎ (InPart 2 (LevelFault keywords.EdifLevel) t f ⊎ (InPart 3 MapFault t f
-    ⊎ (AmongAfter MeansLibrary LibraryFault [] (libraries (followers keywords.Edif t)) f ⊎ (Repeats (libraries (followers keywords.Edif t)) f
-    ⊎ (Beyond 1024 (libraries (followers keywords.Edif t)) f ⊎ InDesign t f)))))))
+-- In the form of a file: its row, its name, its version, its levels, its libraries, a library's name that repeats, more libraries
+-- than allowed, its design.
+pub data FileFault (t : Placed) (f : MeaningFault) : Type 0 where
+  edif_row : RowFault keywords.Edif t f → FileFault t f
+  edif_name : InPart 0 NameFault t f → FileFault t f
+  edif_version : InForm 1 keywords.EdifVersion VersionFault t f → FileFault t f
+  edif_level : InForm 2 keywords.EdifLevel (LevelFault keywords.EdifLevel) t f → FileFault t f
+  edif_map : InForm 3 keywords.KeywordMap MapFault t f → FileFault t f
+  edif_library : AmongAfter MeansLibrary LibraryFault [] (libraries (followers keywords.Edif t)) f → FileFault t f
+  library_again : Repeats (libraries (followers keywords.Edif t)) f → FileFault t f
+  many_libraries : Beyond MOST_LIBS (libraries (followers keywords.Edif t)) f → FileFault t f
+  edif_design : InDesign t f → FileFault t f
 
 -- a file is one form of the keyword `edif`
 abbrev pub file_row : Row
 file_row = Takes (the keywords.Edif ∷ []) []
 
 -- the fault stands in the tree: it is no form of a file, or the fault is in it
-abbrev pub Stands : Placed → MeaningFault → Type 0
-Stands t f = ((has_keyword keywords.Edif (bare t) ≡ false) × (f ≡ misplaced BadForm file_row t)) ⊎ FileFault t f
+pub data Stands (t : Placed) (f : MeaningFault) : Type 0 where
+  no_file : has_keyword keywords.Edif (bare t) ≡ false → f ≡ misplaced BadForm file_row t → Stands t f
+  in_file : IsTrue (has_keyword keywords.Edif (bare t)) → FileFault t f → Stands t f

@@ -7,7 +7,6 @@ ghost use Rattle.edif_spec.specs.Arranged.{arranged, canonical_text};
 ghost use Rattle.edif_spec.specs.Canonical.{tree_of};
 ghost use Rattle.edif_spec.specs.Design.{Design};
 ghost use Rattle.edif_spec.specs.Means.{MeansFile};
-ghost use Rattle.edif_spec.specs.Plain.{IsPlainDesign};
 
 /// The read-back law: the canonical text of a valid design spells a tree, which means the arranged design; and each tree
 /// that it spells means that design and no other.
@@ -20,11 +19,4 @@ pub fn text_reads_back()
 /// A design that a tree means is arranged already.
 pub fn meant_is_arranged()
     ensures { (t : Bare) (d : Design) → MeansFile t d → arranged d ≡ d }
-{}
-
-/// The canonical text of a valid plain design spells a tree that means the design itself, and no tree that it spells means
-/// another.
-pub fn plain_text_reads_back()
-    ensures reads_back { (d : Design) → IsPlainDesign d → IsValid d → Spells (canonical_text d) (tree_of d) × MeansFile (tree_of d) d }
-    ensures only { (d e : Design) (t : Bare) → IsPlainDesign d → IsValid d → Spells (canonical_text d) t → MeansFile t e → e ≡ d }
 {}

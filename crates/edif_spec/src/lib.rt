@@ -11,15 +11,11 @@ pub mod text_laws;
 
 pub use fault::{ClashKind, Kind, MeaningFault};
 pub use fault_examples::{faults_of_large_files, faults_of_small_files};
-pub use fault_laws::{fault_or_meaning, spelled_tree_is_writable};
+pub use fault_laws::{fault_is_there, fault_or_meaning, spelled_tree_is_writable};
 pub use keyword::Keyword;
-pub use laws::{meant_is_arranged, plain_text_reads_back, text_reads_back};
-pub use meaning_laws::{
-    meant_is_in_order, one_meaning, plain_design_has_plain_tree, plain_tree_means,
-    tree_means_its_design,
-};
+pub use laws::{meant_is_arranged, text_reads_back};
+pub use meaning_laws::{meant_is_in_order, one_meaning, tree_means_its_design};
 pub use text_laws::{
     arranged_in_order, arranged_is_valid, arranged_twice, canonical_text_spells,
-    in_order_is_arranged, layout_reads_back, order_is_whole, plain_design_is_arranged,
-    plain_text_spells,
+    in_order_is_arranged, layout_reads_back,
 };

@@ -6,17 +6,6 @@ ghost use Rattle.edif_spec.specs.Canonical.{tree_of};
 ghost use Rattle.edif_spec.specs.Defined.{DefinedBefore};
 ghost use Rattle.edif_spec.specs.Design.{Design};
 ghost use Rattle.edif_spec.specs.Means.{MeansFile};
-ghost use Rattle.edif_spec.specs.Plain.{IsPlainDesign, IsPlainTree};
-
-/// A plain tree of a valid design means the design.
-pub fn plain_tree_means()
-    ensures { (t : Bare) (d : Design) → IsPlainTree t d → IsValid d → MeansFile t d }
-{}
-
-/// The tree of a plain design's text is a plain tree of the design.
-pub fn plain_design_has_plain_tree()
-    ensures { (d : Design) → IsPlainDesign d → IsPlainTree (tree_of d) d }
-{}
 
 /// A tree means one design at most.
 pub fn one_meaning()

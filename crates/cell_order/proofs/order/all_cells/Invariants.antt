@@ -1,5 +1,5 @@
 use Rattle.std.proofs.Common.{◌≡◌}
-use Rattle.cell_order.specs.Desk.{first_cells}
+use Rattle.cell_order.specs.ReadyQueue.{first_cells}
 use Rattle.cell_order.proofs.order.all_cells.Given as goal
 
 abbrev pub invariant-loop-slot : goal.invariant-loop-slot

@@ -5,11 +5,11 @@ use Rattle.std.specs.BTreeSet.{contains}
 use Rattle.std.specs.Ordering.{nat_cmp}
 use Rattle.netlist_schema.specs.Design.{cells_in}
 use Rattle.netlist_schema.specs.Types.{CellBody}
-use Rattle.edif_spec.specs.Arranged.{order_from}
-use Rattle.edif_spec.proofs.CellPlaces.{get_below}
-use Rattle.cell_order.specs.Desk.{Fits, IsDesk, IsSized, flag, has, waits, first_cells}
-use Rattle.cell_order.specs.declared.desk.Desk.{Desk}
-use Rattle.cell_order.specs.declared.desk.Waiting.{Waiting}
+use Rattle.order_spec.specs.Order.{order_from}
+use Rattle.order_spec.proofs.Places.{get_below}
+use Rattle.cell_order.specs.ReadyQueue.{Fits, IsReadyQueue, IsSized, flag, has, waits, first_cells}
+use Rattle.cell_order.specs.declared.ready_queue.ReadyQueue.{ReadyQueue}
+use Rattle.cell_order.specs.declared.ready_queue.Waiting.{Waiting}
 use Rattle.cell_order.proofs.Search.{nothing_next, this_next, goes_on, ends_here}
 use Rattle.cell_order.proofs.Steps.{taken, started}
 use Rattle.cell_order.proofs.order.cell_order.Goals as goal
@@ -19,16 +19,16 @@ pub loop-init : goal.loop-init
 loop-init g c =
     let cells = cells_in (g.S.Shown.design c.args.design.now) c.args.lib in
     let own = c.args.lib.0 in
-    let start = started own cells (flag c.in_ok-desk.desk) (has c.in_ok-desk.desk) (waits c.in_ok-desk.desk) c.in_ok-desk.ensures.flags c.in_ok-desk.ensures.ready c.in_ok-desk.ensures.waiting in
-    let given = subst (λ (ws : List Waiting). IsDesk own cells [] ws c.in_ok-desk.desk) (ap first_cells (sym c.cell_count-count.ensures.value) ∙ (sym c.in_ok-all.ensures ∙ sym c.as_slice.ensures.value)) start in
+    let start = started own cells (flag c.in_ok-queue.queue) (has c.in_ok-queue.queue) (waits c.in_ok-queue.queue) c.in_ok-queue.ensures.flags c.in_ok-queue.ensures.ready c.in_ok-queue.ensures.waiting in
+    let given = subst (λ (ws : List Waiting). IsReadyQueue own cells [] ws c.in_ok-queue.queue) (ap first_cells (sym c.cell_count-count.ensures.value) ∙ (sym c.in_ok-all.ensures ∙ sym c.as_slice.ensures.value)) start in
     let placed = c.in_ok-settle.ensures.placed [] given in
     let n : length cells - 0 ≡ length cells = omega arith in (
       c.in_ok-settle.ensures.sized,
-      subst (λ (o : List ℕ). IsDesk own cells o [] c.settle.new.self) (sym c.new-order.ensures.items) placed,
+      subst (λ (o : List ℕ). IsReadyQueue own cells o [] c.settle.new.self) (sym c.new-order.ensures.items) placed,
       ap (λ (o : List ℕ). o ++ order_from own cells (length cells - 0) o) c.new-order.ensures.items ∙ ap (λ k. order_from own cells k []) n,
     )
 
-sized_after : (n : ℕ) (d e : Desk) → e.written ≡ d.written → e.waiting ≡ d.waiting → IsSized n d → IsSized n e
+sized_after : (n : ℕ) (d e : ReadyQueue) → e.written ≡ d.written → e.waiting ≡ d.waiting → IsSized n d → IsSized n e
 sized_after n d e f g h = record { written = ap (λ v. length v.items) f ∙ h.written; waiting = ap (λ v. length v.items) g ∙ h.waiting }
 
 slot_there : (own : ℕ) (cells : List CellBody) (done : List ℕ) (flag has : ℕ → Bool) (waits : ℕ → List Waiting) (k : ℕ) → Fits own cells done [] flag has waits → has k ≡ true → k < length cells
@@ -37,7 +37,7 @@ slot_there own cells done flag has waits k h m = let n = h.sound k m in get_belo
 pub take-freed-requires : goal.take-freed-requires
 take-freed-requires g c =
     let cells = cells_in (g.S.Shown.design c.args.design.now) c.args.lib in
-    let d = c.loop.desk in
+    let d = c.loop.queue in
     record {
       sized = (
         length cells,
@@ -49,13 +49,13 @@ take-freed-requires g c =
 pub settle-requires-in-loop : goal.settle-requires-in-loop
 settle-requires-in-loop g c =
     let cells = cells_in (g.S.Shown.design c.args.design.now) c.args.lib in
-    c.take-freed.ensures.sized (length cells) (sized_after (length cells) c.loop.desk c.next.new.self c.next.ensures.written c.next.ensures.waiting c.loop.invariant.0)
+    c.take-freed.ensures.sized (length cells) (sized_after (length cells) c.loop.queue c.next.new.self c.next.ensures.written c.next.ensures.waiting c.loop.invariant.0)
 
 pub loop-preserved : goal.loop-preserved
 loop-preserved g c =
     let cells = cells_in (g.S.Shown.design c.args.design.now) c.args.lib in
     let own = c.args.lib.0 in
-    let d = c.loop.desk in
+    let d = c.loop.queue in
     let t = c.take-freed.new.self in
     let k = c.in-Some.slot in
     let order = c.loop.order.items in
@@ -66,7 +66,7 @@ loop-preserved g c =
     (λ s. c.take-freed.ensures.waiting s ∙ ap (λ v. cond (nat_eq s k) [] (option_map_or (λ cells. cells.items) (slice_get v.items s) [])) c.next.ensures.waiting) in
     let freed : waits d k ≡ c.as_slice-in-loop.result.now =
     ap (λ v. option_map_or (λ cells. cells.items) (slice_get v.items k) []) (sym c.next.ensures.waiting) ∙ (sym c.take-freed.ensures.taken ∙ sym c.as_slice-in-loop.ensures.value) in
-    let given = subst (λ (ws : List Waiting). IsDesk own cells (order ++ k ∷ []) ws t) freed fits in
+    let given = subst (λ (ws : List Waiting). IsReadyQueue own cells (order ++ k ∷ []) ws t) freed fits in
     let placed = c.in_ok-settle-2.ensures.placed (order ++ k ∷ []) given in
     let pushed : c.push.new.self.items ≡ order ++ k ∷ [] = c.in_ok-push.ensures.items in
     let count : c.cell_count-count.result ≡ length cells = c.cell_count-count.ensures.value in
@@ -74,7 +74,7 @@ loop-preserved g c =
     let n : suc m ≡ length cells - c.loop.counter = omega (arith, count, below) in
     let next = this_next own cells order (flag d) (has d) (waits d) k c.loop.invariant.1 c.in-Some.ensures.ready c.in-Some.ensures.first in (
       c.in_ok-settle-2.ensures.sized,
-      subst (λ (o : List ℕ). IsDesk own cells o [] c.settle-in-loop.new.self) (sym pushed) placed,
+      subst (λ (o : List ℕ). IsReadyQueue own cells o [] c.settle-in-loop.new.self) (sym pushed) placed,
       ap (λ (o : List ℕ). o ++ order_from own cells m o) pushed
           ∙ (append_assoc order (k ∷ []) (order_from own cells m (order ++ k ∷ []))
           ∙ (ap (λ (o : List ℕ). order ++ o) (sym (goes_on own cells order m k next))
@@ -85,7 +85,7 @@ pub returns : goal.returns
 returns g c =
     let cells = cells_in (g.S.Shown.design c.args.design.now) c.args.lib in
     let own = c.args.lib.0 in
-    let d = c.loop.desk in
+    let d = c.loop.queue in
     let order = c.loop.order.items in
     let left = length cells - c.loop.counter in
     let ended : order_from own cells left order ≡ [] = elim c.loop-test.branch [

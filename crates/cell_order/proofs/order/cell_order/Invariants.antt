@@ -1,10 +1,10 @@
 use Rattle.std.proofs.Common.{◌≡◌, ◌++◌, ◌-◌, [], length}
-use Rattle.cell_order.specs.Desk.{IsDesk, IsSized}
-use Rattle.edif_spec.specs.Arranged.{order_from, order_of}
+use Rattle.cell_order.specs.ReadyQueue.{IsReadyQueue, IsSized}
+use Rattle.order_spec.specs.Order.{order_from, order_of}
 use Rattle.netlist_schema.specs.Design.{cells_in}
 use Rattle.cell_order.proofs.order.cell_order.Given as goal
 
 abbrev pub invariant-loop : goal.invariant-loop
-invariant-loop g l = IsSized (length (cells_in (g.S.Shown.design l.design) l.lib)) l.desk
-    × IsDesk l.lib.0 (cells_in (g.S.Shown.design l.design) l.lib) l.order.items [] l.desk
+invariant-loop g l = IsSized (length (cells_in (g.S.Shown.design l.design) l.lib)) l.queue
+    × IsReadyQueue l.lib.0 (cells_in (g.S.Shown.design l.design) l.lib) l.order.items [] l.queue
     × (l.order.items ++ order_from l.lib.0 (cells_in (g.S.Shown.design l.design) l.lib) (length (cells_in (g.S.Shown.design l.design) l.lib) - l.counter) l.order.items ≡ order_of l.lib.0 (cells_in (g.S.Shown.design l.design) l.lib))

@@ -1,4 +1,4 @@
-use Rattle.std.proofs.Common.{◌≡◌, ℕ, suc, List, [], length, take, refl, sym, ap, ◌∙◌, subst, Option, None, Some, true, false, inr, arith}
+use Rattle.std.proofs.Common.{◌≡◌, List, [], length, take, refl, ap, ◌∙◌, subst, Option, Some, true, false, inr, arith}
 use Rattle.std.proofs.Math.Numerals.{add-one}
 use Rattle.spelling_spec.specs.Tree.{Placed, bare}
 use Rattle.edif_spec.specs.Faults.{those_of}
@@ -30,7 +30,7 @@ returns-in-Some c = λ ts st.
     let e = c.is_form_of.ensures s.tree s.at in
     let h : has_keyword View (bare s.tree) ≡ true = cc in
     let P : Option NodeId → Type 0 = λ v. OneNode c.args.tree.now.rows (those_of View (take c.loop-node.node-index ts)) v in
-    rw c.second_view.ensures (second_view ts c.loop-node.node-index s c.in-Some.first c.args.place c.place-place.result c.place.result (subst P c.in-Some.is (c.loop-node.invariant ts st)) h (c.place-place.ensures s.tree s.at) c.place.ensures)
+    rw c.clash.ensures (second_view ts c.loop-node.node-index s c.in-Some.first c.args.place c.place-place.result c.place.result (subst P c.in-Some.is (c.loop-node.invariant ts st)) h (c.place-place.ensures s.tree s.at) c.place.ensures)
 
 pub loop-node-preserved : goal.loop-node-preserved
 loop-node-preserved c = λ ts st.

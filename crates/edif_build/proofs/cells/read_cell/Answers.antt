@@ -1,20 +1,22 @@
-use Rattle.std.proofs.Common.{◌≡◌, ℕ, List, [], ◌∷◌, map, refl, sym, ap, ◌∙◌, subst, true, Option, Some, inl, inr, arith}
-use Rattle.std.specs.Prelude.{IsTrue, slice_get}
+use Rattle.edif_spec.proofs.KnownForms.{form_choice}
+use Rattle.std.proofs.Common.{◌≡◌, List, sym, ◌∙◌, subst, true, Some, arith}
+use Rattle.std.specs.Prelude.{IsTrue}
 use Rattle.spelling_spec.specs.Tree.{Placed, bare}
-use Rattle.edif_spec.specs.Design as design
-use Rattle.edif_spec.specs.Faults.{arguments, defined, followers, name_of, those_of}
+use Rattle.edif_spec.specs.Faults.{followers, those_of}
 use Rattle.edif_spec.specs.Keyword.{name_definition, the}
 use Rattle.edif_spec.specs.Rows.{has_keyword, is_one_of}
 use Rattle.edif_spec.specs.Stands.{CellFault, CellTypeFault, NameFault, PropertiesFault, ViewFault}
+use Rattle.edif_spec.specs.Stands as stands
 use Rattle.edif_spec.specs.declared.keyword.Keyword.TheVariants as keywords
-use Rattle.edif_tree.specs.Nodes.{Row, IsAt}
+use Rattle.edif_tree.specs.Nodes.{Row}
 use Rattle.edif_tree.specs.declared.node.NodeId.{NodeId}
 use Rattle.edif_tree.proofs.OneTree.{one_at}
 use Rattle.edif_build.specs.Cells.{OneNode, ReadCell, ViewsFault}
 use Rattle.edif_parts.specs.Parts.{ArePartsOf}
 use Rattle.edif_grammar.specs.declared.lent.Parts.{Parts}
 use Rattle.edif_parts.proofs.Answering.{hand_on}
-use Rattle.edif_build.proofs.CellLemmas.{cell_means, cell_nodes, defined_first, is_view, view_names, view_fails_there, views_fail}
+use Rattle.edif_contents.proofs.InstLemmas.{defined_first}
+use Rattle.edif_build.proofs.CellLemmas.{cell_means, cell_nodes, is_view, view_names, view_fails_there, views_fail}
 use Rattle.edif_contents.proofs.FixedNodes.{HasTwo}
 use Rattle.edif_contents.proofs.RefLemmas.{form_there}
 use Rattle.edif_build.proofs.cells.read_cell.Goals as goal
@@ -70,7 +72,7 @@ returns-in_err-name c = λ t a.
     let h = c.in_ok-parts.ensures t a in
     let n = nodes c.args.tree.now.rows t c.in_ok-parts.parts c.in_ok-found.found h (c.in_ok-found.ensures (followers keywords.Cell t) h.inner) in
     hand_on (ReadCell c.args.libs.now.libs (Some c.args.own) t) (NameFault n.fit.a) (CellFault c.args.libs.now.libs (Some c.args.own) t) c.from_residual-in_err-name.result c.in_err-name.field-0.0 c.from_residual-in_err-name.ensures.1
-    (λ f b. inr (inl (n.fit.a, n.fit.at_a, b))) (c.in_err-name.ensures n.fit.a (n.first _))
+    (λ f b. stands.cell_name (n.fit.a, n.fit.at_a, b)) (c.in_err-name.ensures n.fit.a (n.first _))
 
 pub read_kind-requires-clause-node : goal.read_kind-requires-clause-node
 read_kind-requires-clause-node c =
@@ -91,7 +93,7 @@ returns-in_err-kind c = λ t a.
     let h = c.in_ok-parts.ensures t a in
     let n = nodes c.args.tree.now.rows t c.in_ok-parts.parts c.in_ok-found.found h (c.in_ok-found.ensures (followers keywords.Cell t) h.inner) in
     hand_on (ReadCell c.args.libs.now.libs (Some c.args.own) t) (CellTypeFault n.fit.b) (CellFault c.args.libs.now.libs (Some c.args.own) t) c.from_residual-in_err-kind.result c.in_err-kind.field-0.0 c.from_residual-in_err-kind.ensures.1
-    (λ f b. inr (inr (inl (n.fit.b, n.fit.at_b, b)))) (c.in_err-kind.ensures n.fit.b (n.second _))
+    (λ f b. stands.cell_type (n.fit.b, n.fit.at_b, form_choice keywords.CellType n.fit.b n.fit.is_b, b)) (c.in_err-kind.ensures n.fit.b (n.second _))
 
 pub read_view-requires-clause-node : goal.read_view-requires-clause-node
 read_view-requires-clause-node c =
@@ -127,7 +129,7 @@ returns-in_err-properties c = λ t a.
     let h = c.in_ok-parts.ensures t a in
     hand_on (ReadCell c.args.libs.now.libs (Some c.args.own) t) (PropertiesFault (those_of keywords.Property (followers keywords.Cell t))) (CellFault c.args.libs.now.libs (Some c.args.own) t)
     c.from_residual-in_err-properties.result c.in_err-properties.field-0.0 c.from_residual-in_err-properties.ensures.1
-    (λ f b. inr (inr (inr (inr (inr b))))) (c.in_err-properties.ensures (followers keywords.Cell t) h.inner)
+    (λ f b. stands.cell_properties b) (c.in_err-properties.ensures (followers keywords.Cell t) h.inner)
 
 pub cell_of-requires-clause-ports : goal.cell_of-requires-clause-ports
 cell_of-requires-clause-ports c =
@@ -150,4 +152,4 @@ returns c = λ t a.
     let o = c.in_ok-found.ensures (followers keywords.Cell t) h.inner in
     let n = nodes c.args.tree.now.rows t c.in_ok-parts.parts c.in_ok-found.found h o in
     cell_means c.args.libs.now.libs (Some c.args.own) t o.0 n.fit c.in_ok-name.name c.in_ok-kind.kind c.in_ok-properties.properties c.in_ok-view.view c.cell_of.result (c.in_ok-name.ensures n.fit.a (n.first _)) (c.in_ok-kind.ensures n.fit.b (n.second _)) o.1
-    (c.in_ok-view.ensures o.0 o.2) (c.in_ok-properties.ensures (followers keywords.Cell t) h.inner) (defined_first t n.fit.a n.fit.at_a) c.cell_of.ensures.cell c.cell_of.ensures.place
+    (c.in_ok-view.ensures o.0 o.2) (c.in_ok-properties.ensures (followers keywords.Cell t) h.inner) (let m = c.in_ok-name.ensures n.fit.a (n.first _) in defined_first t n.fit.a _ n.fit.at_a m.2 ∙ sym m.2) c.cell_of.ensures.cell c.cell_of.ensures.place

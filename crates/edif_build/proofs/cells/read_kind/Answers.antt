@@ -1,8 +1,5 @@
-use Rattle.std.proofs.Common.{◌≡◌, ℕ, List, [], refl, subst, false, arith}
-use Rattle.std.specs.Prelude.{IsTrue}
-use Rattle.edif_spec.specs.Canonical.{kind_word}
-use Rattle.edif_spec.specs.Keyword.{identifier, same}
-use Rattle.edif_spec.specs.Stands.{is_cell_type}
+use Rattle.std.proofs.Common.{[], refl, arith}
+use Rattle.edif_spec.specs.Keyword.{identifier}
 use Rattle.edif_spec.specs.declared.keyword.Keyword.TheVariants.{Cell, CellType}
 use Rattle.edif_build.proofs.CellLemmas.{kind_means, kind_fails}
 use Rattle.edif_contents.proofs.FixedNodes.{one_of}

@@ -1,4 +1,5 @@
-use Rattle.std.proofs.Common.{◌≡◌, ℕ, List, [], ◌∷◌, map, refl, sym, ap, ◌∙◌, subst, true, Some, inl, inr, arith}
+use Rattle.edif_spec.proofs.KnownForms.{form_choice}
+use Rattle.std.proofs.Common.{List, [], ◌∷◌, map, refl, sym, ap, ◌∙◌, subst, Some, inl, arith}
 use Rattle.std.specs.Prelude.{IsTrue}
 use Rattle.spelling_spec.specs.Tree.{Placed, bare}
 use Rattle.edif_spec.specs.Design as design
@@ -7,6 +8,7 @@ use Rattle.edif_spec.specs.Keyword.{Choice, Follower, Many, One, name_definition
 use Rattle.edif_spec.specs.Means.{MeansPort}
 use Rattle.edif_spec.specs.Rows.{Each, is_one_of, those}
 use Rattle.edif_spec.specs.Stands.{ContentsFault, InterfaceFault, NameFault, PropertiesFault, TypeFault, ViewFault}
+use Rattle.edif_spec.specs.Stands as stands
 use Rattle.edif_spec.specs.declared.keyword.Keyword.TheVariants as keywords
 use Rattle.edif_tree.specs.Nodes.{Row}
 use Rattle.edif_tree.proofs.OneTree.{one_at}
@@ -58,7 +60,7 @@ pub returns-in_err-name : goal.returns-in_err-name
 returns-in_err-name c = λ t a.
     let n = nodes c.args.tree.now.rows t c.in_ok-parts.parts (c.in_ok-parts.ensures t a) in
     hand_on (ReadView c.args.libs.now.libs c.args.own t) (NameFault n.fit.a) (ViewFault c.args.libs.now.libs c.args.own t) c.from_residual-in_err-name.result c.in_err-name.field-0.0 c.from_residual-in_err-name.ensures.1
-    (λ f b. inr (inl (n.fit.a, n.fit.at_a, b))) (c.in_err-name.ensures n.fit.a (n.first _))
+    (λ f b. stands.view_name (n.fit.a, n.fit.at_a, b)) (c.in_err-name.ensures n.fit.a (n.first _))
 
 pub read_view_type-requires-clause-node : goal.read_view_type-requires-clause-node
 read_view_type-requires-clause-node c =
@@ -76,7 +78,7 @@ pub returns-in_err-read_view_type : goal.returns-in_err-read_view_type
 returns-in_err-read_view_type c = λ t a.
     let n = nodes c.args.tree.now.rows t c.in_ok-parts.parts (c.in_ok-parts.ensures t a) in
     hand_on (ReadView c.args.libs.now.libs c.args.own t) (TypeFault n.fit.b) (ViewFault c.args.libs.now.libs c.args.own t) c.from_residual-in_err-read_view_type.result c.in_err-read_view_type.field-0.0 c.from_residual-in_err-read_view_type.ensures.1
-    (λ f b. inr (inr (inl (n.fit.b, n.fit.at_b, b)))) (c.in_err-read_view_type.ensures n.fit.b (n.second _))
+    (λ f b. stands.view_type (n.fit.b, n.fit.at_b, form_choice keywords.ViewType n.fit.b n.fit.is_b, b)) (c.in_err-read_view_type.ensures n.fit.b (n.second _))
 
 pub read_interface-requires-clause-node : goal.read_interface-requires-clause-node
 read_interface-requires-clause-node c =
@@ -94,7 +96,7 @@ pub returns-in_err-interface : goal.returns-in_err-interface
 returns-in_err-interface c = λ t a.
     let n = nodes c.args.tree.now.rows t c.in_ok-parts.parts (c.in_ok-parts.ensures t a) in
     hand_on (ReadView c.args.libs.now.libs c.args.own t) (InterfaceFault n.fit.x) (ViewFault c.args.libs.now.libs c.args.own t) c.from_residual-in_err-interface.result c.in_err-interface.field-0.0 c.from_residual-in_err-interface.ensures.1
-    (λ f b. inr (inr (inr (inl (n.fit.x, n.fit.at_x, b))))) (c.in_err-interface.ensures n.fit.x (n.third _))
+    (λ f b. stands.view_interface (n.fit.x, n.fit.at_x, form_choice keywords.Interface n.fit.x n.fit.is_x, b)) (c.in_err-interface.ensures n.fit.x (n.third _))
 
 pub read_contents_among-requires-clause-nodes : goal.read_contents_among-requires-clause-nodes
 read_contents_among-requires-clause-nodes c =
@@ -121,7 +123,7 @@ returns-in_err-inside c = λ t a.
     let P : List design.Port → Type 0 = λ v. Each MeansPort (those keywords.Port (map bare (followers keywords.Interface n.fit.x))) v in
     hand_on (ReadView libs c.args.own t) (Among (ContentsFault libs c.args.own ports) (those_of keywords.Contents (followers keywords.View t))) (ViewFault libs c.args.own t)
     c.from_residual-in_err-inside.result c.in_err-inside.field-0.0 c.from_residual-in_err-inside.ensures.1
-    (λ f b. inside_fails libs c.args.own t n.fit.x ports f n.fit.at_x (subst P (sym c.as_slice-ports.ensures) r.ports) b) (c.in_err-inside.ensures (followers keywords.View t) h.inner)
+    (λ f b. inside_fails libs c.args.own t n.fit.x ports f n.fit.at_x (form_choice keywords.Interface n.fit.x n.fit.is_x) (subst P (sym c.as_slice-ports.ensures) r.ports) b) (c.in_err-inside.ensures (followers keywords.View t) h.inner)
 
 pub read_properties-requires : goal.read_properties-requires
 read_properties-requires c =
@@ -134,7 +136,7 @@ returns-in_err-properties c = λ t a.
     let h = c.in_ok-parts.ensures t a in
     hand_on (ReadView c.args.libs.now.libs c.args.own t) (PropertiesFault (those_of keywords.Property (followers keywords.View t))) (ViewFault c.args.libs.now.libs c.args.own t)
     c.from_residual-in_err-properties.result c.in_err-properties.field-0.0 c.from_residual-in_err-properties.ensures.1
-    (λ f b. inr (inr (inr (inr (inr b))))) (c.in_err-properties.ensures (followers keywords.View t) h.inner)
+    (λ f b. stands.view_properties b) (c.in_err-properties.ensures (followers keywords.View t) h.inner)
 
 pub returns : goal.returns
 returns c = λ t a.

@@ -1,6 +1,5 @@
-use Rattle.std.proofs.Common.{◌≡◌, ℕ, List, [], refl, sym, subst, true, false, arith}
+use Rattle.std.proofs.Common.{[], refl, sym, arith}
 use Rattle.edif_spec.specs.Keyword.{identifier}
-use Rattle.edif_spec.specs.Stands.{is_netlist}
 use Rattle.edif_spec.specs.declared.keyword.Keyword.TheVariants.{View, ViewType}
 use Rattle.edif_build.proofs.CellLemmas.{netlist_means, netlist_fails}
 use Rattle.edif_contents.proofs.FixedNodes.{one_of}
@@ -33,4 +32,4 @@ returns-then-is_word c = λ t a.
 pub returns : goal.returns
 returns c = λ t a.
     let n = one_of c.args.tree.now.rows View ViewType identifier [] t c.in_ok-parts.parts refl refl refl (c.in_ok-parts.ensures t a) in
-    netlist_fails t n.fit.a c.reference_at-word.result.name.now c.reference_at-word.result.place n.fit.at_a (c.reference_at-word.ensures n.fit.a (n.node _)) (sym c.if-is_word.ensures)
+    rw c.fault_at.ensures (netlist_fails t n.fit.a c.reference_at-word.result.name.now c.reference_at-word.result.place n.fit.at_a (c.reference_at-word.ensures n.fit.a (n.node _)) (sym c.if-is_word.ensures))

@@ -1,6 +1,6 @@
-use Rattle.std.proofs.Common.{◌≡◌, ◌<◌, ◌≤◌, ℕ, suc, List, length, take, refl, sym, ap, ◌∙◌, subst, Option, None, Some, true, false, arith, get_or}
+use Rattle.std.proofs.Common.{◌≡◌, ◌<◌, ℕ, length, take, ap, ◌∙◌, subst, Option, true, false, arith}
 use Rattle.std.proofs.Math.Numerals.{add-one}
-use Rattle.spelling_spec.specs.Tree.{Placed, bare}
+use Rattle.spelling_spec.specs.Tree.{bare}
 use Rattle.edif_spec.specs.Rows.{has_keyword}
 use Rattle.edif_spec.specs.declared.keyword.Keyword.TheVariants.{Design}
 use Rattle.edif_build.proofs.FileLemmas.{FoundSo, design_skipped, design_here, step_get, design_again, design_at}
@@ -40,7 +40,7 @@ returns-in-Some c = λ ts st.
     let k : has_keyword Design (bare s.tree) ≡ true = cc in
     let P : Option ℕ → Type 0 = λ v. FoundSo ts c.loop-i.i v in
     let h = subst P c.in-Some.is (c.loop-i.invariant ts st) in
-    rw c.second_design.ensures (design_again ts c.loop-i.i c.in-Some.first c.place-place.result c.place.result s k h (c.place-place.ensures s.tree s.at)
+    rw c.clash.ensures (design_again ts c.loop-i.i c.in-Some.first c.place-place.result c.place.result s k h (c.place-place.ensures s.tree s.at)
     (c.place.ensures h.0 (stand_tree c.args.tree.now.rows c.args.inner.now ts c.in-Some.first _ h.0 st h.1)))
 
 pub loop-i-preserved : goal.loop-i-preserved

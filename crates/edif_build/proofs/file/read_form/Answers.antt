@@ -1,4 +1,3 @@
-use Rattle.std.proofs.Common.{inl, inr}
 use Rattle.edif_spec.specs.Faults.{followers}
 use Rattle.edif_spec.specs.Stands.{Stands}
 use Rattle.edif_spec.specs.declared.keyword.Keyword.TheVariants.{Edif}
@@ -17,7 +16,7 @@ pub returns-in_err-design : goal.returns-in_err-design
 returns-in_err-design c = λ t a.
     let r = c.in_ok-parts.ensures t a in
     hand_on (ReadForm c.args.tree.now.rows t) (SecondDesigns (followers Edif t)) (Stands t) c.from_residual-in_err-design.result c.in_err-design.field-0.0 c.from_residual-in_err-design.ensures.1
-    (λ f b. second_stands t f b) (c.in_err-design.ensures (followers Edif t) r.inner)
+    (λ f b. second_stands t f r.fits.keyword b) (c.in_err-design.ensures (followers Edif t) r.inner)
 
 pub returns : goal.returns
 returns c = λ t a.

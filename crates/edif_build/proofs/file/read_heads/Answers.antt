@@ -1,9 +1,10 @@
-use Rattle.std.proofs.Common.{◌≡◌, [], ◌∷◌, ℕ, length, refl, subst, inl, inr, true, arith}
+use Rattle.std.proofs.Common.{◌≡◌, [], ◌∷◌, length, refl, subst, true, arith}
 use Rattle.std.specs.Prelude.{IsTrue}
 use Rattle.spelling_spec.specs.Tree.{Placed, bare}
 use Rattle.edif_spec.specs.Keyword.{name_definition}
 use Rattle.edif_spec.specs.Rows.{has_keyword, is_one_of}
 use Rattle.edif_spec.specs.Stands.{FileFault, LevelFault, MapFault, NameFault, VersionFault}
+use Rattle.edif_spec.specs.Stands as stands
 use Rattle.edif_spec.specs.declared.keyword.Keyword.TheVariants as keywords
 use Rattle.edif_tree.proofs.OneTree.{one_at}
 use Rattle.edif_build.specs.Files.{ReadHeads}
@@ -47,7 +48,7 @@ read_version-requires-clause-keyword c = λ u b.
 pub returns-in_err-read_version : goal.returns-in_err-read_version
 returns-in_err-read_version c = λ t h.
     hand_on (ReadHeads t) (VersionFault h.b) (FileFault t) c.from_residual.result c.in_err-read_version.field-0.0 c.from_residual.ensures.1
-    (λ f b. inr (inr (inl (h.b, h.at_b, b)))) (c.in_err-read_version.ensures h.b (stand_tree c.args.tree.now.rows c.args.fixed.now (h.a ∷ h.b ∷ h.x ∷ h.y ∷ []) 1 _ h.b h.nodes refl))
+    (λ f b. stands.edif_version (h.b, h.at_b, h.is_b, b)) (c.in_err-read_version.ensures h.b (stand_tree c.args.tree.now.rows c.args.fixed.now (h.a ∷ h.b ∷ h.x ∷ h.y ∷ []) 1 _ h.b h.nodes refl))
 
 pub read_level-requires-clause-node : goal.read_level-requires-clause-node
 read_level-requires-clause-node c = let h = c.requires.1 in (h.x, stand_tree c.args.tree.now.rows c.args.fixed.now (h.a ∷ h.b ∷ h.x ∷ h.y ∷ []) 2 _ h.x h.nodes refl)
@@ -61,7 +62,7 @@ read_level-requires-clause-keyword c = λ u b.
 pub returns-in_err-read_level : goal.returns-in_err-read_level
 returns-in_err-read_level c = λ t h.
     hand_on (ReadHeads t) (LevelFault keywords.EdifLevel h.x) (FileFault t) c.from_residual-in_err-read_level.result c.in_err-read_level.field-0.0 c.from_residual-in_err-read_level.ensures.1
-    (λ f b. inr (inr (inr (inl (h.x, h.at_x, b))))) (c.in_err-read_level.ensures h.x (stand_tree c.args.tree.now.rows c.args.fixed.now (h.a ∷ h.b ∷ h.x ∷ h.y ∷ []) 2 _ h.x h.nodes refl))
+    (λ f b. stands.edif_level (h.x, h.at_x, h.is_x, b)) (c.in_err-read_level.ensures h.x (stand_tree c.args.tree.now.rows c.args.fixed.now (h.a ∷ h.b ∷ h.x ∷ h.y ∷ []) 2 _ h.x h.nodes refl))
 
 pub read_keyword_map-requires-clause-node : goal.read_keyword_map-requires-clause-node
 read_keyword_map-requires-clause-node c = let h = c.requires.1 in (h.y, stand_tree c.args.tree.now.rows c.args.fixed.now (h.a ∷ h.b ∷ h.x ∷ h.y ∷ []) 3 _ h.y h.nodes refl)
@@ -75,7 +76,7 @@ read_keyword_map-requires-clause-keyword c = λ u b.
 pub returns-in_err-read_keyword_map : goal.returns-in_err-read_keyword_map
 returns-in_err-read_keyword_map c = λ t h.
     hand_on (ReadHeads t) (MapFault h.y) (FileFault t) c.from_residual-in_err-read_keyword_map.result c.in_err-read_keyword_map.field-0.0 c.from_residual-in_err-read_keyword_map.ensures.1
-    (λ f b. inr (inr (inr (inr (inl (h.y, h.at_y, b)))))) (c.in_err-read_keyword_map.ensures h.y (stand_tree c.args.tree.now.rows c.args.fixed.now (h.a ∷ h.b ∷ h.x ∷ h.y ∷ []) 3 _ h.y h.nodes refl))
+    (λ f b. stands.edif_map (h.y, h.at_y, h.is_y, b)) (c.in_err-read_keyword_map.ensures h.y (stand_tree c.args.tree.now.rows c.args.fixed.now (h.a ∷ h.b ∷ h.x ∷ h.y ∷ []) 3 _ h.y h.nodes refl))
 
 pub read_name-requires-clause-node : goal.read_name-requires-clause-node
 read_name-requires-clause-node c = let h = c.requires.1 in (h.a, stand_tree c.args.tree.now.rows c.args.fixed.now (h.a ∷ h.b ∷ h.x ∷ h.y ∷ []) 0 _ h.a h.nodes refl)
@@ -89,7 +90,7 @@ read_name-requires-clause-choice c = λ u b.
 pub returns-in_err-title : goal.returns-in_err-title
 returns-in_err-title c = λ t h.
     hand_on (ReadHeads t) (NameFault h.a) (FileFault t) c.from_residual-in_err-title.result c.in_err-title.field-0.0 c.from_residual-in_err-title.ensures.1
-    (λ f b. inr (inl (h.a, h.at_a, b))) (c.in_err-title.ensures h.a (stand_tree c.args.tree.now.rows c.args.fixed.now (h.a ∷ h.b ∷ h.x ∷ h.y ∷ []) 0 _ h.a h.nodes refl))
+    (λ f b. stands.edif_name (h.a, h.at_a, b)) (c.in_err-title.ensures h.a (stand_tree c.args.tree.now.rows c.args.fixed.now (h.a ∷ h.b ∷ h.x ∷ h.y ∷ []) 0 _ h.a h.nodes refl))
 
 pub returns : goal.returns
 returns c = λ t h.

@@ -1,10 +1,12 @@
-use Rattle.std.proofs.Common.{◌≡◌, List, [], ◌∷◌, sym, ap, ◌∙◌, subst, inr, Option}
+use Rattle.edif_spec.proofs.FaultsApart.{keyword_of}
+use Rattle.std.proofs.Common.{◌≡◌, List, sym, ap, ◌∙◌, subst}
 use Rattle.netlist_schema.specs.Valid.{IsValid}
-use Rattle.spelling_spec.specs.Tree.{Placed, bare}
+use Rattle.spelling_spec.specs.Tree.{bare}
 use Rattle.edif_spec.specs.Design as design
 use Rattle.edif_spec.specs.Faults.{followers}
 use Rattle.edif_spec.specs.Means.{MeansFile}
 use Rattle.edif_spec.specs.Stands.{FileFault, Stands}
+use Rattle.edif_spec.specs.Stands as stands
 use Rattle.edif_spec.specs.declared.keyword.Keyword.TheVariants.{Edif}
 use Rattle.edif_tree.specs.Nodes.{IsAt}
 use Rattle.edif_tree.specs.declared.node.NodeId.{NodeId}
@@ -29,7 +31,7 @@ pub returns-in_err-title : goal.returns-in_err-title
 returns-in_err-title c = λ t a.
     let P : NodeId → Type 0 = λ v. IsAt c.args.tree.now.rows v t in
     let r = c.in_ok-form.ensures t (subst P (sym c.root-root.ensures.root) a) in
-    hand_on (λ d. MeansFile (bare t) d) (FileFault t) (Stands t) c.from_residual-in_err-title.result c.in_err-title.field-0.0 c.from_residual-in_err-title.ensures.1 (λ f b. inr b) (c.in_err-title.ensures t r.fixed)
+    hand_on (λ d. MeansFile (bare t) d) (FileFault t) (Stands t) c.from_residual-in_err-title.result c.in_err-title.field-0.0 c.from_residual-in_err-title.ensures.1 (λ f b. stands.in_file (keyword_of Edif (bare t) _ _ r.fixed.form) b) (c.in_err-title.ensures t r.fixed)
 
 pub read_followers-requires-clause-nodes : goal.read_followers-requires-clause-nodes
 read_followers-requires-clause-nodes c =
@@ -44,7 +46,7 @@ pub returns-in_err-top : goal.returns-in_err-top
 returns-in_err-top c = λ t a.
     let P : NodeId → Type 0 = λ v. IsAt c.args.tree.now.rows v t in
     let r = c.in_ok-form.ensures t (subst P (sym c.root-root.ensures.root) a) in
-    hand_on (λ d. MeansFile (bare t) d) (FollowersFail (followers Edif t)) (Stands t) c.from_residual-in_err-top.result c.in_err-top.field-0.0 c.from_residual-in_err-top.ensures.1 (λ f b. followers_stand t f b)
+    hand_on (λ d. MeansFile (bare t) d) (FollowersFail (followers Edif t)) (Stands t) c.from_residual-in_err-top.result c.in_err-top.field-0.0 c.from_residual-in_err-top.ensures.1 (λ f b. followers_stand t f (keyword_of Edif (bare t) _ _ r.fixed.form) b)
     (c.in_err-top.ensures (followers Edif t) r.inner r.design (no_libraries c.new-libs.result c.new-libs.ensures))
 
 pub design_of-requires : goal.design_of-requires

@@ -1,4 +1,4 @@
-use Rattle.std.proofs.Common.{◌≡◌, ◌<◌, ◌≤◌, ℕ, List, [], ◌∷◌, ◌++◌, length, None, Some, Option, sym, ap, ◌∙◌, subst, arith}
+use Rattle.std.proofs.Common.{◌<◌, ◌≤◌, ℕ, [], ◌∷◌, ◌++◌, length, Some, Option, ◌∙◌, subst, arith}
 use Rattle.edif_spec.specs.Stands.{CellFault}
 use Rattle.edif_contents.specs.Known.{AddsCell}
 use Rattle.edif_build.specs.Libraries.{CellsAre, CellsFail, FailsAt}
@@ -10,8 +10,8 @@ use Rattle.edif_build.proofs.libraries.add_cell.Goals as goal
 pub add-requires : goal.add-requires
 add-requires c = let k = c.requires.known in some_library k.0 k.1 k.2 k.3 c.args.libs.now k.4
 
-pub returns-then-count-ge65536 : goal.returns-then-count-ge65536
-returns-then-count-ge65536 c = λ before head names ts t k o a.
+pub returns-then-count-ge-MOST_CELLS : goal.returns-then-count-ge-MOST_CELLS
+returns-then-count-ge-MOST_CELLS c = λ before head names ts t k o a.
     let l : 65536 ≤ length c.args.libs.now.cell_names = omega arith in
     rw c.over_limit.ensures (cell_beyond before head names ts t c.args.libs.now c.place.result k l (c.place.ensures t a ∙ place_same t))
 
@@ -23,7 +23,7 @@ returns-in_err-cell c = λ before head names ts t k o a.
 pub returns-in-Some : goal.returns-in-Some
 returns-in-Some c = λ before head names ts t k o a.
     let P : Option ℕ → Type 0 = λ v. AddsCell c.args.libs.now c.in_ok-cell.cell.cell c.in_ok-cell.cell.place c.add.new.self v in
-    rw c.duplicate.ensures (cell_repeats before head names ts t c.args.libs.now c.add.new.self (Some c.args.own) c.in_ok-cell.cell c.in-Some.earlier k (c.in_ok-cell.ensures t a) (subst P c.in-Some.is c.in_ok-earlier.ensures.ok))
+    rw c.clash.ensures (cell_repeats before head names ts t c.args.libs.now c.add.new.self (Some c.args.own) c.in_ok-cell.cell c.in-Some.earlier k (c.in_ok-cell.ensures t a) (subst P c.in-Some.is c.in_ok-earlier.ensures.ok))
 
 pub returns-in-None : goal.returns-in-None
 returns-in-None c = λ before head names ts t k o a.

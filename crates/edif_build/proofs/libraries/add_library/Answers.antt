@@ -1,4 +1,4 @@
-use Rattle.std.proofs.Common.{◌≡◌, ◌<◌, ◌≤◌, ℕ, List, [], ◌∷◌, ◌++◌, length, None, Some, Option, sym, ap, ◌∙◌, subst, refl, arith}
+use Rattle.std.proofs.Common.{◌<◌, ◌≤◌, ℕ, List, [], ◌∷◌, ◌++◌, length, Option, ◌∙◌, subst, arith}
 use Rattle.edif_spec.specs.Design as design
 use Rattle.edif_spec.specs.Faults.{followers, those_of}
 use Rattle.edif_spec.specs.Stands.{LibraryFault}
@@ -11,8 +11,8 @@ use Rattle.edif_build.proofs.LibraryLemmas.{opened, library_added, library_fault
 use Rattle.edif_contents.proofs.RefLemmas.{place_same}
 use Rattle.edif_build.proofs.libraries.add_library.Goals as goal
 
-pub returns-then-own-ge1024 : goal.returns-then-own-ge1024
-returns-then-own-ge1024 c = λ ts t k a.
+pub returns-then-own-ge-MOST_LIBS : goal.returns-then-own-ge-MOST_LIBS
+returns-then-own-ge-MOST_LIBS c = λ ts t k a.
     let l : 1024 ≤ length c.args.libs.now.libs = omega arith in
     rw c.over_limit.ensures (library_beyond ts t c.args.libs.now c.place.result k l (c.place.ensures t a ∙ place_same t))
 
@@ -24,7 +24,7 @@ returns-in_err-head c = λ ts t k a.
 pub returns-in-Some : goal.returns-in-Some
 returns-in-Some c = λ ts t k a.
     let P : Option ℕ → Type 0 = λ v. OpensLib c.args.libs.now c.in_ok-head.head.head c.in_ok-head.head.place c.«open».new.self v in
-    rw c.duplicate.ensures (library_repeats c.args.tree.now.rows ts t c.args.libs.now c.«open».new.self c.in_ok-head.head c.in-Some.earlier k (c.in_ok-head.ensures t a) (subst P c.in-Some.is c.in_ok-earlier.ensures.ok))
+    rw c.clash.ensures (library_repeats c.args.tree.now.rows ts t c.args.libs.now c.«open».new.self c.in_ok-head.head c.in-Some.earlier k (c.in_ok-head.ensures t a) (subst P c.in-Some.is c.in_ok-earlier.ensures.ok))
 
 pub add_cells-requires-clause-nodes : goal.add_cells-requires-clause-nodes
 add_cells-requires-clause-nodes c =

@@ -1,12 +1,13 @@
-use Rattle.std.proofs.Common.{◌≡◌, List, refl, sym, subst, true, inl, inr, ◌∙◌, arith}
+use Rattle.edif_spec.proofs.KnownForms.{form_choice}
+use Rattle.std.proofs.Common.{◌≡◌, List, sym, subst, true, arith}
 use Rattle.std.specs.Prelude.{IsTrue}
 use Rattle.spelling_spec.specs.Tree.{Placed, bare}
-use Rattle.edif_spec.specs.Canonical.{library_keyword}
 use Rattle.edif_spec.specs.Design as design
 use Rattle.edif_spec.specs.Faults.{RowFault}
 use Rattle.edif_spec.specs.Keyword.{name_definition, row}
 use Rattle.edif_spec.specs.Rows.{has_keyword, is_one_of}
 use Rattle.edif_spec.specs.Stands.{LevelFault, LibraryFault, NameFault}
+use Rattle.edif_spec.specs.Stands as stands
 use Rattle.edif_spec.specs.declared.keyword.Keyword.{Keyword}
 use Rattle.edif_spec.specs.declared.keyword.Keyword.TheVariants as keywords
 use Rattle.edif_spec.specs.declared.fault.MeaningFault.{MeaningFault}
@@ -14,7 +15,7 @@ use Rattle.edif_tree.proofs.OneTree.{one_at}
 use Rattle.edif_build.specs.Libraries.{ReadHead}
 use Rattle.edif_parts.specs.Parts.{holds}
 use Rattle.edif_parts.proofs.Answering.{hand_on}
-use Rattle.edif_build.proofs.CellLemmas.{defined_first}
+use Rattle.edif_contents.proofs.InstLemmas.{defined_first}
 use Rattle.edif_build.proofs.LibraryLemmas.{head_nodes, its_held, its_keyword, its_rows_fault}
 use Rattle.edif_contents.proofs.RefLemmas.{form_there}
 use Rattle.edif_build.proofs.libraries.read_head.Goals as goal
@@ -65,7 +66,7 @@ pub returns-in_err-read_level : goal.returns-in_err-read_level
 returns-in_err-read_level c = λ t a.
     let n = head_nodes c.args.tree.now.rows c.is_form_of-external.result c.library_keyword-keyword.result t c.in_ok-parts.parts c.library_keyword-keyword.ensures (c.in_ok-parts.ensures t a) in
     hand_on (ReadHead c.args.tree.now.rows t) (LevelFault keywords.EdifLevel n.three.fit.b) (λ f. (before : List design.Lib) → LibraryFault before t f) c.from_residual-in_err-read_level.result c.in_err-read_level.field-0.0 c.from_residual-in_err-read_level.ensures.1
-    (λ f b before. inr (inr (inr (inl (n.three.fit.b, n.three.fit.at_b, b))))) (c.in_err-read_level.ensures n.three.fit.b (n.three.second _))
+    (λ f b before. stands.library_level (n.three.fit.b, n.three.fit.at_b, form_choice keywords.EdifLevel n.three.fit.b n.three.fit.is_b, b)) (c.in_err-read_level.ensures n.three.fit.b (n.three.second _))
 
 pub read_name-requires-clause-node : goal.read_name-requires-clause-node
 read_name-requires-clause-node c =
@@ -84,7 +85,7 @@ pub returns-in_err-name : goal.returns-in_err-name
 returns-in_err-name c = λ t a.
     let n = head_nodes c.args.tree.now.rows c.is_form_of-external.result c.library_keyword-keyword.result t c.in_ok-parts.parts c.library_keyword-keyword.ensures (c.in_ok-parts.ensures t a) in
     hand_on (ReadHead c.args.tree.now.rows t) (NameFault n.three.fit.a) (λ f. (before : List design.Lib) → LibraryFault before t f) c.from_residual-in_err-name.result c.in_err-name.field-0.0 c.from_residual-in_err-name.ensures.1
-    (λ f b before. inr (inr (inl (n.three.fit.a, n.three.fit.at_a, b)))) (c.in_err-name.ensures n.three.fit.a (n.three.first _))
+    (λ f b before. stands.library_name (n.three.fit.a, n.three.fit.at_a, b)) (c.in_err-name.ensures n.three.fit.a (n.three.first _))
 
 pub returns : goal.returns
 returns c = λ t a.
@@ -100,6 +101,6 @@ returns c = λ t a.
       typed = m.1;
       level = c.in_ok-read_level.ensures n.three.fit.b (n.three.second _);
       external = c.is_form_of-external.ensures t a;
-      place = defined_first t n.three.fit.a n.three.fit.at_a ∙ m.2;
+      place = defined_first t n.three.fit.a _ n.three.fit.at_a m.2;
       inner = n.inner;
     }

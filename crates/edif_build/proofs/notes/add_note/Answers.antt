@@ -1,4 +1,4 @@
-use Rattle.std.proofs.Common.{◌≡◌, ◌<◌, ◌≤◌, ℕ, List, [], ◌∷◌, ◌++◌, length, sym, ap, ◌∙◌, subst, arith}
+use Rattle.std.proofs.Common.{◌≡◌, ◌<◌, ◌≤◌, List, [], ◌∷◌, ◌++◌, length, sym, ap, ◌∙◌, subst, arith}
 use Rattle.edif_spec.specs.Design as design
 use Rattle.edif_spec.specs.Stands.{NoteFault}
 use Rattle.edif_build.specs.Notes.{AreNoted, FailsBehind, IsAgain, flat}
@@ -7,8 +7,8 @@ use Rattle.edif_build.proofs.NotedLemmas.{noted_again, noted_beyond, noted_fails
 use Rattle.edif_contents.proofs.RefLemmas.{place_same}
 use Rattle.edif_build.proofs.notes.add_note.Goals as goal
 
-pub returns-then-len-ge1048576 : goal.returns-then-len-ge1048576
-returns-then-len-ge1048576 c = λ ts t h a.
+pub returns-then-len-ge-MOST_NOTES : goal.returns-then-len-ge-MOST_NOTES
+returns-then-len-ge-MOST_NOTES c = λ ts t h a.
     let k = c.args.notes.now.ok.0 in
     let l : 1048576 ≤ length c.args.notes.now.items = omega arith in
     rw c.over_limit.ensures (noted_beyond c.args.libs.now.libs c.args.top ts c.args.notes.now.items c.args.keys.now t c.place.result h l (c.place.ensures t a ∙ place_same t))

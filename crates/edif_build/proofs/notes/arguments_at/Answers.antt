@@ -1,5 +1,4 @@
 use Rattle.std.proofs.Common.{List, sym, subst}
-use Rattle.spelling_spec.specs.Tree.{Placed}
 use Rattle.edif_spec.specs.Faults.{arguments}
 use Rattle.edif_tree.specs.declared.node.NodeId.{NodeId}
 use Rattle.edif_grammar.specs.Forms.{Stand}

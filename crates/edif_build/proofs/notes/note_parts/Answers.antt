@@ -1,5 +1,5 @@
-use Rattle.std.proofs.Common.{◌≡◌, ◌<◌, ◌≤◌, ℕ, List, [], length, sym, ap, ◌∙◌, subst, true, false, arith}
-use Rattle.spelling_spec.specs.Tree.{Placed, bare}
+use Rattle.std.proofs.Common.{◌≡◌, ◌<◌, ◌≤◌, length, ◌∙◌, true, false, arith}
+use Rattle.spelling_spec.specs.Tree.{bare}
 use Rattle.edif_spec.specs.Faults.{arguments}
 use Rattle.edif_spec.specs.Rows.{has_keyword}
 use Rattle.edif_spec.specs.declared.keyword.Keyword.TheVariants.{Path, Property}

@@ -1,11 +1,11 @@
-use Rattle.std.proofs.Common.{◌≡◌, ℕ, suc, List, [], ◌∷◌, ◌++◌, length, take, drop, sym, ap, ◌∙◌, subst, true, false, arith}
+use Rattle.std.proofs.Common.{◌≡◌, suc, List, ◌∷◌, ◌++◌, length, take, drop, sym, ap, ◌∙◌, subst, true, false, arith}
 use Rattle.std.proofs.Math.Numerals.{add-one}
 use Rattle.spelling_spec.specs.Tree.{Placed, bare}
 use Rattle.edif_spec.specs.Means.{is_note}
 use Rattle.edif_build.specs.Notes.{AreNoted, FailsBehind, NotesFail, ReadNotes}
 use Rattle.edif_parts.proofs.Answering.{hand_on}
 use Rattle.edif_build.proofs.FilterSteps.{passing, passing_kept, passing_skipped, passing_all}
-use Rattle.edif_build.proofs.NotedLemmas.{noted_end, noted_start}
+use Rattle.edif_build.proofs.NotedLemmas.{noted_end}
 use Rattle.edif_grammar.proofs.StandLemmas.{stand_node}
 use Rattle.edif_parts.proofs.Steps.{step_at, take_all}
 use Rattle.edif_build.proofs.notes.read_notes.Goals as goal

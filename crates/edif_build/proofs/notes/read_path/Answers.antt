@@ -1,15 +1,13 @@
-use Rattle.std.proofs.Common.{◌≡◌, ◌<◌, ℕ, suc, List, [], ◌∷◌, length, sym, ap, ◌∙◌, subst, arith}
+use Rattle.std.proofs.Common.{◌≡◌, ◌<◌, ℕ, suc, List, length, sym, subst, arith}
 use Rattle.std.proofs.Math.Numerals.{add-one}
 use Rattle.std.proofs.lemmas.Grind.{common_steps}
 use Rattle.netlist_schema.specs.Ident.{IsIdentifier}
-use Rattle.edif_spec.specs.Design as design
 use Rattle.edif_spec.specs.Faults.{arguments}
-use Rattle.edif_spec.specs.Stands.{PathFault}
-use Rattle.edif_build.specs.Notes.{ReadPath, StepFault}
+use Rattle.edif_spec.specs.Stands.{StepFault, PathFault}
+use Rattle.edif_build.specs.Notes.{ReadPath}
 use Rattle.edif_parts.proofs.Answering.{hand_on}
 use Rattle.edif_build.proofs.FileLemmas.{step_get}
 use Rattle.edif_build.proofs.NoteLemmas.{Onward, no_steps, onward_end, onward_fails, onward_start, onward_step, path_fails}
-use Rattle.edif_contents.proofs.RefLemmas.{place_same}
 use Rattle.edif_grammar.proofs.StandLemmas.{stand_length, stand_node}
 use Rattle.edif_parts.proofs.Steps.{step_at}
 use Rattle.edif_build.proofs.notes.read_path.Goals as goal
@@ -18,7 +16,7 @@ pub returns-then-is_empty : goal.returns-then-is_empty
 returns-then-is_empty c = λ t a.
     let n : length c.arguments_at-steps.result.now ≡ length (arguments t) = stand_length c.args.tree.now.rows c.arguments_at-steps.result.now (arguments t) (c.arguments_at-steps.ensures t a) in
     let l : length (arguments t) ≡ 0 = grind (arith, common_steps) in
-    rw c.bad_path.ensures (no_steps c.args.libs.now.libs c.args.top t c.place.result l (c.place.ensures t a))
+    rw c.fault_at.ensures (no_steps c.args.libs.now.libs c.args.top t c.place.result l (c.place.ensures t a))
 
 pub loop-step-init : goal.loop-step-init
 loop-step-init c = λ ts st.
@@ -37,7 +35,7 @@ returns-in_err-inst c = λ t a.
     let s = step_at c.args.tree.now.rows c.arguments_at-steps.result.now ts c.loop-step.step-index (record { 0 = 0 }) st c.loop-step-test.true in
     let g = step_get c.args.tree.now.rows c.arguments_at-steps.result.now ts c.loop-step.step-index (record { 0 = 0 }) s st c.loop-step-test.true in
     let libs = c.args.libs.now.libs in
-    hand_on (ReadPath libs c.args.top t) (StepFault libs c.loop-step.id s.tree) (PathFault libs c.args.top t) c.from_residual.result c.in_err-inst.field-0.0 c.from_residual.ensures.1
+    hand_on (ReadPath libs c.args.top t) (StepFault libs c.loop-step.id (λ _. ⊥) s.tree) (PathFault libs c.args.top t) c.from_residual.result c.in_err-inst.field-0.0 c.from_residual.ensures.1
     (λ f b. path_fails libs c.args.top t f (onward_fails libs c.args.top ts c.loop-step.step-index c.loop-step.id _ s.tree f (c.loop-step.invariant ts st) g b)) (c.in_err-inst.ensures s.tree s.at)
 
 pub loop-step-preserved : goal.loop-step-preserved

@@ -1,4 +1,4 @@
-use Rattle.std.proofs.Common.{◌≡◌, ◌<◌, ◌≤◌, ℕ, List, length, sym, ap, ◌∙◌, subst, Some, None, slice_index_or}
+use Rattle.std.proofs.Common.{◌≡◌, List, subst, Some, None}
 use Rattle.std.specs.Prelude.{slice_get}
 use Rattle.edif_spec.specs.Design as design
 use Rattle.edif_spec.specs.Means.{meant}
@@ -10,7 +10,7 @@ use Rattle.edif_build.proofs.notes.read_step.Goals as goal
 
 pub returns-in_default-inst : goal.returns-in_default-inst
 returns-in_default-inst c = λ t a.
-    rw c.bad_path.ensures (bad_step c.args.libs.now.libs c.args.id t c.in-Word.name.now c.place-place.result c.inst.result (word_shape c.args.tree.now.rows c.in-Word.name t (c.in-Word.ensures t a)) (c.place-place.ensures t a) c.inst.ensures c.in_default-inst.not-Found)
+    rw c.fault_at.ensures (bad_step c.args.libs.now.libs c.args.id t c.in-Word.name.now c.place-place.result c.inst.result (word_shape c.args.tree.now.rows c.in-Word.name t (c.in-Word.ensures t a)) (c.place-place.ensures t a) c.inst.ensures c.in_default-inst.not-Found)
 
 pub returns-in-Some : goal.returns-in-Some
 returns-in-Some c = λ t a.

@@ -1,4 +1,5 @@
-use Rattle.std.proofs.Common.{◌≡◌, List, [], ◌∷◌, map, refl, sym, ap, subst, true, None, inl, inr, arith}
+use Rattle.edif_spec.proofs.KnownForms.{form_choice}
+use Rattle.std.proofs.Common.{List, [], ◌∷◌, map, refl, subst, None, arith}
 use Rattle.std.specs.Prelude.{IsTrue, filter}
 use Rattle.spelling_spec.specs.Tree.{Bare, Placed, bare}
 use Rattle.edif_spec.specs.Faults.{followers, those_of}
@@ -6,6 +7,7 @@ use Rattle.edif_spec.specs.Keyword.{Many, name_definition, the}
 use Rattle.edif_spec.specs.Means.{MeansNote, is_note}
 use Rattle.edif_spec.specs.Rows.{Each, is_one_of}
 use Rattle.edif_spec.specs.Stands.{CellRefFault, DesignFault, NameFault, PropertiesFault}
+use Rattle.edif_spec.specs.Stands as stands
 use Rattle.edif_spec.specs.declared.keyword.Keyword.TheVariants as keywords
 use Rattle.edif_spec.proofs.FaultForms.{filter_bare}
 use Rattle.edif_tree.specs.Nodes.{Row}
@@ -51,7 +53,7 @@ pub returns-in_err-name : goal.returns-in_err-name
 returns-in_err-name c = λ t a.
     let n = nodes c.args.tree.now.rows t c.in_ok-parts.parts (c.in_ok-parts.ensures t a) in
     hand_on (ReadTop c.args.libs.now.libs t) (NameFault n.fit.a) (DesignFault c.args.libs.now.libs t) c.from_residual-in_err-name.result c.in_err-name.field-0.0 c.from_residual-in_err-name.ensures.1
-    (λ f b. inr (inl (n.fit.a, n.fit.at_a, b))) (c.in_err-name.ensures n.fit.a (n.first _))
+    (λ f b. stands.design_name (n.fit.a, n.fit.at_a, b)) (c.in_err-name.ensures n.fit.a (n.first _))
 
 pub read_cell_ref-requires-clause-node : goal.read_cell_ref-requires-clause-node
 read_cell_ref-requires-clause-node c =
@@ -69,7 +71,7 @@ pub returns-in_err-cell : goal.returns-in_err-cell
 returns-in_err-cell c = λ t a.
     let n = nodes c.args.tree.now.rows t c.in_ok-parts.parts (c.in_ok-parts.ensures t a) in
     hand_on (ReadTop c.args.libs.now.libs t) (CellRefFault c.args.libs.now.libs None n.fit.b) (DesignFault c.args.libs.now.libs t) c.from_residual-in_err-cell.result c.in_err-cell.field-0.0 c.from_residual-in_err-cell.ensures.1
-    (λ f b. inr (inr (inl (n.fit.b, n.fit.at_b, b)))) (c.in_err-cell.ensures n.fit.b (n.second _))
+    (λ f b. stands.design_cell (n.fit.b, n.fit.at_b, form_choice keywords.CellRef n.fit.b n.fit.is_b, b)) (c.in_err-cell.ensures n.fit.b (n.second _))
 
 pub read_properties-requires : goal.read_properties-requires
 read_properties-requires c =
@@ -81,7 +83,7 @@ pub returns-in_err-properties : goal.returns-in_err-properties
 returns-in_err-properties c = λ t a.
     let h = c.in_ok-parts.ensures t a in
     hand_on (ReadTop c.args.libs.now.libs t) (PropertiesFault (those_of keywords.Property (followers keywords.Design t))) (DesignFault c.args.libs.now.libs t) c.from_residual-in_err-properties.result c.in_err-properties.field-0.0
-    c.from_residual-in_err-properties.ensures.1 (λ f b. inr (inr (inr (inl b)))) (c.in_err-properties.ensures (followers keywords.Design t) h.inner)
+    c.from_residual-in_err-properties.ensures.1 (λ f b. stands.design_properties b) (c.in_err-properties.ensures (followers keywords.Design t) h.inner)
 
 pub read_notes-requires : goal.read_notes-requires
 read_notes-requires c =

@@ -1,4 +1,4 @@
-use Rattle.std.proofs.Common.{◌≡◌, ℕ, ◌<◌, pos, [], ◌∷◌, refl, ◌∙◌, subst, arith}
+use Rattle.std.proofs.Common.{◌≡◌, ℕ, ◌<◌, pos, [], refl, ◌∙◌, subst, arith}
 use Rattle.std.specs.Int.{w64}
 use Rattle.std.proofs.lemmas.Int.{to_z-of_z}
 use Rattle.spelling_spec.specs.Tree.{Word', bare}
@@ -83,6 +83,6 @@ returns-in-None c = λ t at.
     let ports = ports_for c.args.around.now c.args.inst in
     let name = c.reference_at-name.result.name.now in
     let there = p.second (record { 0 = 0 }) in
-    told (BitFault ports t) c.at.result (At BadIndex c.place.result) c.at.ensures
+    told (BitFault ports t) c.fault_at.result (At BadIndex c.place.result) c.fault_at.ensures
     (index_fails ports t name c.reference_at-name.result.place c.in_ok-port.port c.port_width.result c.place.result c.integer_at.result (c.requires.keyword t at) p.fit (c.reference_at-name.ensures p.fit.a (p.first (record { 0 = 0 })))
     (c.integer_at.ensures.value p.fit.b there) (c.in_ok-port.ensures (design.port_ids ports) name c.port_meant.ensures) c.port_width.ensures (subst (λ v. (n : ℕ) → v ≡ pos n → n < c.port_width.result → ⊥) (to_z-of_z w64 c.integer_at.result c.integer_at.ensures.typed) c.in-None.ensures.none) (c.place.ensures p.fit.b there ∙ place_same p.fit.b))

@@ -1,4 +1,3 @@
-use Rattle.std.proofs.Common.{sym, refl}
 use Rattle.spelling_spec.specs.Tree.{Word', bare}
 use Rattle.edif_spec.specs.Design as design
 use Rattle.edif_spec.specs.Means.{MeansBit}
@@ -23,5 +22,5 @@ pub returns-then-port_width-ne1 : goal.returns-then-port_width-ne1
 returns-then-port_width-ne1 c = λ t e.
     let ports = ports_for c.args.around.now c.args.inst in
     let name = c.args.name.name.now in
-    told (BitFault ports t) c.at.result (At WholeArray c.args.name.place) c.at.ensures
+    told (BitFault ports t) c.fault_at.result (At WholeArray c.args.name.place) c.fault_at.ensures
     (whole_fails ports t name c.args.name.place c.in_ok-port.port c.port_width.result e (c.in_ok-port.ensures (design.port_ids ports) name c.port_meant.ensures) c.port_width.ensures c.if-port_width-ne1.true)

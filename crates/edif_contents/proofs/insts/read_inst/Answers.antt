@@ -1,8 +1,10 @@
-use Rattle.std.proofs.Common.{List, [], ◌∷◌, refl, inl, inr, Some, arith}
-use Rattle.spelling_spec.specs.Tree.{bare}
+use Rattle.std.proofs.Common.{List, [], ◌∷◌, refl, inl, Some, arith}
 use Rattle.edif_spec.specs.Keyword.{Follower, Many, One, name_definition, the}
 use Rattle.edif_spec.specs.Faults.{followers}
 use Rattle.edif_spec.specs.Stands.{InstFault, NameFault, ViewRefFault}
+use Rattle.edif_spec.specs.Stands as stands
+use Rattle.edif_spec.specs.declared.keyword.Keyword.TheVariants as keywords
+use Rattle.edif_spec.proofs.KnownForms.{form_choice}
 use Rattle.edif_spec.specs.declared.keyword.Keyword.TheVariants.{Comment, Contents, Designator, Instance, Property, UserData, ViewRef}
 use Rattle.edif_contents.specs.Inners.{ReadInst}
 use Rattle.edif_contents.proofs.FixedNodes.{two_of}
@@ -37,7 +39,7 @@ returns-in_err-name c = λ t at.
     let libs = c.args.libs.now.libs in
     let p = two_of c.args.tree.now.rows Contents Instance name_definition (the ViewRef) follows t c.in_ok-parts.parts refl refl refl (c.in_ok-parts.ensures t at) in
     handed_on (ReadInst libs c.args.own t) (NameFault p.fit.a) (InstFault libs c.args.own t) c.from_residual-in_err-name.result c.in_err-name.field-0.0 c.from_residual-in_err-name.ensures.1
-    (c.in_err-name.ensures p.fit.a (p.first (record { 0 = 0 }))) (λ f b. inr (inl (p.fit.a, p.fit.at_a, b)))
+    (c.in_err-name.ensures p.fit.a (p.first (record { 0 = 0 }))) (λ f b. stands.inst_name (p.fit.a, p.fit.at_a, b))
 
 pub bounds-parts-1 : goal.bounds-parts-1
 bounds-parts-1 c =
@@ -62,7 +64,7 @@ returns-in_err-of c = λ t at.
     let libs = c.args.libs.now.libs in
     let p = two_of c.args.tree.now.rows Contents Instance name_definition (the ViewRef) follows t c.in_ok-parts.parts refl refl refl (c.in_ok-parts.ensures t at) in
     handed_on (ReadInst libs c.args.own t) (ViewRefFault libs c.args.own p.fit.b) (InstFault libs c.args.own t) c.from_residual-in_err-of.result c.in_err-of.field-0.0 c.from_residual-in_err-of.ensures.1
-    (c.in_err-of.ensures p.fit.b (p.second (record { 0 = 0 }))) (λ f b. inr (inr (inl (p.fit.b, p.fit.at_b, b))))
+    (c.in_err-of.ensures p.fit.b (p.second (record { 0 = 0 }))) (λ f b. stands.inst_view (p.fit.b, p.fit.at_b, form_choice keywords.ViewRef p.fit.b p.fit.is_b, b))
 
 pub read_text_among-requires-clause-nodes : goal.read_text_among-requires-clause-nodes
 read_text_among-requires-clause-nodes c =

@@ -1,6 +1,6 @@
 use Rattle.std.proofs.Common.{◌≡◌, ◌≤◌, ℕ, List, length, suc, take, true, false, sym, ap, ◌∙◌, subst, inl, inr, arith}
 use Rattle.std.proofs.Math.Numerals.{add-one}
-use Rattle.spelling_spec.specs.Tree.{Placed, bare}
+use Rattle.spelling_spec.specs.Tree.{bare}
 use Rattle.edif_spec.specs.Design as design
 use Rattle.edif_spec.specs.Faults.{Beyond, those_of}
 use Rattle.edif_spec.specs.Means.{MeansInst}

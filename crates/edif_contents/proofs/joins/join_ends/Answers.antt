@@ -1,9 +1,7 @@
 use Rattle.std.proofs.Common.{◌++◌, List, ◌∙◌, None, arith}
 use Rattle.std.proofs.Math.Numerals.{add-one}
-use Rattle.std.specs.Prelude.{length}
 use Rattle.spelling_spec.specs.Tree.{Placed}
 use Rattle.edif_spec.specs.Design as design
-use Rattle.edif_spec.specs.declared.fault.MeaningFault.{MeaningFault}
 use Rattle.edif_contents.specs.Joins.{AreJoined, EndsFault, IsTwice}
 use Rattle.edif_parts.proofs.Answering.{hand_on}
 use Rattle.edif_contents.proofs.JoinLemmas.{end_step, joined_all, joined_step, joined_twice, over_limit}
@@ -18,9 +16,9 @@ pub place-place-requires : goal.place-place-requires
 place-place-requires c = stand_node c.args.tree.now.rows c.args.nodes.now c.requires.nodes.0 c.loop-index.index _ c.requires.nodes.1 (omega arith)
 
 pub returns-then-len-ge-MOST_ENDS : goal.returns-then-len-ge-MOST_ENDS
-returns-then-len-ge-MOST_ENDS c = λ libs ports insts ts us es st m h rest.
+returns-then-len-ge-MOST_ENDS c = λ libs ports insts ts us es st m h.
     let s = end_step libs ports insts c.args.tree.now.rows c.args.nodes.now us c.args.ends.now c.loop-index.index (record { 0 = 0 }) first_end st m c.loop-index-test.true in
-    over_limit libs ports insts c.args.tree.now.rows _ ts us rest es c.args.ends.now c.loop-index.joins c.loop-index.index c.place-place.result _ s (c.loop-index.invariant libs ports insts ts us es st m h) (c.place-place.ensures s.tree s.at ∙ place_same s.tree) (omega arith)
+    rw c.over_limit.ensures (λ rest. over_limit libs ports insts c.args.tree.now.rows _ ts us rest es c.args.ends.now c.loop-index.joins c.loop-index.index c.place-place.result _ s (c.loop-index.invariant libs ports insts ts us es st m h) (c.place-place.ensures s.tree s.at ∙ place_same s.tree) (omega arith))
 
 pub returns-in_err-add : goal.returns-in_err-add
 returns-in_err-add c = λ libs ports insts ts us es st m h.

@@ -2,7 +2,7 @@ use Rattle.std.proofs.Common.{◌≡◌, List, length, suc, take, sym, ap, ◌�
 use Rattle.std.proofs.Math.Numerals.{add-one}
 use Rattle.std.specs.List.{AllZip}
 use Rattle.std.specs.Prelude.{map}
-use Rattle.spelling_spec.specs.Tree.{Placed, bare}
+use Rattle.spelling_spec.specs.Tree.{bare}
 use Rattle.edif_spec.specs.Design as design
 use Rattle.edif_spec.specs.Faults.{Among}
 use Rattle.edif_spec.specs.Rows.{Each}

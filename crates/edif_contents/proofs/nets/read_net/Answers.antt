@@ -1,7 +1,10 @@
-use Rattle.std.proofs.Common.{List, [], ◌∷◌, refl, inl, inr, arith}
+use Rattle.std.proofs.Common.{List, [], ◌∷◌, refl, arith}
 use Rattle.edif_spec.specs.Keyword.{Follower, Many, name_definition, the}
 use Rattle.edif_spec.specs.Faults.{followers}
 use Rattle.edif_spec.specs.Stands.{JoinedFault, NameFault}
+use Rattle.edif_spec.specs.Stands as stands
+use Rattle.edif_spec.specs.declared.keyword.Keyword.TheVariants as keywords
+use Rattle.edif_spec.proofs.KnownForms.{form_choice}
 use Rattle.edif_spec.specs.declared.keyword.Keyword.TheVariants.{Comment, Contents, Joined, Net, Property, UserData}
 use Rattle.edif_contents.specs.Nets.{NetFaultIn, ReadNet}
 use Rattle.edif_parts.proofs.Answering.{hand_on}
@@ -38,7 +41,7 @@ returns-in_err-name c = λ t at.
     let s = c.args.around.now in
     let p = two_of c.args.tree.now.rows Contents Net name_definition (the Joined) follows t c.in_ok-parts.parts refl refl refl a in
     hand_on (ReadNet c.args.tree.now.rows s t) (NameFault p.fit.a) (NetFaultIn s t) c.from_residual-in_err-name.result c.in_err-name.field-0.0 c.from_residual-in_err-name.ensures.1
-    (λ f b. inr (inl (p.fit.a, p.fit.at_a, b))) (c.in_err-name.ensures p.fit.a (p.first (record { 0 = 0 })))
+    (λ f b. stands.net_name (p.fit.a, p.fit.at_a, b)) (c.in_err-name.ensures p.fit.a (p.first (record { 0 = 0 })))
 
 pub bounds-parts-1 : goal.bounds-parts-1
 bounds-parts-1 c =
@@ -64,7 +67,7 @@ returns-in_err-joined c = λ t at.
     let s = c.args.around.now in
     let p = two_of c.args.tree.now.rows Contents Net name_definition (the Joined) follows t c.in_ok-parts.parts refl refl refl a in
     hand_on (ReadNet c.args.tree.now.rows s t) (JoinedFault s.libs.now.libs s.ports.now s.insts.now p.fit.b) (NetFaultIn s t) c.from_residual-in_err-joined.result c.in_err-joined.field-0.0 c.from_residual-in_err-joined.ensures.1
-    (λ f b. inr (inr (inl (p.fit.b, p.fit.at_b, b)))) (c.in_err-joined.ensures p.fit.b (p.second (record { 0 = 0 })))
+    (λ f b. stands.net_joined (p.fit.b, p.fit.at_b, form_choice keywords.Joined p.fit.b p.fit.is_b, b)) (c.in_err-joined.ensures p.fit.b (p.second (record { 0 = 0 })))
 
 pub returns : goal.returns
 returns c = λ t at.

@@ -12,7 +12,7 @@ use Rattle.edif_parts.specs.Names.{IsAgain}
 use Rattle.edif_contents.specs.Nets.{IsFine, MeansNetIn, NetFaultIn, NetsFaultIn, ReadNets}
 use Rattle.edif_parts.specs.declared.error.EdifError.TheVariants as errors
 use Rattle.edif_parts.proofs.Answering.{hand_on}
-use Rattle.edif_contents.proofs.InsideLoops.{AreJoinedIn, EndsFaultIn, NetsSoFar, ends_fail, ends_of, forms_beyond, net_ends_are, net_ends_count, net_name, nets_end, nets_push, nets_skip, nets_start, refs_in}
+use Rattle.edif_contents.proofs.InsideLoops.{EndsFaultIn, NetsSoFar, ends_fail, ends_of, forms_beyond, net_ends_are, net_ends_count, net_name, nets_end, nets_push, nets_skip, nets_start, refs_in}
 use Rattle.edif_parts.proofs.NamedForms.{forms_again}
 use Rattle.edif_contents.proofs.RefLemmas.{place_same}
 use Rattle.edif_grammar.proofs.StandLemmas.{stand_node}

@@ -1,6 +1,4 @@
-use Rattle.std.proofs.Common.{◌≡◌, ◌∷◌, [], List, subst, refl, inl, inr, ◌<◌, length, arith}
-use Rattle.edif_spec.specs.Keyword.{Takes, identifier, row}
-use Rattle.edif_spec.specs.declared.keyword.Keyword.{Keyword}
+use Rattle.std.proofs.Common.{arith}
 use Rattle.edif_contents.proofs.RefLemmas.{reference_parts, reference_means, word_there}
 use Rattle.edif_contents.proofs.references.read_reference.Goals as goal
 

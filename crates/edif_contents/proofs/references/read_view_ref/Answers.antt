@@ -1,9 +1,12 @@
-use Rattle.std.proofs.Common.{[], ◌∷◌, refl, inl, inr, arith}
+use Rattle.std.proofs.Common.{[], ◌∷◌, refl, arith}
 use Rattle.spelling_spec.specs.Tree.{Word', bare}
 use Rattle.edif_spec.specs.Design as design
 use Rattle.edif_spec.specs.Keyword.{identifier, the}
 use Rattle.edif_spec.specs.Means.{MeansViewRef}
 use Rattle.edif_spec.specs.Stands.{CellRefFault, Dangles, ViewRefFault}
+use Rattle.edif_spec.specs.Stands as stands
+use Rattle.edif_spec.specs.declared.keyword.Keyword.TheVariants as keywords
+use Rattle.edif_spec.proofs.KnownForms.{form_choice}
 use Rattle.edif_spec.specs.declared.keyword.Keyword.TheVariants.{CellRef, Instance, ViewRef}
 use Rattle.edif_contents.proofs.FixedNodes.{two_of}
 use Rattle.edif_contents.proofs.RefLemmas.{form_there, handed_on, view_fails, view_ref_means, word_there}
@@ -32,7 +35,7 @@ returns-in_err-cell c = λ t at.
     let libs = c.args.libs.now.libs in
     let p = two_of c.args.tree.now.rows Instance ViewRef identifier (the CellRef) [] t c.in_ok-parts.parts refl refl refl (c.in_ok-parts.ensures t at) in
     handed_on (MeansViewRef libs c.args.own (bare t)) (CellRefFault libs c.args.own p.fit.b) (ViewRefFault libs c.args.own t) c.from_residual-in_err-cell.result c.in_err-cell.field-0.0 c.from_residual-in_err-cell.ensures.1
-    (c.in_err-cell.ensures p.fit.b (p.second (record { 0 = 0 }))) (λ f b. inr (inl (p.fit.b, p.fit.at_b, b)))
+    (c.in_err-cell.ensures p.fit.b (p.second (record { 0 = 0 }))) (λ f b. stands.view_ref_cell (p.fit.b, p.fit.at_b, form_choice keywords.CellRef p.fit.b p.fit.is_b, b))
 
 pub bounds-parts-0 : goal.bounds-parts-0
 bounds-parts-0 c =

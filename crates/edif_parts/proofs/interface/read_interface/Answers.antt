@@ -2,6 +2,7 @@ use Rattle.std.proofs.Common.{[], ◌∷◌, refl, inl, inr, Some}
 use Rattle.edif_spec.specs.Faults.{followers, parts}
 use Rattle.edif_spec.specs.Keyword.{Many}
 use Rattle.edif_spec.specs.Stands.{InterfaceFault, PropertiesFault}
+use Rattle.edif_spec.specs.Stands as stands
 use Rattle.edif_spec.specs.declared.keyword.Keyword.TheVariants as keywords
 use Rattle.edif_parts.specs.Interfaces.{PortsFault, ReadInterface}
 use Rattle.edif_parts.proofs.Answering.{hand_on}
@@ -24,14 +25,14 @@ pub returns-in_err-ports : goal.returns-in_err-ports
 returns-in_err-ports c = λ t a.
     let p = c.in_ok-parts.ensures t a in
     hand_on (ReadInterface t) (PortsFault (parts keywords.Interface keywords.Port t)) (InterfaceFault t) c.from_residual-in_err-ports.result c.in_err-ports.field-0.0 c.from_residual-in_err-ports.ensures.1
-    (λ f h. inr (elim h [ inl x ↦ inl x | inr x ↦ inr (elim x [ inl y ↦ inl y | inr y ↦ inr (elim y [ inl z ↦ inl z | inr z ↦ inr (inl z) ]) ]) ]))
+    (λ f h. elim h [ inl x ↦ stands.interface_port x | inr x ↦ elim x [ inl y ↦ stands.port_again y | inr y ↦ elim y [ inl z ↦ stands.many_ports z | inr z ↦ stands.many_bits z ] ] ])
     (c.in_err-ports.ensures (followers keywords.Interface t) p.inner)
 
 pub returns-in_err-properties : goal.returns-in_err-properties
 returns-in_err-properties c = λ t a.
     let p = c.in_ok-parts.ensures t a in
     hand_on (ReadInterface t) (PropertiesFault (parts keywords.Interface keywords.Property t)) (InterfaceFault t) c.from_residual-in_err-properties.result c.in_err-properties.field-0.0 c.from_residual-in_err-properties.ensures.1
-    (λ f h. inr (inr (inr (inr (inr h)))))
+    (λ f h. stands.interface_properties h)
     (c.in_err-properties.ensures (followers keywords.Interface t) p.inner)
 
 pub returns : goal.returns

@@ -1,6 +1,6 @@
 use Rattle.std.proofs.Common.{ap, ◌∙◌}
 use Rattle.edif_spec.specs.Keyword.{same}
-use Rattle.edif_parts.proofs.WordLemmas.{one_test, same_says, says_same}
+use Rattle.edif_spec.proofs.SameLemmas.{one_test, same_says, says_same}
 use Rattle.edif_parts.proofs.parts.is_word.Goals as goal
 
 pub returns : goal.returns

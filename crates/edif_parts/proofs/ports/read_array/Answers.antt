@@ -1,13 +1,14 @@
-use Rattle.std.proofs.Common.{◌≡◌, ℕ, ℤ, pos, sym, ap, ◌∙◌, subst, ◌⊎◌, inl, inr, arith}
+use Rattle.std.proofs.Common.{◌≡◌, ℕ, ℤ, pos, sym, ap, ◌∙◌, subst, arith}
 use Rattle.std.specs.Prelude.{IsTrue}
 use Rattle.std.proofs.lemmas.Int.{to_z-of_z}
 use Rattle.std.specs.Int.{w64}
 use Rattle.spelling_spec.specs.Tree.{Placed, Integer', bare}
 use Rattle.netlist_schema.specs.Width.{IsWidth}
-use Rattle.edif_spec.specs.Faults.{InPart, RowFault, place_of}
+use Rattle.edif_spec.specs.Faults.{place_of}
 use Rattle.edif_spec.specs.Keyword.{AnInteger, name_definition}
 use Rattle.edif_spec.specs.Rows.{is_choice, is_one_of}
-use Rattle.edif_spec.specs.Stands.{NameFault, SizeFault}
+use Rattle.edif_spec.specs.Stands.{NameFault, PortNameFault}
+use Rattle.edif_spec.specs.Stands as stands
 use Rattle.edif_spec.specs.declared.keyword.Keyword.TheVariants as keywords
 use Rattle.edif_spec.proofs.KnownForms.{only}
 use Rattle.edif_tree.proofs.OneTree.{one_at}
@@ -63,8 +64,8 @@ place-requires c =
 pub returns-in_err-name : goal.returns-in_err-name
 returns-in_err-name c = λ t a.
     let n = array_nodes c.args.tree.now.rows keywords.Port t c.in_ok-parts.parts (c.in_ok-parts.ensures t a) in
-    hand_on (ReadPortName t) (NameFault n.a) (λ f. RowFault keywords.Array t f ⊎ (InPart 0 NameFault t f ⊎ InPart 1 SizeFault t f)) c.from_residual-in_err-name.result c.in_err-name.field-0.0 c.from_residual-in_err-name.ensures.1
-    (λ f h. inr (inl (n.a, n.at_a, h)))
+    hand_on (ReadPortName t) (NameFault n.a) (PortNameFault t) c.from_residual-in_err-name.result c.in_err-name.field-0.0 c.from_residual-in_err-name.ensures.1
+    (λ f h. stands.array_name (c.requires.keyword t a) (n.a, n.at_a, h))
     (c.in_err-name.ensures n.a (n.node_a _))
 
 pub returns-in_default : goal.returns-in_default
@@ -73,7 +74,7 @@ returns-in_default c = λ t a.
     let z = to_z-of_z w64 c.integer_at.result c.integer_at.ensures.typed in
     let Q : ℤ → Type 0 = λ v. (w : ℕ) → v ≡ pos w → IsWidth w → ⊥ in
     let p : c.place.result ≡ place_of n.b = c.place.ensures n.b (n.node_b _) in
-    inr (inr (size_fault c.args.tree.now.rows t c.in_ok-parts.parts n c.place.result c.integer_at.result (c.integer_at.ensures.value n.b (n.node_b _) ∙ ap (λ v. Integer' v c.integer_at.result) (sym p)) (subst Q z c.in_default.ensures.none)))
+    rw c.fault_at.ensures (stands.array_size (c.requires.keyword t a) (size_fault c.args.tree.now.rows t c.in_ok-parts.parts n c.place.result c.integer_at.result (c.integer_at.ensures.value n.b (n.node_b _) ∙ ap (λ v. Integer' v c.integer_at.result) (sym p)) (subst Q z c.in_default.ensures.none)))
 
 pub returns : goal.returns
 returns c = λ t a.

@@ -1,4 +1,4 @@
-use Rattle.std.proofs.Common.{◌≡◌, subst, inl, inr, Some, arith}
+use Rattle.std.proofs.Common.{◌≡◌, subst, Some, arith}
 use Rattle.std.specs.Prelude.{IsTrue}
 use Rattle.spelling_spec.specs.Tree.{Placed, bare}
 use Rattle.netlist_schema.specs.Names.{HasDistinctKeys}
@@ -8,6 +8,7 @@ use Rattle.edif_spec.specs.Faults.{Among, RowFault, defined, followers, parts}
 use Rattle.edif_spec.specs.Means.{MeansPort}
 use Rattle.edif_spec.specs.Rows.{is_one_of}
 use Rattle.edif_spec.specs.Stands.{DirectionFault, PortFault, PortNameFault, PropertiesFault}
+use Rattle.edif_spec.specs.Stands as stands
 use Rattle.edif_spec.specs.declared.keyword.Keyword.TheVariants as keywords
 use Rattle.edif_tree.proofs.OneTree.{one_at}
 use Rattle.edif_parts.specs.Ports.{port_names}
@@ -55,22 +56,22 @@ read_properties-requires c =
 pub returns-in_err-named : goal.returns-in_err-named
 returns-in_err-named c = λ t a.
     let n = port_node c.args.tree.now.rows keywords.Interface t c.in_ok-parts.parts (c.in_ok-parts.ensures t a) in
-    hand_on (λ x. MeansPort (bare t) x.port × (IsTypedPort x.port × HasDistinctKeys x.port.properties) × (defined t ≡ Some (x.port.name.id, x.place))) (PortNameFault n.a) (PortFault t) c.from_residual-in_err-named.result c.in_err-named.field-0.0 c.from_residual-in_err-named.ensures.1 (λ f h. inr (inl (n.a, n.at_a, h))) (c.in_err-named.ensures n.a (n.node _))
+    hand_on (λ x. MeansPort (bare t) x.port × (IsTypedPort x.port × HasDistinctKeys x.port.properties) × (defined t ≡ Some (x.port.name.id, x.place))) (PortNameFault n.a) (PortFault t) c.from_residual-in_err-named.result c.in_err-named.field-0.0 c.from_residual-in_err-named.ensures.1 (λ f h. stands.port_name (n.a, n.at_a, h)) (c.in_err-named.ensures n.a (n.node _))
 
 pub returns-in_err-direction : goal.returns-in_err-direction
 returns-in_err-direction c = λ t a.
     let n = port_node c.args.tree.now.rows keywords.Interface t c.in_ok-parts.parts (c.in_ok-parts.ensures t a) in
-    hand_on (λ x. MeansPort (bare t) x.port × (IsTypedPort x.port × HasDistinctKeys x.port.properties) × (defined t ≡ Some (x.port.name.id, x.place))) (Among DirectionFault (parts keywords.Port keywords.Direction t)) (PortFault t) c.from_residual-in_err-direction.result c.in_err-direction.field-0.0 c.from_residual-in_err-direction.ensures.1 (λ f h. inr (inr (inl h))) (c.in_err-direction.ensures (followers keywords.Port t) (c.in_ok-parts.ensures t a).inner)
+    hand_on (λ x. MeansPort (bare t) x.port × (IsTypedPort x.port × HasDistinctKeys x.port.properties) × (defined t ≡ Some (x.port.name.id, x.place))) (Among DirectionFault (parts keywords.Port keywords.Direction t)) (PortFault t) c.from_residual-in_err-direction.result c.in_err-direction.field-0.0 c.from_residual-in_err-direction.ensures.1 (λ f h. stands.port_direction h) (c.in_err-direction.ensures (followers keywords.Port t) (c.in_ok-parts.ensures t a).inner)
 
 pub returns-in_err-designator : goal.returns-in_err-designator
 returns-in_err-designator c = λ t a.
     let n = port_node c.args.tree.now.rows keywords.Interface t c.in_ok-parts.parts (c.in_ok-parts.ensures t a) in
-    hand_on (λ x. MeansPort (bare t) x.port × (IsTypedPort x.port × HasDistinctKeys x.port.properties) × (defined t ≡ Some (x.port.name.id, x.place))) (Among (RowFault keywords.Designator) (parts keywords.Port keywords.Designator t)) (PortFault t) c.from_residual-in_err-designator.result c.in_err-designator.field-0.0 c.from_residual-in_err-designator.ensures.1 (λ f h. inr (inr (inr (inl h)))) (c.in_err-designator.ensures (followers keywords.Port t) (c.in_ok-parts.ensures t a).inner)
+    hand_on (λ x. MeansPort (bare t) x.port × (IsTypedPort x.port × HasDistinctKeys x.port.properties) × (defined t ≡ Some (x.port.name.id, x.place))) (Among (RowFault keywords.Designator) (parts keywords.Port keywords.Designator t)) (PortFault t) c.from_residual-in_err-designator.result c.in_err-designator.field-0.0 c.from_residual-in_err-designator.ensures.1 (λ f h. stands.port_designator h) (c.in_err-designator.ensures (followers keywords.Port t) (c.in_ok-parts.ensures t a).inner)
 
 pub returns-in_err-properties : goal.returns-in_err-properties
 returns-in_err-properties c = λ t a.
     let n = port_node c.args.tree.now.rows keywords.Interface t c.in_ok-parts.parts (c.in_ok-parts.ensures t a) in
-    hand_on (λ x. MeansPort (bare t) x.port × (IsTypedPort x.port × HasDistinctKeys x.port.properties) × (defined t ≡ Some (x.port.name.id, x.place))) (PropertiesFault (parts keywords.Port keywords.Property t)) (PortFault t) c.from_residual-in_err-properties.result c.in_err-properties.field-0.0 c.from_residual-in_err-properties.ensures.1 (λ f h. inr (inr (inr (inr h)))) (c.in_err-properties.ensures (followers keywords.Port t) (c.in_ok-parts.ensures t a).inner)
+    hand_on (λ x. MeansPort (bare t) x.port × (IsTypedPort x.port × HasDistinctKeys x.port.properties) × (defined t ≡ Some (x.port.name.id, x.place))) (PropertiesFault (parts keywords.Port keywords.Property t)) (PortFault t) c.from_residual-in_err-properties.result c.in_err-properties.field-0.0 c.from_residual-in_err-properties.ensures.1 (λ f h. stands.port_properties h) (c.in_err-properties.ensures (followers keywords.Port t) (c.in_ok-parts.ensures t a).inner)
 
 pub returns : goal.returns
 returns c = λ t a.

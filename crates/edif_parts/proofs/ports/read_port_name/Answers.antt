@@ -1,18 +1,15 @@
-use Rattle.std.proofs.Common.{◌≡◌, true, sym, ◌⊎◌, inl, inr}
+use Rattle.std.proofs.Common.{sym}
 use Rattle.spelling_spec.specs.Tree.{bare}
-use Rattle.edif_spec.specs.Faults.{InPart, RowFault}
-use Rattle.edif_spec.specs.Rows.{has_keyword}
-use Rattle.edif_spec.specs.Stands.{NameFault, PortNameFault, SizeFault}
-use Rattle.edif_spec.specs.declared.keyword.Keyword.TheVariants as keywords
+use Rattle.edif_spec.specs.Stands.{NameFault, PortNameFault}
+use Rattle.edif_spec.specs.Stands as stands
 use Rattle.edif_parts.specs.Ports.{ReadPortName}
-use Rattle.edif_parts.proofs.Answering.{hand_on, answers_more}
+use Rattle.edif_parts.proofs.Answering.{hand_on}
 use Rattle.edif_parts.proofs.PortForms.{plain_choice, plain_means}
 use Rattle.edif_parts.proofs.ports.read_port_name.Goals as goal
 
 pub returns-then-is_form_of : goal.returns-then-is_form_of
 returns-then-is_form_of c = λ t a.
-    let k : has_keyword keywords.Array (bare t) ≡ true = sym (c.if-is_form_of.ensures t a) in
-    answers_more (ReadPortName t) (ReadPortName t) (λ f. RowFault keywords.Array t f ⊎ (InPart 0 NameFault t f ⊎ InPart 1 SizeFault t f)) (PortNameFault t) c.read_array.result (λ n h. h) (λ f h. inr (k, h)) (c.read_array.ensures t a)
+    c.read_array.ensures t a
 
 pub read_name-requires-clause-choice : goal.read_name-requires-clause-choice
 read_name-requires-clause-choice c = λ u b.
@@ -20,7 +17,7 @@ read_name-requires-clause-choice c = λ u b.
 
 pub returns-in_err-name : goal.returns-in_err-name
 returns-in_err-name c = λ t a.
-    hand_on (ReadPortName t) (NameFault t) (PortNameFault t) c.from_residual.result c.in_err-name.field-0.0 c.from_residual.ensures.1 (λ f h. inl h) (c.in_err-name.ensures t a)
+    hand_on (ReadPortName t) (NameFault t) (PortNameFault t) c.from_residual.result c.in_err-name.field-0.0 c.from_residual.ensures.1 (λ f h. stands.scalar_name h) (c.in_err-name.ensures t a)
 
 pub returns : goal.returns
 returns c = λ t a.

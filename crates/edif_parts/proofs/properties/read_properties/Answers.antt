@@ -1,4 +1,4 @@
-use Rattle.std.proofs.Common.{◌≡◌, ℕ, List, suc, take, true, false, sym, ap, ◌∙◌, subst, inl, inr, arith}
+use Rattle.std.proofs.Common.{◌≡◌, ℕ, List, suc, take, true, false, sym, ap, ◌∙◌, subst, arith}
 use Rattle.std.specs.Prelude.{map}
 use Rattle.std.specs.List.{All}
 use Rattle.std.proofs.Math.Numerals.{add-one}
@@ -10,6 +10,7 @@ use Rattle.edif_spec.specs.Faults.{those_of}
 use Rattle.edif_spec.specs.Means.{MeansProperties, MeansProperty}
 use Rattle.edif_spec.specs.Rows.{has_keyword}
 use Rattle.edif_spec.specs.Stands.{PropertiesFault, PropertyFault}
+use Rattle.edif_spec.specs.Stands as stands
 use Rattle.edif_spec.specs.declared.keyword.Keyword.TheVariants as keywords
 use Rattle.edif_parts.specs.Names.{IsAgain}
 use Rattle.edif_parts.proofs.Answering.{hand_on}
@@ -36,7 +37,7 @@ returns-in_err-read c = λ ts st.
     let s = step_at c.args.tree.now.rows c.args.inner.now ts c.loop-node.node-index (record { 0 = 0 }) st c.loop-node-test.true in
     let k : has_keyword keywords.Property (bare s.tree) ≡ true = sym (c.if-is_form_of.ensures s.tree s.at) in
     hand_on (λ ps. MeansProperties (map bare ts) ps × All IsTypedProperty ps × HasDistinctKeys ps) (PropertyFault s.tree) (PropertiesFault (those_of keywords.Property ts)) c.from_residual.result c.in_err-read.field-0.0 c.from_residual.ensures.1
-    (λ f h. inl (fault_here PropertyFault keywords.Property ts c.loop-node.node-index s f k h))
+    (λ f h. stands.one_property (fault_here PropertyFault keywords.Property ts c.loop-node.node-index s f k h))
     (c.in_err-read.ensures s.tree s.at)
 
 pub returns-in_err-add : goal.returns-in_err-add
@@ -45,7 +46,7 @@ returns-in_err-add c = λ ts st.
     let k : has_keyword keywords.Property (bare s.tree) ≡ true = sym (c.if-is_form_of.ensures s.tree s.at) in
     let m = c.in_ok-read.ensures s.tree s.at in
     hand_on (λ ps. MeansProperties (map bare ts) ps × All IsTypedProperty ps × HasDistinctKeys ps) (IsAgain c.loop-node.names c.in_ok-read.read.property.key.id c.in_ok-read.read.place) (PropertiesFault (those_of keywords.Property ts)) c.from_residual-in_err-add.result c.in_err-add.field-0.0 c.from_residual-in_err-add.ensures.1
-    (λ f h. inr (forms_again MeansProperty IsTypedProperty (λ (p : Property). p.key.id) keywords.Property ts c.loop-node.node-index s c.loop-node.properties.items c.loop-node.names c.in_ok-read.read.property.key.id c.in_ok-read.read.place f k m.2 (c.loop-node.invariant ts st) h))
+    (λ f h. stands.key_again (forms_again MeansProperty IsTypedProperty (λ (p : Property). p.key.id) keywords.Property ts c.loop-node.node-index s c.loop-node.properties.items c.loop-node.names c.in_ok-read.read.property.key.id c.in_ok-read.read.place f k m.2 (c.loop-node.invariant ts st) h))
     c.in_err-add.ensures.err.0
 
 pub loop-node-preserved : goal.loop-node-preserved

@@ -1,4 +1,4 @@
-use Rattle.std.proofs.Common.{◌≡◌, subst, inl, inr, Some, arith}
+use Rattle.std.proofs.Common.{◌≡◌, subst, Some, arith}
 use Rattle.std.specs.Prelude.{IsTrue}
 use Rattle.spelling_spec.specs.Tree.{Placed, bare}
 use Rattle.netlist_schema.specs.Types.{Property}
@@ -8,6 +8,7 @@ use Rattle.edif_spec.specs.Keyword.{name_definition}
 use Rattle.edif_spec.specs.Means.{MeansProperty}
 use Rattle.edif_spec.specs.Rows.{is_one_of}
 use Rattle.edif_spec.specs.Stands.{InValue, NameFault, PropertyFault}
+use Rattle.edif_spec.specs.Stands as stands
 use Rattle.edif_spec.specs.declared.keyword.Keyword.TheVariants as keywords
 use Rattle.edif_tree.proofs.OneTree.{one_at}
 use Rattle.edif_parts.specs.Values.{value_forms}
@@ -62,17 +63,17 @@ read_text_among-requires-clause-nodes c =
 pub returns-in_err-key : goal.returns-in_err-key
 returns-in_err-key c = λ t a.
     let n = property_nodes c.args.tree.now.rows keywords.Cell t c.in_ok-parts.parts (c.in_ok-parts.ensures t a) in
-    hand_on (λ x. MeansProperty (bare t) x.property × IsTypedProperty x.property × (defined t ≡ Some (x.property.key.id, x.place))) (NameFault n.a) (PropertyFault t) c.from_residual-in_err-key.result c.in_err-key.field-0.0 c.from_residual-in_err-key.ensures.1 (λ f h. inr (inl (n.a, n.at_a, h))) (c.in_err-key.ensures n.a (n.node_a _))
+    hand_on (λ x. MeansProperty (bare t) x.property × IsTypedProperty x.property × (defined t ≡ Some (x.property.key.id, x.place))) (NameFault n.a) (PropertyFault t) c.from_residual-in_err-key.result c.in_err-key.field-0.0 c.from_residual-in_err-key.ensures.1 (λ f h. stands.property_key (n.a, n.at_a, h)) (c.in_err-key.ensures n.a (n.node_a _))
 
 pub returns-in_err-value : goal.returns-in_err-value
 returns-in_err-value c = λ t a.
     let n = property_nodes c.args.tree.now.rows keywords.Cell t c.in_ok-parts.parts (c.in_ok-parts.ensures t a) in
-    hand_on (λ x. MeansProperty (bare t) x.property × IsTypedProperty x.property × (defined t ≡ Some (x.property.key.id, x.place))) (InValue n.b) (PropertyFault t) c.from_residual-in_err-value.result c.in_err-value.field-0.0 c.from_residual-in_err-value.ensures.1 (λ f h. inr (inr (inl (n.b, n.at_b, h)))) (c.in_err-value.ensures n.b (n.node_b _))
+    hand_on (λ x. MeansProperty (bare t) x.property × IsTypedProperty x.property × (defined t ≡ Some (x.property.key.id, x.place))) (InValue n.b) (PropertyFault t) c.from_residual-in_err-value.result c.in_err-value.field-0.0 c.from_residual-in_err-value.ensures.1 (λ f h. stands.property_value (n.b, n.at_b, h)) (c.in_err-value.ensures n.b (n.node_b _))
 
 pub returns-in_err-owner : goal.returns-in_err-owner
 returns-in_err-owner c = λ t a.
     let n = property_nodes c.args.tree.now.rows keywords.Cell t c.in_ok-parts.parts (c.in_ok-parts.ensures t a) in
-    hand_on (λ x. MeansProperty (bare t) x.property × IsTypedProperty x.property × (defined t ≡ Some (x.property.key.id, x.place))) (Among (RowFault keywords.Owner) (parts keywords.Property keywords.Owner t)) (PropertyFault t) c.from_residual-in_err-owner.result c.in_err-owner.field-0.0 c.from_residual-in_err-owner.ensures.1 (λ f h. inr (inr (inr h))) (c.in_err-owner.ensures (followers keywords.Property t) (c.in_ok-parts.ensures t a).inner)
+    hand_on (λ x. MeansProperty (bare t) x.property × IsTypedProperty x.property × (defined t ≡ Some (x.property.key.id, x.place))) (Among (RowFault keywords.Owner) (parts keywords.Property keywords.Owner t)) (PropertyFault t) c.from_residual-in_err-owner.result c.in_err-owner.field-0.0 c.from_residual-in_err-owner.ensures.1 (λ f h. stands.property_owner h) (c.in_err-owner.ensures (followers keywords.Property t) (c.in_ok-parts.ensures t a).inner)
 
 pub returns : goal.returns
 returns c = λ t a.

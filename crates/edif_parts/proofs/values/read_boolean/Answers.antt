@@ -1,11 +1,11 @@
-use Rattle.std.proofs.Common.{◌≡◌, true, false, sym, subst, inl, inr, arith}
-use Rattle.std.specs.Prelude.{◌⊎◌}
+use Rattle.std.proofs.Common.{◌≡◌, true, false, sym, subst, arith}
 use Rattle.spelling_spec.specs.Tree.{Placed, bare}
 use Rattle.netlist_schema.specs.declared.property.Value.TheVariants as values
-use Rattle.edif_spec.specs.Faults.{InPart, RowFault}
+use Rattle.edif_spec.specs.Faults.{RowFault}
 use Rattle.edif_spec.specs.Means.{MeansValue}
 use Rattle.edif_spec.specs.Rows.{has_keyword}
-use Rattle.edif_spec.specs.Stands.{BooleanFault}
+use Rattle.edif_spec.specs.Stands.{InValue}
+use Rattle.edif_spec.specs.Stands as stands
 use Rattle.edif_spec.specs.declared.keyword.Keyword.TheVariants as keywords
 use Rattle.edif_tree.proofs.OneTree.{one_at}
 use Rattle.edif_parts.proofs.Answering.{hand_on}
@@ -46,15 +46,15 @@ read_parts-requires-else-is_form_of-clause-keyword c = λ u b.
 pub returns-in_err-read_parts : goal.returns-in_err-read_parts
 returns-in_err-read_parts c = λ t a.
     let n = boolean_node c.args.tree.now.rows keywords.Property t c.in_ok-parts.parts (c.in_ok-parts.ensures t a) in
-    hand_on (λ b. MeansValue (bare t) (values.Boolean b)) (RowFault keywords.True n.a) (λ f. RowFault keywords.Boolean t f ⊎ InPart 0 BooleanFault t f) c.from_residual-in_err-read_parts.result c.in_err-read_parts.field-0.0 c.from_residual-in_err-read_parts.ensures.1
-    (λ f h. inr (n.a, n.at_a, inl ((sym (c.if-is_form_of.ensures n.a (n.node _))), h)))
+    hand_on (λ b. MeansValue (bare t) (values.Boolean b)) (RowFault keywords.True n.a) (InValue t) c.from_residual-in_err-read_parts.result c.in_err-read_parts.field-0.0 c.from_residual-in_err-read_parts.ensures.1
+    (λ f h. stands.boolean_truth (c.requires.keyword t a) (n.a, n.at_a, stands.true_row (sym (c.if-is_form_of.ensures n.a (n.node _))) h))
     (c.in_err-read_parts.ensures n.a (n.node _))
 
 pub returns-in_err-read_parts-2 : goal.returns-in_err-read_parts-2
 returns-in_err-read_parts-2 c = λ t a.
     let n = boolean_node c.args.tree.now.rows keywords.Property t c.in_ok-parts.parts (c.in_ok-parts.ensures t a) in
-    hand_on (λ b. MeansValue (bare t) (values.Boolean b)) (RowFault keywords.False n.a) (λ f. RowFault keywords.Boolean t f ⊎ InPart 0 BooleanFault t f) c.from_residual-in_err-read_parts-2.result c.in_err-read_parts-2.field-0.0 c.from_residual-in_err-read_parts-2.ensures.1
-    (λ f h. inr (n.a, n.at_a, inr ((is_false (bare n.a) n.is_a (sym (c.if-is_form_of.ensures n.a (n.node _)))), h)))
+    hand_on (λ b. MeansValue (bare t) (values.Boolean b)) (RowFault keywords.False n.a) (InValue t) c.from_residual-in_err-read_parts-2.result c.in_err-read_parts-2.field-0.0 c.from_residual-in_err-read_parts-2.ensures.1
+    (λ f h. stands.boolean_truth (c.requires.keyword t a) (n.a, n.at_a, stands.false_row (is_false (bare n.a) n.is_a (sym (c.if-is_form_of.ensures n.a (n.node _)))) h))
     (c.in_err-read_parts-2.ensures n.a (n.node _))
 
 pub returns-in_ok-read_parts : goal.returns-in_ok-read_parts

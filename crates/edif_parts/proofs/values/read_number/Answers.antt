@@ -1,16 +1,17 @@
-use Rattle.std.proofs.Common.{ℤ, sym, subst, inr, arith}
-use Rattle.std.specs.Prelude.{IsTrue, ◌⊎◌}
+use Rattle.std.proofs.Common.{ℤ, sym, subst, arith}
+use Rattle.std.specs.Prelude.{IsTrue}
 use Rattle.std.specs.Int.{w64}
 use Rattle.std.proofs.lemmas.Int.{to_z-of_z}
 use Rattle.spelling_spec.specs.Tree.{Placed, bare}
 use Rattle.netlist_schema.specs.declared.property.Value.TheVariants as values
 use Rattle.netlist_schema.specs.declared.property.Num.TheVariants as numbers
 use Rattle.netlist_schema.specs.Typed.{IsTypedNum}
-use Rattle.edif_spec.specs.Faults.{InPart, RowFault, place_of}
+use Rattle.edif_spec.specs.Faults.{place_of}
 use Rattle.edif_spec.specs.Keyword.{AnInteger}
 use Rattle.edif_spec.specs.Means.{MeansNumber, MeansValue}
 use Rattle.edif_spec.specs.Rows.{is_choice}
-use Rattle.edif_spec.specs.Stands.{NumberFault}
+use Rattle.edif_spec.specs.Stands.{InValue, NumberFault}
+use Rattle.edif_spec.specs.Stands as stands
 use Rattle.edif_spec.specs.declared.keyword.Keyword.TheVariants as keywords
 use Rattle.edif_tree.proofs.OneTree.{one_at}
 use Rattle.edif_parts.proofs.Answering.{answers_more}
@@ -51,9 +52,9 @@ integer_at-requires-clause-integer c = λ u b.
 pub returns-then-is_form_of : goal.returns-then-is_form_of
 returns-then-is_form_of c = λ t a.
     let n = number_node c.args.tree.now.rows keywords.Property t c.in_ok-parts.parts (c.in_ok-parts.ensures t a) in
-    answers_more (λ x. MeansNumber (bare n.a) x × IsTypedNum x) (λ x. MeansValue (bare t) (values.Number x) × IsTypedNum x) (NumberFault n.a) (λ f. RowFault keywords.Number t f ⊎ InPart 0 NumberFault t f) c.read_scaled.result
+    answers_more (λ x. MeansNumber (bare n.a) x × IsTypedNum x) (λ x. MeansValue (bare t) (values.Number x) × IsTypedNum x) (NumberFault n.a) (InValue t) c.read_scaled.result
     (λ x h. (number_means c.args.tree.now.rows t c.in_ok-parts.parts n x h.0, h.1))
-    (λ f h. inr (n.a, n.at_a, h))
+    (λ f h. stands.number_scaled (c.requires.keyword t a) (n.a, n.at_a, h))
     (c.read_scaled.ensures n.a (n.node _))
 
 pub returns-else-is_form_of : goal.returns-else-is_form_of

@@ -1,11 +1,10 @@
-use Rattle.std.proofs.Common.{◌≡◌, true, sym, inl, inr}
-use Rattle.std.specs.Prelude.{◌⊎◌}
+use Rattle.std.proofs.Common.{sym}
 use Rattle.spelling_spec.specs.Tree.{bare}
 use Rattle.netlist_schema.specs.Typed.{IsTypedValue}
-use Rattle.edif_spec.specs.Faults.{InPart, RowFault}
+use Rattle.edif_spec.specs.Faults.{RowFault}
 use Rattle.edif_spec.specs.Means.{MeansValue}
-use Rattle.edif_spec.specs.Rows.{has_keyword}
-use Rattle.edif_spec.specs.Stands.{BooleanFault, InValue, NumberFault}
+use Rattle.edif_spec.specs.Stands.{InValue}
+use Rattle.edif_spec.specs.Stands as stands
 use Rattle.edif_spec.specs.declared.keyword.Keyword.TheVariants as keywords
 use Rattle.edif_parts.proofs.Answering.{hand_on}
 use Rattle.edif_parts.proofs.ValueForms.{is_string}
@@ -13,18 +12,15 @@ use Rattle.edif_parts.proofs.values.read_value.Goals as goal
 
 pub returns-in_err-truth : goal.returns-in_err-truth
 returns-in_err-truth c = λ t a.
-    let k : has_keyword keywords.Boolean (bare t) ≡ true = sym (c.if-is_form_of.ensures t a) in
-    hand_on (λ v. MeansValue (bare t) v × IsTypedValue v) (λ f. RowFault keywords.Boolean t f ⊎ InPart 0 BooleanFault t f) (InValue t) c.from_residual.result c.in_err-truth.field-0.0 c.from_residual.ensures.1 (λ f h. inl (k, h)) (c.in_err-truth.ensures t a)
+    hand_on (λ v. MeansValue (bare t) v × IsTypedValue v) (InValue t) (InValue t) c.from_residual.result c.in_err-truth.field-0.0 c.from_residual.ensures.1 (λ f h. h) (c.in_err-truth.ensures t a)
 
 pub returns-in_err-value : goal.returns-in_err-value
 returns-in_err-value c = λ t a.
-    let k : has_keyword keywords.Integer (bare t) ≡ true = sym (c.if-is_form_of-2.ensures t a) in
-    hand_on (λ v. MeansValue (bare t) v × IsTypedValue v) (RowFault keywords.Integer t) (InValue t) c.from_residual-in_err-value.result c.in_err-value.field-0.0 c.from_residual-in_err-value.ensures.1 (λ f h. inr (inl (k, h))) (c.in_err-value.ensures t a)
+    hand_on (λ v. MeansValue (bare t) v × IsTypedValue v) (InValue t) (InValue t) c.from_residual-in_err-value.result c.in_err-value.field-0.0 c.from_residual-in_err-value.ensures.1 (λ f h. h) (c.in_err-value.ensures t a)
 
 pub returns-in_err-number : goal.returns-in_err-number
 returns-in_err-number c = λ t a.
-    let k : has_keyword keywords.Number (bare t) ≡ true = sym (c.if-is_form_of-3.ensures t a) in
-    hand_on (λ v. MeansValue (bare t) v × IsTypedValue v) (λ f. RowFault keywords.Number t f ⊎ InPart 0 NumberFault t f) (InValue t) c.from_residual-in_err-number.result c.in_err-number.field-0.0 c.from_residual-in_err-number.ensures.1 (λ f h. inr (inr (inl (k, h)))) (c.in_err-number.ensures t a)
+    hand_on (λ v. MeansValue (bare t) v × IsTypedValue v) (InValue t) (InValue t) c.from_residual-in_err-number.result c.in_err-number.field-0.0 c.from_residual-in_err-number.ensures.1 (λ f h. h) (c.in_err-number.ensures t a)
 
 pub read_text-requires-clause-keyword : goal.read_text-requires-clause-keyword
 read_text-requires-clause-keyword c = λ t a. is_string (bare t) (c.requires.value t a) (sym (c.if-is_form_of.ensures t a)) (sym (c.if-is_form_of-2.ensures t a)) (sym (c.if-is_form_of-3.ensures t a))
@@ -32,4 +28,4 @@ read_text-requires-clause-keyword c = λ t a. is_string (bare t) (c.requires.val
 pub returns-in_err-text : goal.returns-in_err-text
 returns-in_err-text c = λ t a.
     let k = is_string (bare t) (c.requires.value t a) (sym (c.if-is_form_of.ensures t a)) (sym (c.if-is_form_of-2.ensures t a)) (sym (c.if-is_form_of-3.ensures t a)) in
-    hand_on (λ v. MeansValue (bare t) v × IsTypedValue v) (RowFault keywords.String t) (InValue t) c.from_residual-in_err-text.result c.in_err-text.field-0.0 c.from_residual-in_err-text.ensures.1 (λ f h. inr (inr (inr (k, h)))) (c.in_err-text.ensures t a)
+    hand_on (λ v. MeansValue (bare t) v × IsTypedValue v) (RowFault keywords.String t) (InValue t) c.from_residual-in_err-text.result c.in_err-text.field-0.0 c.from_residual-in_err-text.ensures.1 (λ f h. stands.string_row k h) (c.in_err-text.ensures t a)

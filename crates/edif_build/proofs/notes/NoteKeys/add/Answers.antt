@@ -1,8 +1,7 @@
-use Rattle.std.proofs.Common.{◌≡◌, ℕ, List, [], ◌∷◌, ◌++◌, None, refl, sym, ap, ◌∙◌, subst, nat_eq}
+use Rattle.std.proofs.Common.{ℕ, List, [], ◌∷◌, ◌++◌, refl, sym, ap, ◌∙◌, subst, nat_eq}
 use Rattle.std.specs.Cmp.Lexicographic.{pointwise}
 use Rattle.std.specs.List.{Contains}
 use Rattle.std.specs.Map.{lookup}
-use Rattle.std.proofs.lemmas.List.{map-append}
 use Rattle.indexmap.proofs.CallerLemmas.{insert_entry-new}
 use Rattle.edif_parts.specs.Names.{ids}
 use Rattle.edif_build.proofs.NoteKeyLemmas.{keyed, keyed_at, keyed_push, not_keyed}
@@ -13,7 +12,7 @@ returns-in-Some-clause-err c =
     let es = c.self.inside.places.entries in
     let P : List (List ℕ × ℕ) → Type 0 = λ v. Contains v (c.args.key.items, c.in-Some.earlier) in
     let Q : List ℕ → Type 0 = λ v. Contains (keyed (λ k. k.items) es) (v, c.in-Some.earlier) in
-    rw c.duplicate.ensures (c.in-Some.earlier, subst P c.self.view_is (subst Q c.as_slice.ensures.value (keyed_at (λ k. k.items) c.as_slice.result.now es c.in-Some.earlier (sym c.get.ensures.value ∙ sym c.in-Some.ensures))), refl)
+    rw c.clash.ensures (c.in-Some.earlier, subst P c.self.view_is (subst Q c.as_slice.ensures.value (keyed_at (λ k. k.items) c.as_slice.result.now es c.in-Some.earlier (sym c.get.ensures.value ∙ sym c.in-Some.ensures))), refl)
 
 pub returns-clause-ok : goal.returns-clause-ok
 returns-clause-ok c =

@@ -1,5 +1,4 @@
-use Rattle.std.proofs.Common.{◌≡◌, ℕ, List, [], ◌∷◌, ◌++◌, refl, sym, ap, ◌∙◌, subst}
-use Rattle.std.specs.Prelude.{map}
+use Rattle.std.proofs.Common.{ℕ, List, [], ◌∷◌, ◌++◌, refl, sym, ap, ◌∙◌, subst}
 use Rattle.std.specs.List.{Contains}
 use Rattle.std.proofs.lemmas.List.{map-append}
 use Rattle.indexmap.proofs.CallerLemmas.{insert_entry-new}
@@ -12,7 +11,7 @@ use Rattle.edif_contents.proofs.joins.Joins.add.Goals as goal
 pub returns-in-Some-clause-err : goal.returns-in-Some-clause-err
 returns-in-Some-clause-err c =
     let P : List (design.End × ℕ) → Type 0 = λ v. Contains v (c.args.end, c.in-Some.earlier) in
-    (c.in-Some.earlier, subst P c.self.view_is (joined_at (key_of c.args.end) c.self.inside.places.entries c.in-Some.earlier (sym c.get.ensures.value ∙ sym c.in-Some.ensures)), refl)
+    rw c.clash.ensures (c.in-Some.earlier, subst P c.self.view_is (joined_at (key_of c.args.end) c.self.inside.places.entries c.in-Some.earlier (sym c.get.ensures.value ∙ sym c.in-Some.ensures)), refl)
 
 pub returns-clause-ok : goal.returns-clause-ok
 returns-clause-ok c =

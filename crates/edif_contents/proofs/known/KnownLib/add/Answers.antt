@@ -1,6 +1,6 @@
-use Rattle.std.proofs.Common.{ℕ, List, Option, None, Some, subst, ◌≡◌}
+use Rattle.std.proofs.Common.{ℕ, Option, subst}
 use Rattle.edif_parts.specs.Names.{DefinesName}
-use Rattle.edif_contents.proofs.KnownLemmas.{added, kept}
+use Rattle.edif_contents.proofs.KnownLemmas.{kept}
 use Rattle.edif_contents.proofs.known.KnownLib.add.Goals as goal
 
 pub returns-in-Some-clause-ok : goal.returns-in-Some-clause-ok

@@ -1,4 +1,4 @@
-use Rattle.std.proofs.Common.{ℕ, List, ◌≡◌, ◌<◌, ◌≤◌, ◌∷◌, [], ◌∙◌, sym, subst, ap, arith, length}
+use Rattle.std.proofs.Common.{List, ◌≡◌, ◌≤◌, ◌∷◌, [], subst, length}
 use Rattle.edif_spec.specs.Design as design
 use Rattle.edif_spec.specs.Means.{meant}
 use Rattle.edif_names.specs.declared.scope.Meant.TheVariants as answers

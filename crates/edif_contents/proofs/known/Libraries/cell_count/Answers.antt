@@ -1,4 +1,4 @@
-use Rattle.std.proofs.Common.{◌≡◌, ◌<◌, ℕ, List, length, sym, ap, ◌∙◌, subst, arith, ◌-◌, slice_index_or}
+use Rattle.std.proofs.Common.{◌≡◌, ◌<◌, List, length, subst, arith, ◌-◌, slice_index_or}
 use Rattle.edif_contents.specs.Known.{NamedLib}
 use Rattle.edif_contents.proofs.KnownLemmas.{counted, named}
 use Rattle.edif_contents.proofs.known.Libraries.cell_count.Goals as goal

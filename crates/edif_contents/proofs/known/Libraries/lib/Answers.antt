@@ -1,7 +1,7 @@
 use Rattle.std.proofs.Common.{ℕ, List, ◌∙◌, subst, ap}
 use Rattle.edif_spec.specs.Design as design
 use Rattle.edif_spec.specs.Means.{meant}
-use Rattle.edif_parts.specs.Names.{Tells, ids}
+use Rattle.edif_parts.specs.Names.{Tells}
 use Rattle.edif_contents.specs.Known.{KnownLibs}
 use Rattle.edif_contents.proofs.KnownLemmas.{heads_are}
 use Rattle.edif_contents.proofs.known.Libraries.lib.Goals as goal

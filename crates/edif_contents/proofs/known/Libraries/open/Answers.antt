@@ -1,4 +1,4 @@
-use Rattle.std.proofs.Common.{ℕ, List, Option, None, subst}
+use Rattle.std.proofs.Common.{ℕ, Option, subst}
 use Rattle.edif_parts.specs.Names.{DefinesName}
 use Rattle.edif_contents.proofs.KnownLemmas.{opens, pushed}
 use Rattle.edif_contents.proofs.known.Libraries.open.Goals as goal

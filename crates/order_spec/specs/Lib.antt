@@ -1,0 +1,3 @@
+pub mod After
+pub mod InTime
+pub mod Order
