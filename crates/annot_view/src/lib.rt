@@ -3,4 +3,4 @@
 
 pub mod properties;
 
-pub use properties::effective;
+pub use properties::{effective, merged};

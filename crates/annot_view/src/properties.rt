@@ -6,7 +6,7 @@ ghost use Rattle.std.specs.Option.{option_map_or};
 ghost use Rattle.flat_spec.specs.Effective.{effective as properties_at, insts_along, merged, notes_for, replaced, same_key, same_name};
 ghost use Rattle.annot_view.specs.Lent.{lent, lent_names};
 
-use cell_view::inst_at;
+use cell_lookup::inst_at;
 use flat_spec::Path;
 use netlist_schema::{CellId, Copied, Ident, Inst, NoMemory, Note, Property, Row, Shown, TopHead};
 use std::alloc::Global;
@@ -149,7 +149,7 @@ fn with_others(
 }
 
 /// Each base property or the note that replaces it, and then the notes that replace none.
-fn merged<'a>(
+pub fn merged<'a>(
     alloc: Global,
     base: &'a [Property],
     notes: &[&'a Property],

@@ -4,6 +4,7 @@ ghost use Rattle.std.specs.List.{range_with_len};
 ghost use Rattle.std.specs.Option.{option_map};
 ghost use Rattle.netlist_schema.specs.Design.{Design};
 ghost use Rattle.netlist_schema.specs.Valid.{IsValid};
+ghost use Rattle.netlist_schema.specs.declared.limits.TheConstants.{MOST_PORTS};
 ghost use Rattle.flat_spec.specs.Flattening.{net_item, pin_item};
 ghost use Rattle.flat_spec.specs.Occurrences.{own_nets};
 ghost use Rattle.flat_spec.specs.Paths.{at_path, Reaches};
@@ -17,7 +18,7 @@ use crate::tree_nets::TreeNets;
 use crate::walk::Occurrence;
 use annot_view::effective;
 use bus_members::width;
-use cell_view::net_count;
+use cell_lookup::net_count;
 use flat_spec::{Item, NetAt, Path};
 use netlist_schema::{Copied, NoMemory, Port, Shown};
 use std::alloc::Global;
@@ -148,7 +149,7 @@ fn add_pins<S: Shown>(
 ) -> Result<(), NoMemory>
     requires valid { IsValid (S.design design.now) }
     requires nets { AreTreeNets (S.design design.now) nets.now }
-    requires few { length ports.now ≤ 65536 }
+    requires few { length ports.now ≤ MOST_PORTS }
     ensures { OnOk result (items.new.items ≡ items.old.items ++ map (pin_item (S.design design.now) nets.now.root path.now) (bits_from 0 ports.now)) }
 {
     for (place, port) in ports.iter().enumerate() {

@@ -2,6 +2,7 @@
 ghost use Rattle.std.specs.Prelude.{◌≡◌, ◌≤◌, [], length, position, IfOk};
 ghost use Rattle.std.specs.Option.{option_map_or};
 ghost use Rattle.netlist_schema.specs.Design.{cell_at};
+ghost use Rattle.netlist_schema.specs.declared.limits.TheConstants.{MOST_PORTS};
 ghost use Rattle.flat_spec.specs.ConnectionTest.{has_end};
 ghost use Rattle.flat_spec.specs.Paths.{nets_at};
 ghost use Rattle.flat_spec.specs.Pins.{net_at_pin, net_joining, shown_bits};
@@ -9,7 +10,7 @@ ghost use Rattle.design_model.specs.Items.{bits_from};
 
 use crate::meets::has_end;
 use crate::walk::Occurrence;
-use cell_view::{cell_along, nets_at};
+use cell_lookup::{cell_along, nets_at};
 use flat_spec::{NetAt, Path};
 use netlist_schema::{CellBody, CellId, End, NoMemory, Port, Shown};
 use std::alloc::Global;
@@ -31,7 +32,7 @@ fn ports_in<'a>(path: &[u32], body: &'a CellBody) -> &'a [Port]
 /// The ports whose pins the occurrence shows: those of its cell, where it is the root or a leaf.
 pub fn shown_ports<'a, S: Shown>(design: &'a S, occurrence: &Occurrence) -> &'a [Port]
     ensures bits { bits_from 0 result.now ≡ option_map_or (shown_bits occurrence.now.path) (cell_at (S.design design.now) occurrence.now.cell) [] }
-    ensures few { length result.now ≤ 65536 }
+    ensures few { length result.now ≤ MOST_PORTS }
 {
     match design.cell(occurrence.cell()) {
         Some(body) => ports_in(occurrence.path().as_slice(), body),

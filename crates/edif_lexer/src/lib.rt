@@ -4,8 +4,6 @@
 mod errors;
 mod lexing;
 mod strings;
-#[cfg(test)]
-mod tests;
 mod words;
 
 pub use errors::LexError;

@@ -11,6 +11,3 @@ pub use property::property_text;
 pub use scope::{Defined, Meant, Scope};
 pub use strings::write_string;
 pub use words::{write_ident, write_integer};
-
-#[cfg(test)]
-mod tests;

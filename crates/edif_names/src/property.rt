@@ -1,7 +1,7 @@
 //! Properties, as a line shows them.
 ghost use Rattle.std.specs.Prelude.{◌≡◌, ◌++◌, codes, OnErr, OnOk};
 ghost use Rattle.edif_names.specs.Parts.{Grows};
-ghost use Rattle.edif_names.specs.PropertyText.{boolean_text, number_text, property_text, value_text};
+ghost use Rattle.edif_spec.specs.PropertyText.{boolean_text, number_text, property_text, value_text};
 
 use crate::strings::write_string;
 use crate::words::write_integer;

@@ -12,8 +12,8 @@ use Rattle.edif_tree.specs.Making.{IsToken, token_of, Level, InForms, fault_from
 use Rattle.edif_tree.specs.declared.node.NodeId.{NodeId}
 use Rattle.edif_tree.specs.declared.node.NodeKind.{NodeKind}
 use Rattle.edif_tree.specs.declared.node.NodeKind.TheVariants as kinds
-use Rattle.edif_tree.specs.declared.maker.OpenForm.{OpenForm}
-use Rattle.edif_tree.specs.declared.maker.Maker.{Maker}
+use Rattle.edif_tree.specs.declared.tree_maker.OpenForm.{OpenForm}
+use Rattle.edif_tree.specs.declared.tree_maker.TreeMaker.{TreeMaker}
 use Rattle.edif_tree.proofs.FaultSteps.{next_fault, left_next, token_next, right_next}
 
 -- rows stay at their places
@@ -148,7 +148,7 @@ none_loose forms loose id can f l =
     let one = ap length l in omega arith
 
 -- a `(` was read
-pub read_left : (old new : Maker) (place : ℕ) (ts : List Token) → CanCome LeftParen old → new.nodes ≡ old.nodes
+pub read_left : (old new : TreeMaker) (place : ℕ) (ts : List Token) → CanCome LeftParen old → new.nodes ≡ old.nodes
     → new.forms.items ≡ old.forms.items ++ record { place = place; start = length old.loose.items } ∷ [] → new.loose.items ≡ old.loose.items
     → HasRead old ts → HasRead new (ts ++ token_at LeftParen place ∷ [])
 read_left old new place ts can rows forms loose h = ⊎_elim
@@ -180,7 +180,7 @@ token_added : (levels : List Level) (rows : List Row) (forms : List OpenForm) (l
 token_added [] rows forms loose read id t b l h at k = (let none = ap length h.0 in absurd (omega arith))
 token_added (level ∷ levels) rows forms loose read id t b l h at k = (record { place = level.place; arguments = with_last level.arguments t } ∷ levels, added level levels rows forms loose read id t b h at k, refl, omega arith)
 
-pub read_token : (old new : Maker) (place : ℕ) (kind : NodeKind) (id : NodeId) (ts : List Token) → IsToken kind → 0 < length old.forms.items → id.0 ≡ length old.nodes
+pub read_token : (old new : TreeMaker) (place : ℕ) (kind : NodeKind) (id : NodeId) (ts : List Token) → IsToken kind → 0 < length old.forms.items → id.0 ≡ length old.nodes
     → new.nodes ≡ old.nodes ++ row_of [] (record { place = place; kind = kind }) ∷ [] → new.forms.items ≡ old.forms.items → new.loose.items ≡ old.loose.items ++ id ∷ []
     → HasRead old ts → HasRead new (ts ++ token_at (token_of kind) place ∷ [])
 read_token old new place kind id ts token some at rows forms loose h = ⊎_elim
@@ -229,7 +229,7 @@ closed_read : (read before inner : List Token) (place end : ℕ) → read ≡ be
 closed_read read before inner place end e = ap (λ v. v ++ token_at RightParen end ∷ []) e ∙ append_assoc before (token_at LeftParen place ∷ inner) (token_at RightParen end ∷ [])
 
 -- the maker after a `)`
-closed : (level : Level) (levels : List Level) (old new : Maker) (id : NodeId) (end : ℕ) (ts : List Token) (h : InForms old.nodes (level ∷ levels) old.forms.items old.loose.items ts) → id.0 ≡ length old.nodes
+closed : (level : Level) (levels : List Level) (old new : TreeMaker) (id : NodeId) (end : ℕ) (ts : List Token) (h : InForms old.nodes (level ∷ levels) old.forms.items old.loose.items ts) → id.0 ≡ length old.nodes
     → new.nodes ≡ old.nodes ++ record { place = level.place; shape = FormOf h.inside } ∷ [] → new.forms.items ≡ h.outer → new.loose.items ≡ h.others ++ id ∷ []
     → ((rest : List Token) (e : ℕ) → tree_fault (ts ++ rest) e ≡ fault_from (suc (length levels)) rest e) → HasRead new (ts ++ token_at RightParen end ∷ [])
 closed level [] old new id end ts h at rows forms loose faults =
@@ -267,7 +267,7 @@ closed level (above ∷ levels) old new id end ts h at rows forms loose faults =
       faults = λ rest e. next_fault ts tok (fault_from (suc (suc (length levels)))) faults rest e ∙ right_next (suc (length levels)) end rest e;
     })
 
-closed_from : (levels : List Level) (old new : Maker) (front : List OpenForm) (form : OpenForm) (id : NodeId) (end : ℕ) (ts : List Token) → InForms old.nodes levels old.forms.items old.loose.items ts → old.forms.items ≡ front ++ form ∷ [] → id.0 ≡ length old.nodes
+closed_from : (levels : List Level) (old new : TreeMaker) (front : List OpenForm) (form : OpenForm) (id : NodeId) (end : ℕ) (ts : List Token) → InForms old.nodes levels old.forms.items old.loose.items ts → old.forms.items ≡ front ++ form ∷ [] → id.0 ≡ length old.nodes
     → new.nodes ≡ old.nodes ++ record { place = form.place; shape = FormOf (drop form.start old.loose.items) } ∷ [] → new.forms.items ≡ front → new.loose.items ≡ take form.start old.loose.items ++ id ∷ []
     → ((rest : List Token) (e : ℕ) → tree_fault (ts ++ rest) e ≡ fault_from (length levels) rest e) → HasRead new (ts ++ token_at RightParen end ∷ [])
 closed_from [] old new front form id end ts h e at rows forms loose faults = absurd (last_not_empty front old.forms.items form h.0 e)
@@ -278,7 +278,7 @@ closed_from (level ∷ levels) old new front form id end ts h e at rows forms lo
     ap (λ p. let r : Row = record { place = p; shape = FormOf (drop form.start old.loose.items) } in r) (sym parts.1) ∙ ap (λ l. let r : Row = record { place = level.place; shape = FormOf l } in r) parts.4 in
     closed level levels old new id end ts h at (rows ∙ ap (λ r. old.nodes ++ r ∷ []) same) (forms ∙ sym parts.0) (loose ∙ ap (λ l. l ++ id ∷ []) parts.3) faults
 
-pub read_right : (old new : Maker) (front : List OpenForm) (form : OpenForm) (id : NodeId) (end : ℕ) (ts : List Token) → old.forms.items ≡ front ++ form ∷ [] → id.0 ≡ length old.nodes
+pub read_right : (old new : TreeMaker) (front : List OpenForm) (form : OpenForm) (id : NodeId) (end : ℕ) (ts : List Token) → old.forms.items ≡ front ++ form ∷ [] → id.0 ≡ length old.nodes
     → new.nodes ≡ old.nodes ++ record { place = form.place; shape = FormOf (drop form.start old.loose.items) } ∷ [] → new.forms.items ≡ front → new.loose.items ≡ take form.start old.loose.items ++ id ∷ []
     → HasRead old ts → HasRead new (ts ++ token_at RightParen end ∷ [])
 read_right old new front form id end ts e at rows forms loose h = ⊎_elim
@@ -295,7 +295,7 @@ start_within (level ∷ levels) rows forms front form loose read h e =
     let whole = ap length h.nodes in
     omega (arith, length-append h.others h.inside)
 
-pub can_cut : (maker : Maker) (front : List OpenForm) (form : OpenForm) (ts : List Token) → HasRead maker ts → maker.forms.items ≡ front ++ form ∷ [] → form.start ≤ length maker.loose.items
+pub can_cut : (maker : TreeMaker) (front : List OpenForm) (form : OpenForm) (ts : List Token) → HasRead maker ts → maker.forms.items ≡ front ++ form ∷ [] → form.start ≤ length maker.loose.items
 can_cut maker front form ts h e = ⊎_elim
     (λ o. start_within o.levels maker.nodes maker.forms.items front form maker.loose.items ts o.forms e)
     (λ k. absurd (last_not_empty front maker.forms.items form k.forms e))

@@ -6,12 +6,13 @@ use Rattle.spelling_spec.specs.TreeFaults.{token_at, Lists, ListsAll, TreeFault,
 use Rattle.spelling_spec.specs.declared.token.Token.{Token}
 use Rattle.spelling_spec.specs.declared.token.TokenKind.{TokenKind}
 use Rattle.spelling_spec.specs.declared.token.TokenKind.TheVariants.{LeftParen, Word, Integer, String}
+use Rattle.netlist_schema.specs.declared.limits.TheConstants.{MOST_LEVELS}
 use Rattle.edif_tree.specs.Nodes.{Row, IsAt, AreAt}
 use Rattle.edif_tree.specs.declared.node.NodeId.{NodeId}
 use Rattle.edif_tree.specs.declared.node.NodeKind.{NodeKind}
 use Rattle.edif_tree.specs.declared.node.NodeKind.TheVariants as kinds
-use Rattle.edif_tree.specs.declared.maker.OpenForm.{OpenForm}
-use Rattle.edif_tree.specs.declared.maker.Maker.{Maker}
+use Rattle.edif_tree.specs.declared.tree_maker.OpenForm.{OpenForm}
+use Rattle.edif_tree.specs.declared.tree_maker.TreeMaker.{TreeMaker}
 
 -- a node of one token; an integer is within 64 bits
 abbrev pub IsToken : NodeKind → Type 0
@@ -57,13 +58,13 @@ fault_from zero tokens end = tree_fault tokens end
 fault_from (suc outer) tokens end = fault_within (suc outer) tokens end
 
 -- the file's form isn't closed
-pub record IsOpen (maker : Maker) (read : List Token) : Type 0 where
+pub record IsOpen (maker : TreeMaker) (read : List Token) : Type 0 where
   pub levels : List Level
   pub forms : InForms maker.nodes levels maker.forms.items maker.loose.items read
   pub faults : (rest : List Token) (end : ℕ) → tree_fault (read ++ rest) end ≡ fault_from (length levels) rest end
 
 -- the file's form is closed
-pub record IsClosed (maker : Maker) (read : List Token) : Type 0 where
+pub record IsClosed (maker : TreeMaker) (read : List Token) : Type 0 where
   pub id : NodeId
   pub tree : Placed
   pub forms : maker.forms.items ≡ []
@@ -73,10 +74,10 @@ pub record IsClosed (maker : Maker) (read : List Token) : Type 0 where
   pub faults : (rest : List Token) (end : ℕ) → tree_fault (read ++ rest) end ≡ fault_within 0 rest end
 
 -- the maker has read these tokens, and they have no fault but that they may end too early
-abbrev pub HasRead : Maker → List Token → Type 0
+abbrev pub HasRead : TreeMaker → List Token → Type 0
 HasRead maker read = IsOpen maker read ⊎ IsClosed maker read
 
 -- the token can come next
-abbrev pub CanCome : TokenKind → Maker → Type 0
-CanCome LeftParen maker = (length maker.forms.items < 256) × (length maker.forms.items ≡ 0 → length maker.loose.items ≡ 0)
+abbrev pub CanCome : TokenKind → TreeMaker → Type 0
+CanCome LeftParen maker = (length maker.forms.items < MOST_LEVELS) × (length maker.forms.items ≡ 0 → length maker.loose.items ≡ 0)
 CanCome _ maker = 0 < length maker.forms.items

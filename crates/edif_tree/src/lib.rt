@@ -3,13 +3,11 @@
 
 mod errors;
 pub mod laws;
-mod maker;
 mod node;
 mod nodes;
 mod read;
-#[cfg(test)]
-mod tests;
 mod tree;
+mod tree_maker;
 
 pub use errors::TreeError;
 pub use laws::one_tree_stands;

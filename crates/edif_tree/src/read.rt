@@ -6,8 +6,8 @@ ghost use Rattle.edif_tree.specs.Nodes.{IsAt};
 ghost use Rattle.edif_tree.specs.TreeError.{Names};
 
 use crate::errors::TreeError;
-use crate::maker::Maker;
 use crate::tree::Tree;
+use crate::tree_maker::TreeMaker;
 use spelling_spec::Token;
 use std::alloc::Global;
 
@@ -18,7 +18,7 @@ pub fn read_tree(alloc: Global, tokens: &[Token], end: u64) -> Result<Tree, Tree
     ensures tree { IfOk result (λ made. (t : Placed) × IsAt made.rows made.root t × IsFile tokens.now t) }
     ensures at { IfErr result (λ e. Names e (tree_fault tokens.now end)) }
 {
-    let mut maker = Maker::new(alloc);
+    let mut maker = TreeMaker::new(alloc);
     for token in tokens {
         maker.add(token)?;
     }

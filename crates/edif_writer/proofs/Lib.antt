@@ -1,9 +1,7 @@
 pub mod ContentsTexts
 pub mod FormTexts
 pub mod ListTexts
-pub mod OneLeaf
 pub mod Places
 pub mod Renumbered
 pub mod SmallTexts
 pub mod WholeTexts
-pub mod WrittenLemmas

@@ -4,14 +4,13 @@ use Rattle.std.specs.Prelude.{codes, slice_get}
 use Rattle.std.proofs.lemmas.Fmt.{decimal_digit}
 use Rattle.std.proofs.lemmas.Option.{slice_get_cases}
 use Rattle.spelling_spec.specs.Tree.{Bare, word, integer, form}
-use Rattle.edif_spec.specs.Canonical.{layout, make, new_line, name_text, name_tree, zero_tree, library_keyword, library_tree, cell_tree, design_tree, perhaps, text, head_of, large_forms}
+use Rattle.edif_spec.specs.Canonical.{layout, make, new_line, name_text, name_tree, zero_tree, library_keyword, library_tree, cell_tree, design_tree, perhaps, text_as_listed, head_of, large_forms}
 use Rattle.edif_spec.specs.Design as design
 use Rattle.edif_spec.specs.Keyword.{spelling_of}
 use Rattle.edif_spec.specs.declared.keyword.Keyword.TheVariants as keywords
 use Rattle.edif_writer.specs.Lines.{lined}
-use Rattle.edif_writer.specs.Written.{Writes}
-use Rattle.edif_writer.specs.declared.page.Page.{Page}
-use Rattle.edif_writer.proofs.WrittenLemmas.{writes_then, writes_same}
+use Rattle.netdb_outside.specs.Buffered.{Buffered, Writes}
+use Rattle.netdb_outside.proofs.BufferedLemmas.{writes_then, writes_same}
 use Rattle.edif_writer.proofs.FormTexts.{large_form, one_more, lined-append}
 
 zero_level : layout 3 (zero_tree keywords.EdifLevel) ≡ codes "(edifLevel 0)"
@@ -52,7 +51,7 @@ text_parts s a m v l k c d e f = simp (append_assoc, append-nil)
 -- the text of a design
 pub design_text : (d : design.Design)
     → codes "(edif " ++ (layout 2 (name_tree d.title) ++ (codes "\n (edifVersion 2 0 0)\n (edifLevel 0)\n (keywordMap (keywordLevel 0))"
-    ++ (lined 1 (map (library_tree d.libs) d.libs) ++ (lined 1 (perhaps (design_tree d.libs d.notes) d.top) ++ codes ")\n")))) ≡ text d
+    ++ (lined 1 (map (library_tree d.libs) d.libs) ++ (lined 1 (perhaps (design_tree d.libs d.notes) d.top) ++ codes ")\n")))) ≡ text_as_listed d
 design_text d =
     let a = layout 2 (name_tree d.title) in
     let libs = map (library_tree d.libs) d.libs in
@@ -69,7 +68,7 @@ design_text d =
     ∙ ap (λ v. v ++ codes "\n") (sym (large_form 1 keywords.Edif (name_tree d.title ∷ []) (version ∷ level ∷ keyword_map ∷ (libs ++ top)) refl))))))
 
 -- of a list, one more line
-pub writes_line : {X K : Type 0} {written : K → Option (List ℕ)} {faults : K → ℕ} {j k l : K} {before page after : Page} (level : ℕ) (h : X → Bare) (xs : List X) (i : ℕ) → i < length xs
+pub writes_line : {X K : Type 0} {written : K → Option (List ℕ)} {faults : K → ℕ} {j k l : K} {before page after : Buffered} (level : ℕ) (h : X → Bare) (xs : List X) (i : ℕ) → i < length xs
     → Writes written faults j before k page (lined level (map h (take i xs)))
     → ((x : X) → slice_get xs i ≡ Some x → Writes written faults k page l after (new_line level ++ layout (suc level) (h x)))
     → Writes written faults j before l after (lined level (map h (take (i + 1) xs)))

@@ -3,12 +3,12 @@ ghost use Rattle.std.specs.Prelude.{◌≡◌, ◌∷◌, [], ◌++◌, ℕ, IfS
 ghost use Rattle.edif_spec.specs.Canonical.{layout, perhaps, direction_tree, kind_word, port_name_tree, port_tree, interface_tree, view_tree, cell_tree};
 ghost use Rattle.edif_writer.specs.Lines.{spaced, lined};
 ghost use Rattle.edif_writer.specs.Placed.{IsPlaced};
-ghost use Rattle.edif_writer.specs.Written.{Writes};
+ghost use Rattle.netdb_outside.specs.Buffered.{Writes};
 
 use crate::contents::write_contents_line;
-use crate::page::Page;
 use crate::small::{write_name, write_properties, write_property_lines, write_text_form};
-use netdb_outside::Sink;
+use crate::spelled::{put_line, put_number};
+use netdb_outside::{BufferedSink, Sink};
 use netlist_schema::{CellBody, CellKind, Direction, Name, Port, Row, Shown, Width};
 use std::alloc::Global;
 
@@ -49,7 +49,7 @@ fn write_port_name<K: Sink>(
     alloc: Global,
     name: &Name,
     array: &Option<Width>,
-    page: &mut Page,
+    page: &mut BufferedSink,
     out: &mut K,
 )
     ensures { (level : ℕ) → Writes K.written K.faults out.old page.old out.new page.new (layout level (port_name_tree name.now array.now)) }
@@ -60,14 +60,14 @@ fn write_port_name<K: Sink>(
             page.put(b"(array ", out);
             write_name(alloc, name, page, out);
             page.put(b" ", out);
-            page.put_number(alloc, width.get(), out);
+            put_number(alloc, width.get(), page, out);
             page.put(b")", out);
         }
     }
 }
 
 /// Writes a port.
-fn write_port<K: Sink>(alloc: Global, port: &Port, page: &mut Page, out: &mut K)
+fn write_port<K: Sink>(alloc: Global, port: &Port, page: &mut BufferedSink, out: &mut K)
     ensures { (level : ℕ) → Writes K.written K.faults out.old page.old out.new page.new (layout level (port_tree port.now)) }
 {
     page.put(b"(port ", out);
@@ -79,17 +79,17 @@ fn write_port<K: Sink>(alloc: Global, port: &Port, page: &mut Page, out: &mut K)
 }
 
 /// Writes ports on lines of their own.
-fn write_port_lines<K: Sink>(alloc: Global, ports: &Row<Port>, page: &mut Page, out: &mut K)
+fn write_port_lines<K: Sink>(alloc: Global, ports: &Row<Port>, page: &mut BufferedSink, out: &mut K)
     ensures { Writes K.written K.faults out.old page.old out.new page.new (lined 5 (map port_tree ports.now)) }
 {
     for port in ports.as_slice() {
-        page.put_line(INTERFACE_LEVEL, out);
+        put_line(INTERFACE_LEVEL, page, out);
         write_port(alloc, port, page, out);
     }
 }
 
 /// Writes the interface of a cell.
-fn write_interface<K: Sink>(alloc: Global, body: &CellBody, page: &mut Page, out: &mut K)
+fn write_interface<K: Sink>(alloc: Global, body: &CellBody, page: &mut BufferedSink, out: &mut K)
     ensures { Writes K.written K.faults out.old page.old out.new page.new (layout 5 (interface_tree body.now)) }
 {
     page.put(b"(interface", out);
@@ -109,7 +109,7 @@ fn write_view<S: Shown, K: Sink>(
     alloc: Global,
     design: &S,
     body: &CellBody,
-    page: &mut Page,
+    page: &mut BufferedSink,
     out: &mut K,
 )
     requires { IfSome body.now.contents (IsPlaced (S.design design.now) body.now.ports) }
@@ -129,7 +129,7 @@ pub fn write_cell<S: Shown, K: Sink>(
     alloc: Global,
     design: &S,
     body: &CellBody,
-    page: &mut Page,
+    page: &mut BufferedSink,
     out: &mut K,
 )
     requires { IfSome body.now.contents (IsPlaced (S.design design.now) body.now.ports) }

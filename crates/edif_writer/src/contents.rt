@@ -6,12 +6,12 @@ ghost use Rattle.edif_spec.specs.Design as design;
 ghost use Rattle.netlist_schema.specs.Hierarchy.{IsCell};
 ghost use Rattle.edif_writer.specs.Lines.{spaced, lined, instance_ref_tree};
 ghost use Rattle.edif_writer.specs.Placed.{HasInstAt, IsAt, IsPlaced};
-ghost use Rattle.edif_writer.specs.Written.{Writes};
+ghost use Rattle.netdb_outside.specs.Buffered.{Writes};
 
-use crate::page::Page;
 use crate::reference::{write_cell_ref, write_view_id};
 use crate::small::{write_name, write_properties, write_text_form};
-use netdb_outside::Sink;
+use crate::spelled::{put_ident, put_line, put_number};
+use netdb_outside::{BufferedSink, Sink};
 use netlist_schema::{Contents, End, Inst, Net, Port, Row, Shown};
 use std::alloc::Global;
 
@@ -23,7 +23,7 @@ fn write_inst<S: Shown, K: Sink>(
     alloc: Global,
     design: &S,
     inst: &Inst,
-    page: &mut Page,
+    page: &mut BufferedSink,
     out: &mut K,
 )
     requires { IsCell (S.design design.now) inst.now.of }
@@ -46,14 +46,14 @@ fn write_inst_lines<S: Shown, K: Sink>(
     alloc: Global,
     design: &S,
     insts: &Row<Inst>,
-    page: &mut Page,
+    page: &mut BufferedSink,
     out: &mut K,
 )
     requires { All (λ inst. IsCell (S.design design.now) inst.of) insts.now }
     ensures { Writes K.written K.faults out.old page.old out.new page.new (lined 5 (map (inst_tree (S.design design.now).libs) insts.now)) }
 {
     for inst in insts.as_slice() {
-        page.put_line(CONTENTS_LEVEL, out);
+        put_line(CONTENTS_LEVEL, page, out);
         write_inst(alloc, design, inst, page, out);
     }
 }
@@ -83,16 +83,16 @@ fn port_of_end<'a, S: Shown>(
 }
 
 /// Writes a bit of a port: a scalar port's by the port, an array's as a member.
-fn write_bit<K: Sink>(alloc: Global, port: &Port, bit: u32, page: &mut Page, out: &mut K)
+fn write_bit<K: Sink>(alloc: Global, port: &Port, bit: u32, page: &mut BufferedSink, out: &mut K)
     ensures { (level : ℕ) → Writes K.written K.faults out.old page.old out.new page.new (layout level (bit_tree port.now.name.id port.now.array bit)) }
 {
     match port.array {
-        None => page.put_ident(alloc, &port.name.id, out),
+        None => put_ident(alloc, &port.name.id, page, out),
         Some(_) => {
             page.put(b"(member ", out);
-            page.put_ident(alloc, &port.name.id, out);
+            put_ident(alloc, &port.name.id, page, out);
             page.put(b" ", out);
-            page.put_number(alloc, bit, out);
+            put_number(alloc, bit, page, out);
             page.put(b")", out);
         }
     }
@@ -105,7 +105,7 @@ fn write_end_bit<S: Shown, K: Sink>(
     own: &Row<Port>,
     insts: &Row<Inst>,
     end: &End,
-    page: &mut Page,
+    page: &mut BufferedSink,
     out: &mut K,
 )
     requires { IsAt (S.design design.now) own.now insts.now end.now }
@@ -122,7 +122,7 @@ fn write_inst_ref<K: Sink>(
     alloc: Global,
     insts: &Row<Inst>,
     place: u32,
-    page: &mut Page,
+    page: &mut BufferedSink,
     out: &mut K,
 )
     requires { IsSome (slice_get insts.now place) }
@@ -130,7 +130,7 @@ fn write_inst_ref<K: Sink>(
 {
     if let Some(inst) = insts.as_slice().get(place as usize) {
         page.put(b"(instanceRef ", out);
-        page.put_ident(alloc, &inst.name.id, out);
+        put_ident(alloc, &inst.name.id, page, out);
         page.put(b")", out);
     }
 }
@@ -140,7 +140,7 @@ fn write_end_inst<K: Sink>(
     alloc: Global,
     insts: &Row<Inst>,
     place: Option<u32>,
-    page: &mut Page,
+    page: &mut BufferedSink,
     out: &mut K,
 )
     requires { HasInstAt insts.now place }
@@ -159,7 +159,7 @@ fn write_end<S: Shown, K: Sink>(
     own: &Row<Port>,
     insts: &Row<Inst>,
     end: &End,
-    page: &mut Page,
+    page: &mut BufferedSink,
     out: &mut K,
 )
     requires { IsAt (S.design design.now) own.now insts.now end.now }
@@ -178,7 +178,7 @@ fn write_ends<S: Shown, K: Sink>(
     own: &Row<Port>,
     insts: &Row<Inst>,
     ends: &Row<End>,
-    page: &mut Page,
+    page: &mut BufferedSink,
     out: &mut K,
 )
     requires { All (IsAt (S.design design.now) own.now insts.now) ends.now }
@@ -197,7 +197,7 @@ fn write_net<S: Shown, K: Sink>(
     own: &Row<Port>,
     insts: &Row<Inst>,
     net: &Net,
-    page: &mut Page,
+    page: &mut BufferedSink,
     out: &mut K,
 )
     requires { All (IsAt (S.design design.now) own.now insts.now) net.now.ends }
@@ -218,14 +218,14 @@ fn write_net_lines<S: Shown, K: Sink>(
     design: &S,
     own: &Row<Port>,
     contents: &Contents,
-    page: &mut Page,
+    page: &mut BufferedSink,
     out: &mut K,
 )
     requires { IsPlaced (S.design design.now) own.now contents.now }
     ensures { Writes K.written K.faults out.old page.old out.new page.new (lined 5 (map (net_tree (S.design design.now).libs own.now contents.now.insts) contents.now.nets)) }
 {
     for net in contents.nets.as_slice() {
-        page.put_line(CONTENTS_LEVEL, out);
+        put_line(CONTENTS_LEVEL, page, out);
         write_net(alloc, design, own, &contents.insts, net, page, out);
     }
 }
@@ -236,7 +236,7 @@ pub fn write_contents_line<S: Shown, K: Sink>(
     design: &S,
     own: &Row<Port>,
     contents: &Option<Contents>,
-    page: &mut Page,
+    page: &mut BufferedSink,
     out: &mut K,
 )
     requires { IfSome contents.now (IsPlaced (S.design design.now) own.now) }

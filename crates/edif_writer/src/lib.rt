@@ -3,17 +3,12 @@
 
 mod cell;
 mod contents;
-pub mod error;
 mod library;
-pub mod page;
 mod reference;
 mod small;
+mod spelled;
 mod top;
 pub mod whole;
 
-pub use error::WriteError;
-pub use page::Page;
+pub use netdb_outside::WriteError;
 pub use whole::write_design;
-
-#[cfg(test)]
-mod tests;

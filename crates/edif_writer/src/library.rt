@@ -5,16 +5,15 @@ ghost use Rattle.edif_spec.specs.Canonical.{layout, new_line, name_text, library
 ghost use Rattle.edif_spec.specs.Design.{CellBody, Lib};
 ghost use Rattle.edif_spec.specs.Keyword.{spelling_of};
 ghost use Rattle.edif_writer.specs.Lines.{lined};
-ghost use Rattle.edif_writer.specs.Written.{Writes};
+ghost use Rattle.netdb_outside.specs.Buffered.{Writes};
 ghost use Rattle.netlist_schema.specs.Design.{lib_at, cells_in, cell_at};
 ghost use Rattle.netlist_schema.specs.Hierarchy.{IsCell};
 ghost use Rattle.netlist_schema.specs.Valid.{IsValid};
 
 use crate::cell::write_cell;
-use crate::page::Page;
 use crate::small::write_name;
 use cell_order::cell_order;
-use netdb_outside::Sink;
+use netdb_outside::{BufferedSink, Sink};
 use netlist_schema::{CellId, LibId, Shown};
 use std::alloc::Global;
 
@@ -34,7 +33,7 @@ fn write_cell_line<S: Shown, K: Sink>(
     alloc: Global,
     design: &S,
     id: CellId,
-    page: &mut Page,
+    page: &mut BufferedSink,
     out: &mut K,
 )
     ensures { (c : CellBody) → cell_at (S.design design.now) id ≡ Some c
@@ -55,7 +54,7 @@ fn write_cell_lines<S: Shown, K: Sink>(
     design: &S,
     lib: LibId,
     order: &[u32],
-    page: &mut Page,
+    page: &mut BufferedSink,
     out: &mut K,
 )
     requires valid { IsValid (S.design design.now) }
@@ -73,7 +72,7 @@ fn write_library_line<S: Shown, K: Sink>(
     alloc: Global,
     design: &S,
     lib: LibId,
-    page: &mut Page,
+    page: &mut BufferedSink,
     out: &mut K,
 )
     requires { IsValid (S.design design.now) }
@@ -102,7 +101,7 @@ fn write_library_line<S: Shown, K: Sink>(
 pub fn write_library_lines<S: Shown, K: Sink>(
     alloc: Global,
     design: &S,
-    page: &mut Page,
+    page: &mut BufferedSink,
     out: &mut K,
 )
     ensures { Writes K.written K.faults out.old page.old out.new page.new (lined 1 (map (library_tree (arranged (S.design design.now)).libs) (arranged (S.design design.now)).libs)) }

@@ -3,10 +3,10 @@ ghost use Rattle.std.specs.Prelude.{◌≡◌, ℕ};
 ghost use Rattle.edif_spec.specs.Canonical.{layout, name_text, cell_ref_tree};
 ghost use Rattle.edif_spec.specs.Design.{cell_id, lib_id, view_id};
 ghost use Rattle.netlist_schema.specs.Hierarchy.{IsCell};
-ghost use Rattle.edif_writer.specs.Written.{Writes};
+ghost use Rattle.netdb_outside.specs.Buffered.{Writes};
 
-use crate::page::Page;
-use netdb_outside::Sink;
+use crate::spelled::put_ident;
+use netdb_outside::{BufferedSink, Sink};
 use netlist_schema::{CellId, Shown};
 use std::alloc::Global;
 
@@ -15,14 +15,14 @@ pub fn write_view_id<S: Shown, K: Sink>(
     alloc: Global,
     design: &S,
     id: CellId,
-    page: &mut Page,
+    page: &mut BufferedSink,
     out: &mut K,
 )
     requires { IsCell (S.design design.now) id }
     ensures { Writes K.written K.faults out.old page.old out.new page.new (name_text (view_id (S.design design.now).libs id)) }
 {
     if let Some(body) = design.cell(id) {
-        page.put_ident(alloc, &body.view.id, out);
+        put_ident(alloc, &body.view.id, page, out);
     }
 }
 
@@ -31,14 +31,14 @@ fn write_cell_id<S: Shown, K: Sink>(
     alloc: Global,
     design: &S,
     id: CellId,
-    page: &mut Page,
+    page: &mut BufferedSink,
     out: &mut K,
 )
     requires { IsCell (S.design design.now) id }
     ensures { Writes K.written K.faults out.old page.old out.new page.new (name_text (cell_id (S.design design.now).libs id)) }
 {
     if let Some(body) = design.cell(id) {
-        page.put_ident(alloc, &body.name.id, out);
+        put_ident(alloc, &body.name.id, page, out);
     }
 }
 
@@ -47,14 +47,14 @@ fn write_lib_id<S: Shown, K: Sink>(
     alloc: Global,
     design: &S,
     id: CellId,
-    page: &mut Page,
+    page: &mut BufferedSink,
     out: &mut K,
 )
     requires { IsCell (S.design design.now) id }
     ensures { Writes K.written K.faults out.old page.old out.new page.new (name_text (lib_id (S.design design.now).libs id.lib.0)) }
 {
     if let Some(head) = design.lib(id.lib) {
-        page.put_ident(alloc, &head.name.id, out);
+        put_ident(alloc, &head.name.id, page, out);
     }
 }
 
@@ -63,7 +63,7 @@ pub fn write_cell_ref<S: Shown, K: Sink>(
     alloc: Global,
     design: &S,
     id: CellId,
-    page: &mut Page,
+    page: &mut BufferedSink,
     out: &mut K,
 )
     requires { IsCell (S.design design.now) id }

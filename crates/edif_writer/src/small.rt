@@ -3,38 +3,38 @@ ghost use Rattle.std.specs.Prelude.{◌≡◌, ◌∷◌, [], ◌++◌, ℕ, Lis
 ghost use Rattle.std.specs.Fmt.{signed_decimal};
 ghost use Rattle.edif_spec.specs.Canonical.{layout, name_tree, number_tree, value_tree, property_tree};
 ghost use Rattle.edif_writer.specs.Lines.{spaced, lined, enclosed};
-ghost use Rattle.edif_writer.specs.Written.{Writes};
+ghost use Rattle.netdb_outside.specs.Buffered.{Writes};
 
-use crate::page::Page;
-use netdb_outside::Sink;
+use crate::spelled::{put_ident, put_integer, put_line, put_string};
+use netdb_outside::{BufferedSink, Sink};
 use netlist_schema::{Name, Num, Property, Row, Text, Value};
 use std::alloc::Global;
 
 /// Writes a name: its identifier, or with a shown text a `rename`.
-pub fn write_name<K: Sink>(alloc: Global, name: &Name, page: &mut Page, out: &mut K)
+pub fn write_name<K: Sink>(alloc: Global, name: &Name, page: &mut BufferedSink, out: &mut K)
     ensures { (level : ℕ) → Writes K.written K.faults out.old page.old out.new page.new (layout level (name_tree name.now)) }
 {
     match &name.shown {
-        None => page.put_ident(alloc, &name.id, out),
+        None => put_ident(alloc, &name.id, page, out),
         Some(shown) => {
             page.put(b"(rename ", out);
-            page.put_ident(alloc, &name.id, out);
+            put_ident(alloc, &name.id, page, out);
             page.put(b" ", out);
-            page.put_string(alloc, shown, out);
+            put_string(alloc, shown, page, out);
             page.put(b")", out);
         }
     }
 }
 
 /// Writes a number: an integer, or with an exponent an `e`.
-fn write_number<K: Sink>(alloc: Global, number: &Num, page: &mut Page, out: &mut K)
+fn write_number<K: Sink>(alloc: Global, number: &Num, page: &mut BufferedSink, out: &mut K)
     ensures { (level : ℕ) → Writes K.written K.faults out.old page.old out.new page.new (layout level (number_tree number.now)) }
 {
     match number {
-        Num::Int(value) => page.put_integer(alloc, value, out),
+        Num::Int(value) => put_integer(alloc, value, page, out),
         Num::Scaled { mantissa, exponent } => {
             page.put(b"(e ", out);
-            page.put_integer(alloc, mantissa, out);
+            put_integer(alloc, mantissa, page, out);
             page.put(b" ", out);
             write_exponent(alloc, exponent, page, out);
             page.put(b")", out);
@@ -43,14 +43,14 @@ fn write_number<K: Sink>(alloc: Global, number: &Num, page: &mut Page, out: &mut
 }
 
 /// Writes an exponent.
-fn write_exponent<K: Sink>(alloc: Global, exponent: &i32, page: &mut Page, out: &mut K)
+fn write_exponent<K: Sink>(alloc: Global, exponent: &i32, page: &mut BufferedSink, out: &mut K)
     ensures { Writes K.written K.faults out.old page.old out.new page.new (signed_decimal exponent.now) }
 {
-    page.put_integer(alloc, &i64::from(*exponent), out);
+    put_integer(alloc, &i64::from(*exponent), page, out);
 }
 
 /// Writes what a property says.
-fn write_value<K: Sink>(alloc: Global, value: &Value, page: &mut Page, out: &mut K)
+fn write_value<K: Sink>(alloc: Global, value: &Value, page: &mut BufferedSink, out: &mut K)
     ensures { (level : ℕ) → Writes K.written K.faults out.old page.old out.new page.new (layout level (value_tree value.now)) }
 {
     match value {
@@ -58,7 +58,7 @@ fn write_value<K: Sink>(alloc: Global, value: &Value, page: &mut Page, out: &mut
         Value::Boolean(false) => page.put(b"(boolean (false))", out),
         Value::Integer(value) => {
             page.put(b"(integer ", out);
-            page.put_integer(alloc, value, out);
+            put_integer(alloc, value, page, out);
             page.put(b")", out);
         }
         Value::Number(number) => {
@@ -68,7 +68,7 @@ fn write_value<K: Sink>(alloc: Global, value: &Value, page: &mut Page, out: &mut
         }
         Value::Text(text) => {
             page.put(b"(string ", out);
-            page.put_string(alloc, text, out);
+            put_string(alloc, text, page, out);
             page.put(b")", out);
         }
     }
@@ -79,20 +79,25 @@ pub fn write_text_form<K: Sink>(
     alloc: Global,
     opening: &[u8],
     text: &Option<Text>,
-    page: &mut Page,
+    page: &mut BufferedSink,
     out: &mut K,
 )
     ensures { Writes K.written K.faults out.old page.old out.new page.new (enclosed opening.now text.now) }
 {
     if let Some(text) = text {
         page.put(opening, out);
-        page.put_string(alloc, text, out);
+        put_string(alloc, text, page, out);
         page.put(b")", out);
     }
 }
 
 /// Writes a property.
-pub fn write_property<K: Sink>(alloc: Global, property: &Property, page: &mut Page, out: &mut K)
+pub fn write_property<K: Sink>(
+    alloc: Global,
+    property: &Property,
+    page: &mut BufferedSink,
+    out: &mut K,
+)
     ensures { (level : ℕ) → Writes K.written K.faults out.old page.old out.new page.new (layout level (property_tree property.now)) }
 {
     page.put(b"(property ", out);
@@ -107,7 +112,7 @@ pub fn write_property<K: Sink>(alloc: Global, property: &Property, page: &mut Pa
 pub fn write_properties<K: Sink>(
     alloc: Global,
     properties: &Row<Property>,
-    page: &mut Page,
+    page: &mut BufferedSink,
     out: &mut K,
 )
     ensures { (level : ℕ) → Writes K.written K.faults out.old page.old out.new page.new (spaced level (map property_tree properties.now)) }
@@ -123,13 +128,13 @@ pub fn write_property_lines<K: Sink>(
     alloc: Global,
     level: usize,
     properties: &Row<Property>,
-    page: &mut Page,
+    page: &mut BufferedSink,
     out: &mut K,
 )
     ensures { Writes K.written K.faults out.old page.old out.new page.new (lined level (map property_tree properties.now)) }
 {
     for property in properties.as_slice() {
-        page.put_line(level, out);
+        put_line(level, page, out);
         write_property(alloc, property, page, out);
     }
 }

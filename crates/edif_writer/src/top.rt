@@ -4,12 +4,12 @@ ghost use Rattle.edif_spec.specs.Arranged.{arranged};
 ghost use Rattle.edif_spec.specs.Canonical.{layout, perhaps, note_tree, design_tree};
 ghost use Rattle.spelling_spec.specs.Tree.{word};
 ghost use Rattle.edif_writer.specs.Lines.{spaced, lined};
-ghost use Rattle.edif_writer.specs.Written.{Writes};
+ghost use Rattle.netdb_outside.specs.Buffered.{Writes};
 
-use crate::page::Page;
 use crate::reference::write_cell_ref;
 use crate::small::{write_name, write_property, write_property_lines};
-use netdb_outside::Sink;
+use crate::spelled::{put_ident, put_line};
+use netdb_outside::{BufferedSink, Sink};
 use netlist_schema::{Ident, Note, Row, Shown};
 use std::alloc::Global;
 
@@ -17,17 +17,17 @@ use std::alloc::Global;
 const TOP_LEVEL: usize = 2;
 
 /// Writes the steps of a path on its line.
-fn write_steps<K: Sink>(alloc: Global, path: &Row<Ident>, page: &mut Page, out: &mut K)
+fn write_steps<K: Sink>(alloc: Global, path: &Row<Ident>, page: &mut BufferedSink, out: &mut K)
     ensures { (level : ℕ) → Writes K.written K.faults out.old page.old out.new page.new (spaced level (map word path.now)) }
 {
     for step in path.as_slice() {
         page.put(b" ", out);
-        page.put_ident(alloc, step, out);
+        put_ident(alloc, step, page, out);
     }
 }
 
 /// Writes a note.
-fn write_note<K: Sink>(alloc: Global, note: &Note, page: &mut Page, out: &mut K)
+fn write_note<K: Sink>(alloc: Global, note: &Note, page: &mut BufferedSink, out: &mut K)
     ensures { (level : ℕ) → Writes K.written K.faults out.old page.old out.new page.new (layout level (note_tree note.now)) }
 {
     page.put(b"(userData netdb_note (path", out);
@@ -38,17 +38,22 @@ fn write_note<K: Sink>(alloc: Global, note: &Note, page: &mut Page, out: &mut K)
 }
 
 /// Writes notes on lines of their own.
-fn write_note_lines<K: Sink>(alloc: Global, notes: &Row<Note>, page: &mut Page, out: &mut K)
+fn write_note_lines<K: Sink>(alloc: Global, notes: &Row<Note>, page: &mut BufferedSink, out: &mut K)
     ensures { Writes K.written K.faults out.old page.old out.new page.new (lined 2 (map note_tree notes.now)) }
 {
     for note in notes.as_slice() {
-        page.put_line(TOP_LEVEL, out);
+        put_line(TOP_LEVEL, page, out);
         write_note(alloc, note, page, out);
     }
 }
 
 /// Writes the form of the top on a line of its own, where there is a top.
-pub fn write_top_line<S: Shown, K: Sink>(alloc: Global, design: &S, page: &mut Page, out: &mut K)
+pub fn write_top_line<S: Shown, K: Sink>(
+    alloc: Global,
+    design: &S,
+    page: &mut BufferedSink,
+    out: &mut K,
+)
     ensures { Writes K.written K.faults out.old page.old out.new page.new
         (lined 1 (perhaps (design_tree (arranged (S.design design.now)).libs (S.design design.now).notes) (arranged (S.design design.now)).top)) }
 {

@@ -1,16 +1,14 @@
 //! Whole designs.
 ghost use Rattle.std.specs.Prelude.{◌≡◌, ◌≤◌, OnErr, OnOk, IsErrOf};
 ghost use Rattle.edif_spec.specs.Arranged.{canonical_text};
-ghost use Rattle.edif_writer.specs.Written.{Writes};
-ghost use Rattle.edif_writer.specs.declared.error.WriteError.TheVariants.{WriteFault};
+ghost use Rattle.netdb_outside.specs.Buffered.{Writes};
+ghost use Rattle.netdb_outside.specs.declared.write_error.WriteError.TheVariants.{WriteFault};
 ghost use Rattle.netdb_outside.specs.Outside.{Appends, AppendsFront, Rose};
 
-use crate::error::WriteError;
 use crate::library::write_library_lines;
-use crate::page::Page;
 use crate::small::write_name;
 use crate::top::write_top_line;
-use netdb_outside::Sink;
+use netdb_outside::{BufferedSink, Sink, WriteError};
 use netlist_schema::Shown;
 use std::alloc::Global;
 
@@ -29,13 +27,13 @@ pub fn write_design<S: Shown, K: Sink>(
     ensures fault { IsErrOf result WriteFault → Rose (K.faults out.old) (K.faults out.new) }
     ensures never_falls { K.faults out.old ≤ K.faults out.new }
 {
-    let mut page = Page::new(alloc);
+    let mut page = BufferedSink::new(alloc);
     write_file(alloc, design, &mut page, out);
     page.finish(out)
 }
 
 /// Writes the text of a design, with its cells in arranged order.
-fn write_file<S: Shown, K: Sink>(alloc: Global, design: &S, page: &mut Page, out: &mut K)
+fn write_file<S: Shown, K: Sink>(alloc: Global, design: &S, page: &mut BufferedSink, out: &mut K)
     ensures { Writes K.written K.faults out.old page.old out.new page.new (canonical_text (S.design design.now)) }
 {
     page.put(b"(edif ", out);

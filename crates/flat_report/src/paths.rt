@@ -9,7 +9,7 @@ ghost use Rattle.flat_report.specs.Parts.{behind_blanks, behind_slashes, cell_be
 
 use crate::names::net_name;
 use crate::words::push_word;
-use cell_view::inst_at;
+use cell_lookup::inst_at;
 use flat_spec::{NetAt, Path};
 use netlist_schema::{CellId, NoMemory, Shown};
 

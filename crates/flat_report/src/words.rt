@@ -2,7 +2,7 @@
 ghost use Rattle.std.specs.Prelude.{◌≡◌, ◌++◌, codes, map, OnOk};
 ghost use Rattle.std.specs.Fmt.{decimal};
 ghost use Rattle.edif_names.specs.Parts.{Grows};
-ghost use Rattle.edif_names.specs.PropertyText.{property_text};
+ghost use Rattle.edif_spec.specs.PropertyText.{property_text};
 ghost use Rattle.flat_report.specs.Parts.{behind_blanks};
 
 use edif_names::property_text;

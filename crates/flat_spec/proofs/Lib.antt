@@ -1,5 +1,8 @@
+pub mod BelowLemmas
+pub mod BitLemmas
 pub mod ChainLemmas
 pub mod ConnectionLemmas
+pub mod FirstLemmas
 pub mod HandedDownLemmas
 pub mod ListLemmas
 pub mod OccurrenceLemmas

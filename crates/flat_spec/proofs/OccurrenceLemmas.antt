@@ -19,7 +19,7 @@ abbrev root_and_below : CellId → Forest → List Occurrence
 root_and_below cell below = record { path = []; cell = cell } ∷ occurrences_from 0 below
 
 -- each path below trees side by side begins with the place of one of them
-occurrences_from-head : (i : ℕ) (f : Forest) (o : Occurrence) → Member (occurrences_from i f) o
+pub occurrences_from-head : (i : ℕ) (f : Forest) (o : Occurrence) → Member (occurrences_from i f) o
     → (j : ℕ) × (p : List ℕ) × (j ∷ p ≡ o.path) × (i ≤ j)
 occurrences_from-head i Bare o m = absurd m
 occurrences_from-head i (Grown cell below others) o m =
@@ -32,7 +32,7 @@ occurrences_from-head i (Grown cell below others) o m =
           (found.0, found.1, found.2, omega (arith, found.3))
     ]
 
-abbrev OccurrenceBefore : Occurrence → Occurrence → Type 0
+abbrev pub OccurrenceBefore : Occurrence → Occurrence → Type 0
 OccurrenceBefore o q = PathBefore o.path q.path
 
 root-first : (cell : CellId) (i : ℕ) (f : Forest) (o : Occurrence) → Member (occurrences_from i f) o
@@ -41,7 +41,7 @@ root-first cell i f o m =
     let found = occurrences_from-head i f o m in
     subst (λ p. PathBefore [] p) found.2 tt
 
-occurrences_from-ascends : (i : ℕ) (f : Forest) → Ascends OccurrenceBefore (occurrences_from i f)
+pub occurrences_from-ascends : (i : ℕ) (f : Forest) → Ascends OccurrenceBefore (occurrences_from i f)
 occurrences_from-ascends i Bare = tt
 occurrences_from-ascends i (Grown cell below others) =
     Ascends-append OccurrenceBefore (map (under i) (root_and_below cell below)) (occurrences_from (suc i) others)
@@ -184,22 +184,22 @@ occurrences_go_down d root acyclic =
     λ i. record { path = []; cell = u.0 i } in
     λ i. head i ∷ each i
 
-range_with_len-least : (n count k : ℕ) → Member (range_with_len n count) k → n ≤ k
+pub range_with_len-least : (n count k : ℕ) → Member (range_with_len n count) k → n ≤ k
 range_with_len-least n zero k m = absurd m
 range_with_len-least n (suc count) k m =
     elim m [ inl same ↦ omega (arith, same) | inr rest ↦ omega (arith, range_with_len-least (n + 1) count k rest) ]
 
-range_with_len-most : (n count k : ℕ) → Member (range_with_len n count) k → k < n + count
+pub range_with_len-most : (n count k : ℕ) → Member (range_with_len n count) k → k < n + count
 range_with_len-most n zero k m = absurd m
 range_with_len-most n (suc count) k m =
     elim m [ inl same ↦ omega (arith, same) | inr rest ↦ omega (arith, range_with_len-most (n + 1) count k rest) ]
 
-range_with_len-ascends : (n count : ℕ) → Ascends (λ j k. j < k) (range_with_len n count)
+pub range_with_len-ascends : (n count : ℕ) → Ascends (λ j k. j < k) (range_with_len n count)
 range_with_len-ascends n zero = tt
 range_with_len-ascends n (suc count) =
     (λ k m. omega (arith, range_with_len-least (n + 1) count k m), range_with_len-ascends (n + 1) count)
 
-range_with_len-member : (n count k : ℕ) → n ≤ k → k < n + count → Member (range_with_len n count) k
+pub range_with_len-member : (n count k : ℕ) → n ≤ k → k < n + count → Member (range_with_len n count) k
 range_with_len-member n zero k low high = absurd (omega arith)
 range_with_len-member n (suc count) k low high =
     elim (cases n k low) [

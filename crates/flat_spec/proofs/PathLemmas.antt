@@ -80,6 +80,11 @@ pub Joins-outward_here : (d : Design) (root c : CellId) (path : List ℕ) (n : �
 Joins-outward_here d root c path n e at j =
     subst (λ p. Joins d root (at_path p n) e) (append-nil path) (Joins-outward d root c path [] n e at j)
 
+pub Joins-inward_here : (d : Design) (root c : CellId) (path : List ℕ) (n : ℕ) (e : End) → Reaches d root path c
+    → Joins d root (at_path path n) e → Joins d c (at_root n) e
+Joins-inward_here d root c path n e at j =
+    Joins-inward d root c path [] n e at (subst (λ p. Joins d root (at_path p n) e) (sym (append-nil path)) j)
+
 -- what joins an end is a net
 pub Joins-net : (d : Design) (root : CellId) (x : NetAt) (e : End) → Joins d root x e → IsNet d root x
 Joins-net d root x e j = there (net_of d root x) j

@@ -19,7 +19,7 @@ use Rattle.flat_spec.proofs.PathLemmas.{Some-same}
 use Rattle.flat_spec.proofs.TestLemmas.{has_end-true, has_end-from, above-some, above-append}
 
 -- each two elements at places in order are related, so each comes before all that follow it
-AllPairs-ascends : {A : Type 0} (R : A → A → Type 0) (xs : List A) → AllPairs R xs → Ascends R xs
+pub AllPairs-ascends : {A : Type 0} (R : A → A → Type 0) (xs : List A) → AllPairs R xs → Ascends R xs
 AllPairs-ascends R [] p = tt
 AllPairs-ascends {A} R (x ∷ xs) p = (
   λ y m. first y xs m (λ j d within. p 0 (suc j) d (omega arith) (omega arith)),
@@ -47,7 +47,7 @@ Ascends-parts R (v ∷ xs) ys p =
     )
 
 -- a net's ends are among those of all nets
-ends-member : (nets : List Net) (j : ℕ) (net : Net) (e : End) → slice_get nets j ≡ Some net → Member net.ends e
+pub ends-member : (nets : List Net) (j : ℕ) (net : Net) (e : End) → slice_get nets j ≡ Some net → Member net.ends e
     → Member (flat_map (λ (n : Net). n.ends) nets) e
 ends-member [] j net e is m = absurd (none-some net is)
 ends-member (n ∷ nets) zero net e is m =
@@ -57,7 +57,7 @@ ends-member (n ∷ nets) (suc j) net e is m =
     Member-append_right n.ends (flat_map (λ (v : Net). v.ends) nets) e (ends-member nets j net e is m)
 
 -- where no end stands twice, two nets that join it are one
-joined_once : (nets : List Net) (e : End) → Ascends (λ a b. a ≢ b) (flat_map (λ (n : Net). n.ends) nets)
+pub joined_once : (nets : List Net) (e : End) → Ascends (λ a b. a ≢ b) (flat_map (λ (n : Net). n.ends) nets)
     → (i j : ℕ) (a b : Net) → slice_get nets i ≡ Some a → slice_get nets j ≡ Some b → Member a.ends e → Member b.ends e → i ≡ j
 joined_once [] e p i j a b at bt m k = absurd (none-some a at)
 joined_once (n ∷ nets) e p zero zero a b at bt m k = refl
@@ -144,7 +144,11 @@ net_parts d root x e j = along (cell_along d root x.path) refl j
     along None at j = absurd (omega arith)
     along (Some c) at j = within c at (slice_get (nets_at d c) x.net) refl j
 
-nets_at-once : (d : Design) → IsValid d → (c : CellId) → Ascends (λ a b. a ≢ b) (flat_map (λ (n : Net). n.ends) (nets_at d c))
+-- no end stands twice in the nets of a cell
+abbrev pub JoinsOnce : Design → Type 0
+JoinsOnce d = (c : CellId) → Ascends (λ a b. a ≢ b) (flat_map (λ (n : Net). n.ends) (nets_at d c))
+
+pub nets_at-once : (d : Design) → IsValid d → (c : CellId) → Ascends (λ a b. a ≢ b) (flat_map (λ (n : Net). n.ends) (nets_at d c))
 nets_at-once d valid c = there (cell_at d c) refl
   where
     there : (o : Option CellBody) → cell_at d c ≡ o → Ascends (λ a b. a ≢ b) (flat_map (λ (n : Net). n.ends) (option_map_or nets_of o []))
@@ -152,9 +156,9 @@ nets_at-once d valid c = there (cell_at d c) refl
     there (Some body) is = AllPairs-ascends (λ a b. a ≢ b) (ends_of body) (valid.cells c body is).joined_once
 
 -- the net that joins the end is found
-pub net_joining-from : (d : Design) → IsValid d → (root : CellId) (e : End) (x : NetAt) → Joins d root x e
+net_joining-from_once : (d : Design) → JoinsOnce d → (root : CellId) (e : End) (x : NetAt) → Joins d root x e
     → net_joining d root x.path e ≡ Some x
-net_joining-from d valid root e x j =
+net_joining-from_once d once root e x j =
     let parts = net_parts d root x e j in
     let c = parts.0 in
     let net = parts.1 in
@@ -163,7 +167,7 @@ net_joining-from d valid root e x j =
     let same_cell : other.0 ≡ c = Some-same (cell_along d root x.path) other.2 parts.2 in
     let other_at : slice_get (nets_at d c) found.0 ≡ Some other.1 = subst (λ k. slice_get (nets_at d k) found.0 ≡ Some other.1) same_cell other.3 in
     let one : found.0 ≡ x.net =
-    joined_once (nets_at d c) e (nets_at-once d valid c) found.0 x.net other.1 net other_at parts.3
+    joined_once (nets_at d c) e (once c) found.0 x.net other.1 net other_at parts.3
     (Contains-member other.1.ends e other.4) (Contains-member net.ends e parts.4) in
     ap (λ o. option_map (at_path x.path) (option_map_or (λ k. position (seeks e) (nets_at d k)) o None)) parts.2
     ∙ ap (option_map (at_path x.path)) found.1
@@ -181,11 +185,19 @@ net_at_pin-joins d root (i ∷ path) b x found = inside (above (i ∷ path)) ref
         let joins = net_joining-joins d root up.0 (on up.1 b) x found in
         (up.1, above-some (i ∷ path) up is ∙ ap (λ p. p ++ up.1 ∷ []) (sym joins.0), joins.1)
 
-pub net_at_pin-from : (d : Design) → IsValid d → (root : CellId) (path : List ℕ) (b : Bit) (x : NetAt) → JoinsPin d root x path b
+pub net_at_pin-from_once : (d : Design) → JoinsOnce d → (root : CellId) (path : List ℕ) (b : Bit) (x : NetAt) → JoinsPin d root x path b
     → net_at_pin d root path b ≡ Some x
-net_at_pin-from d valid root [] b x j =
-    subst (λ p. net_joining d root p (own b) ≡ Some x) j.0 (net_joining-from d valid root (own b) x j.1)
-net_at_pin-from d valid root (i ∷ path) b x j =
+net_at_pin-from_once d once root [] b x j =
+    subst (λ p. net_joining d root p (own b) ≡ Some x) j.0 (net_joining-from_once d once root (own b) x j.1)
+net_at_pin-from_once d once root (i ∷ path) b x j =
     let up : above (i ∷ path) ≡ Some (x.path, j.0) = ap above j.1 ∙ above-append x.path j.0 in
     ap (λ o. option_map_or (λ (up : List ℕ × ℕ). net_joining d root up.0 (on up.1 b)) o (net_joining d root [] (own b))) up
-    ∙ net_joining-from d valid root (on j.0 b) x j.2
+    ∙ net_joining-from_once d once root (on j.0 b) x j.2
+
+pub net_joining-from : (d : Design) → IsValid d → (root : CellId) (e : End) (x : NetAt) → Joins d root x e
+    → net_joining d root x.path e ≡ Some x
+net_joining-from d valid = net_joining-from_once d (nets_at-once d valid)
+
+pub net_at_pin-from : (d : Design) → IsValid d → (root : CellId) (path : List ℕ) (b : Bit) (x : NetAt) → JoinsPin d root x path b
+    → net_at_pin d root path b ≡ Some x
+net_at_pin-from d valid = net_at_pin-from_once d (nets_at-once d valid)

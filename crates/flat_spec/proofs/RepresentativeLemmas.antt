@@ -75,7 +75,7 @@ NetBefore-not_both x y h k =
       ]
     ]
 
-PathBefore-total : (p q : List ℕ) → PathBefore p q ⊎ ((p ≡ q) ⊎ PathBefore q p)
+pub PathBefore-total : (p q : List ℕ) → PathBefore p q ⊎ ((p ≡ q) ⊎ PathBefore q p)
 PathBefore-total [] [] = inr (inl refl)
 PathBefore-total [] (j ∷ q) = inl tt
 PathBefore-total (i ∷ p) [] = inr (inr tt)
@@ -102,7 +102,7 @@ NetBefore-total x y =
     ]
 
 -- in a list in order, what is found comes first among all that pass
-found-first : {A : Type 0} (R : A → A → Type 0) (test : A → Bool) → ((x y : A) → R x y → R y x → ⊥)
+pub found-first : {A : Type 0} (R : A → A → Type 0) (test : A → Bool) → ((x y : A) → R x y → R y x → ⊥)
     → (xs : List A) → Ascends R xs → (y : A) → Member xs y → test y ≡ true
     → (x : A) × (find test xs ≡ Some x) × (test x ≡ true) × ((z : A) → Member xs z → test z ≡ true → R z x → ⊥)
 found-first R test not_both [] p y m e = absurd m

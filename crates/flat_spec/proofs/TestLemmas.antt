@@ -63,7 +63,7 @@ has_end-true ends e t =
 pub has_end-from : (ends : List End) (e : End) → Contains ends e → has_end ends e ≡ true
 has_end-from ends e c = any-from (same_end e) ends e c (same_end-refl e)
 
-share_bit-true : (step : ℕ) (upper lower : List End) → share_bit step upper lower ≡ true
+pub share_bit-true : (step : ℕ) (upper lower : List End) → share_bit step upper lower ≡ true
     → (b : Bit) × Contains upper (on step b) × Contains lower (own b)
 share_bit-true step upper lower t =
     let found = any-true _ lower t in
@@ -74,7 +74,7 @@ share_bit-true step upper lower t =
       subst (λ v. Contains lower v) (same_end-true found.0 (own b) both.0) found.1,
     )
 
-share_bit-from : (step : ℕ) (upper lower : List End) (b : Bit) → Contains upper (on step b) → Contains lower (own b)
+pub share_bit-from : (step : ℕ) (upper lower : List End) (b : Bit) → Contains upper (on step b) → Contains lower (own b)
     → share_bit step upper lower ≡ true
 share_bit-from step upper lower b up low =
     any-from _ lower (own b) low (and_from _ _ (same_end-refl (own b)) (has_end-from upper (on step b) up))

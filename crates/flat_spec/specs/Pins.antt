@@ -1,18 +1,22 @@
 -- The pins of an occurrence, and the nets that join them.
 use Rattle.std.specs.Prelude.{◌≡◌, ◌↔◌, ℕ, List, [], ◌∷◌, ◌++◌, Option, Some, None, is_none, if◌then◌else◌, map, position}
-use Rattle.std.specs.List.{enumerate_from, flat_map, range_with_len}
+use Rattle.std.specs.List.{Contains, enumerate_from, flat_map, range_with_len}
 use Rattle.std.specs.Option.{option_map, option_map_or}
-use Rattle.netlist_schema.specs.Design.{Design, port_width}
+use Rattle.netlist_schema.specs.Design.{Design, cell_at, port_width}
 use Rattle.netlist_schema.specs.Types.{CellBody, CellId, End}
 use Rattle.netlist_schema.specs.Valid.{IsValid}
 use Rattle.flat_spec.specs.ConnectionTest.{above, has_end}
-use Rattle.flat_spec.specs.Paths.{Bit, own, on, at_path, cell_along, nets_at, Joins}
+use Rattle.flat_spec.specs.Paths.{Bit, own, on, at_path, cell_along, nets_at, Joins, Reaches}
 use Rattle.flat_spec.specs.declared.item.NetAt.{NetAt}
 
 -- the bits of the ports in order, port by port
 abbrev pub bits_of : CellBody → List Bit
 bits_of body =
     flat_map (λ p. map (λ bit. record { port = p.0; bit = bit }) (range_with_len 0 (port_width p.1))) (enumerate_from 0 body.ports)
+
+-- those of the cell with this id, none where there is no such cell
+abbrev pub own_bits : Design → CellId → List Bit
+own_bits d c = option_map_or bits_of (cell_at d c) []
 
 -- the bits whose pins are shown: those of the root, and those of leaves
 abbrev pub shown_bits : List ℕ → CellBody → List Bit
@@ -38,3 +42,13 @@ JoinsPin d root x (i ∷ path) b = (step : ℕ) × (i ∷ path ≡ x.path ++ ste
 abbrev pub PinsAreExact : Type 0
 PinsAreExact = (d : Design) (root : CellId) (path : List ℕ) (b : Bit) (x : NetAt) → IsValid d
     → (net_at_pin d root path b ≡ Some x) ↔ JoinsPin d root x path b
+
+-- In a valid design what a net joins is there: an end at the cell's own bits is one of the bits of the occurrence's cell, and an end
+-- on an instance is one of the bits of the cell one step below.
+abbrev pub JoinedOwnBitsAreThere : Type 0
+JoinedOwnBitsAreThere = (d : Design) (root : CellId) (x : NetAt) (b : Bit) → IsValid d → Joins d root x (own b)
+    → (c : CellId) × Reaches d root x.path c × Contains (own_bits d c) b
+
+abbrev pub JoinedBitsBelowAreThere : Type 0
+JoinedBitsBelowAreThere = (d : Design) (root : CellId) (x : NetAt) (step : ℕ) (b : Bit) → IsValid d → Joins d root x (on step b)
+    → (c : CellId) × Reaches d root (x.path ++ step ∷ []) c × Contains (own_bits d c) b

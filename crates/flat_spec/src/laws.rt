@@ -1,5 +1,6 @@
 //! What holds of the definitions. A law is what a function without parameters ensures; there is nothing to run.
 
+ghost use Rattle.flat_spec.specs.Below.{FlatteningIsUnderTop, ItemsGoDown};
 ghost use Rattle.flat_spec.specs.Connection.{ConnectionIsLocal};
 ghost use Rattle.flat_spec.specs.ConnectionTest.{TestTellsConnection};
 ghost use Rattle.flat_spec.specs.ExampleCounter.{CounterIsFlattened};
@@ -8,7 +9,7 @@ ghost use Rattle.flat_spec.specs.ExampleNotes.{NotesAreMerged, PairIsFlattened};
 ghost use Rattle.flat_spec.specs.ExampleTower.{TowerBegins};
 ghost use Rattle.flat_spec.specs.HandedDown.{EachNetHasAFirstInside, OrAreTheFirstInside, RepresentativesAreHandedDown};
 ghost use Rattle.flat_spec.specs.Occurrences.{NetsAreAll, OccurrencesAreAll, OccurrencesGoDown};
-ghost use Rattle.flat_spec.specs.Pins.{PinsAreExact};
+ghost use Rattle.flat_spec.specs.Pins.{JoinedBitsBelowAreThere, JoinedOwnBitsAreThere, PinsAreExact};
 ghost use Rattle.flat_spec.specs.Representatives.{ConnectedNetsHaveOneRepresentative, EachNetHasOneRepresentative};
 ghost use Rattle.flat_spec.specs.Trees.{EachCellHasOneTree};
 
@@ -50,6 +51,12 @@ pub fn representatives_are_handed_down()
     ensures there { EachNetHasAFirstInside }
 {}
 
+/// In a valid design each end that a net joins is a bit of the occurrence's cell, or of a cell one step below.
+pub fn joined_bits_are_there()
+    ensures own { JoinedOwnBitsAreThere }
+    ensures below { JoinedBitsBelowAreThere }
+{}
+
 /// In a valid design the net at a pin is the only one that joins it.
 pub fn pins_are_exact()
     ensures { PinsAreExact }
@@ -74,4 +81,10 @@ pub fn counter_is_flattened()
 /// The first items of a flattening that is too long to be written out.
 pub fn tower_begins()
     ensures { TowerBegins }
+{}
+
+/// The items at and below an occurrence are its own, and then those at and below each of its instances in order.
+pub fn items_go_down()
+    ensures down { ItemsGoDown }
+    ensures top { FlatteningIsUnderTop }
 {}

@@ -5,8 +5,6 @@
 pub mod item;
 pub mod laws;
 pub mod path;
-#[cfg(test)]
-mod tests;
 
 pub use item::{Item, NetAt};
 pub use path::Path;

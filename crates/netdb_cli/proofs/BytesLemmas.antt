@@ -1,6 +1,7 @@
 -- Bytes that are a design file, and what may be wrong with them.
 use Rattle.std.proofs.Common.{◌≡◌, ◌≤◌, List, length, None, sym, subst}
 use Prim.Native.Nat.{ℕ}
+use Rattle.netlist_schema.specs.declared.limits.TheConstants.{MOST_FILE_BYTES}
 use Rattle.spelling_spec.specs.Lexing.{tokens, lex_fault}
 use Rattle.spelling_spec.specs.Tree.{Placed, bare}
 use Rattle.spelling_spec.specs.TreeFaults.{IsFile}
@@ -16,7 +17,7 @@ use Rattle.netdb_cli.specs.declared.status.EdifFault.{EdifFault}
 use Rattle.netdb_cli.specs.declared.status.EdifFault.TheVariants.{Lex, Tree, Meaning}
 
 -- bytes whose tokens are those of a tree that means a design
-pub file_of : (bytes : List ℕ) (t : Placed) (d : Design) → length bytes ≤ 134217728 → lex_fault bytes ≡ None → IsFile (tokens bytes) t → MeansFile (bare t) d → IsDesignFile bytes d
+pub file_of : (bytes : List ℕ) (t : Placed) (d : Design) → length bytes ≤ MOST_FILE_BYTES → lex_fault bytes ≡ None → IsFile (tokens bytes) t → MeansFile (bare t) d → IsDesignFile bytes d
 file_of bytes t d size none file means = record { size = size; tree = bare t; spelled = file_spells bytes t none file; means = means }
 
 -- nothing is wrong with a design file

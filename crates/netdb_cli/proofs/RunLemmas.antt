@@ -3,6 +3,7 @@ use Rattle.std.proofs.Common.{◌≡◌, ◌≤◌, ◌<◌, ◌+◌, ◌⊎◌,
 use Prim.Native.Nat.{ℕ}
 use Rattle.std.specs.Prelude.{IfSome, IsSomeAnd, MatchOption, option_map}
 use Rattle.std.proofs.lemmas.List.{drop_all}
+use Rattle.netlist_schema.specs.declared.limits.TheConstants.{MOST_FILE_BYTES}
 use Rattle.netdb_outside.specs.Contents.{IsReadWhole, IsReadPast}
 use Rattle.netdb_outside.specs.Outside.{Shelf, SameFiles, file_named}
 use Rattle.spelling_spec.specs.Tree.{Bare}
@@ -71,9 +72,9 @@ some_file : (told : Option Shelf) (name bytes : List ℕ) (P : List ℕ → Type
 some_file None name bytes P h p = tt
 some_file (Some shelf) name bytes P h p = rw h.0 p
 
-read_through : (told : Option Shelf) (name bytes : List ℕ) → length bytes ≤ 134217728 → IfSome told (λ shelf. IsReadWhole shelf name bytes) → IsReadThrough told name
+read_through : (told : Option Shelf) (name bytes : List ℕ) → length bytes ≤ MOST_FILE_BYTES → IfSome told (λ shelf. IsReadWhole shelf name bytes) → IsReadThrough told name
 read_through None name bytes size h = tt
-read_through (Some shelf) name bytes size h = rw h.0 (h.1 ∙ sym (drop_all 134217729 bytes (omega (arith, size))))
+read_through (Some shelf) name bytes size h = rw h.0 (h.1 ∙ sym (drop_all (MOST_FILE_BYTES + 1) bytes (omega (arith, size))))
 
 was_read : (told : Option Shelf) (name bytes : List ℕ) (d : Design) → IfSome told (λ shelf. IsReadWhole shelf name bytes) → IsDesignFile bytes d → IsRead told name d
 was_read told name bytes d h file = record { valid = file.means.valid; file = some_file told name bytes (λ (b : List ℕ). IsDesignFile b d) h file }
@@ -90,7 +91,7 @@ kept bytes Text d file = reads_back file.tree d file.means
 kept bytes (Items limit) d file = tt
 
 -- a command on a file that was read to its end
-pub file_gives : (name bytes : List ℕ) (wanted : Wanted) (old new : Outside) (result : Status) → length bytes ≤ 134217728 → IfSome new.files (λ shelf. IsReadWhole shelf name bytes)
+pub file_gives : (name bytes : List ℕ) (wanted : Wanted) (old new : Outside) (result : Status) → length bytes ≤ MOST_FILE_BYTES → IfSome new.files (λ shelf. IsReadWhole shelf name bytes)
     → BytesGive bytes wanted (record { bytes = old.written; faults = old.write_faults }) (record { bytes = new.written; faults = new.write_faults }) result → Gives name wanted old new result
 file_gives name bytes wanted old new status.Ok size read h = (
   record { design = h.0; read = was_read new.files name bytes h.0 read h.1; top = h.2.0; whole = h.2.1; kept = kept bytes wanted h.0 h.1 },
@@ -115,11 +116,11 @@ file_gives name bytes wanted old new status.NoMemory size read (inl same) = inl 
 file_gives name bytes wanted old new status.NoMemory size read (inr h) = inr (record { design = h.0; read = was_read new.files name bytes h.0 read h.1; top = h.2.0; front = h.2.1 })
 
 -- a file with more bytes than a design file may have
-pub too_large : (told : Option Shelf) (name : List ℕ) → IfSome told (λ shelf. IsReadPast shelf name 134217728) → IsFile told name IsTooLarge × IsReadThrough told name
+pub too_large : (told : Option Shelf) (name : List ℕ) → IfSome told (λ shelf. IsReadPast shelf name MOST_FILE_BYTES) → IsFile told name IsTooLarge × IsReadThrough told name
 too_large None name h = (tt, tt)
 too_large (Some shelf) name h = go (file_named shelf.files name) h
   where
-    go : (found : Option (List ℕ)) → IsSomeAnd found (λ bytes. (134217728 < length bytes) × (shelf.rest ≡ drop (134217728 + 1) bytes)) → IsSomeAnd found IsTooLarge × IsSomeAnd found (λ bytes. shelf.rest ≡ drop 134217729 bytes)
+    go : (found : Option (List ℕ)) → IsSomeAnd found (λ bytes. (MOST_FILE_BYTES < length bytes) × (shelf.rest ≡ drop (MOST_FILE_BYTES + 1) bytes)) → IsSomeAnd found IsTooLarge × IsSomeAnd found (λ bytes. shelf.rest ≡ drop (MOST_FILE_BYTES + 1) bytes)
     go None h = absurd h
     go (Some bytes) h = (h.0, h.1)
 
@@ -134,7 +135,7 @@ abbrev due : Option (List ℕ) → Wanted → Status → Type 0
 due found wanted result = MatchOption found
     ((result ≡ status.Missing 1) ⊎ IsExcuse result)
     (λ bytes. (IsTooLarge bytes → (result ≡ status.TooLarge 1) ⊎ IsExcuse result)
-    × (length bytes ≤ 134217728 → IsNoDesignFile bytes → IsBadFile result ⊎ IsExcuse result)
+    × (length bytes ≤ MOST_FILE_BYTES → IsNoDesignFile bytes → IsBadFile result ⊎ IsExcuse result)
     × ((d : Design) → IsDesignFile bytes d → IsDueOf wanted d result))
 
 -- the file is a design file, of a design such
@@ -178,7 +179,7 @@ tells shelf name wanted old new status.NoMemory told h = tt
 
 -- a file that is a design file is not too large, nothing is wrong with it, and it is that of one design
 large_apart : (bytes : List ℕ) (d : Design) → IsDesignFile bytes d → IsTooLarge bytes → ⊥
-large_apart bytes d file large = let size : length bytes ≤ 134217728 = file.size in absurd (omega (arith, large, size))
+large_apart bytes d file large = let size : length bytes ≤ MOST_FILE_BYTES = file.size in absurd (omega (arith, large, size))
 
 one_design : (bytes : List ℕ) (d e : Design) → IsDesignFile bytes d → IsDesignFile bytes e → d ≡ e
 one_design bytes d e file other =

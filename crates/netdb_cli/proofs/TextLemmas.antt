@@ -1,7 +1,7 @@
 -- Pieces of a text that are appended one after another.
-use Rattle.std.proofs.Common.{◌≡◌, ◌<◌, ◌+◌, List, [], ◌∷◌, ◌++◌, Option, Some, None, false, length, take, get_or, refl, sym, ap, ◌∙◌, append_assoc, append-nil}
+use Rattle.std.proofs.Common.{◌≡◌, ◌<◌, ◌+◌, List, [], ◌∷◌, ◌++◌, Option, Some, None, length, take, get_or, refl, sym, ap, ◌∙◌, append_assoc, append-nil}
 use Prim.Native.Nat.{ℕ}
-use Rattle.std.specs.Prelude.{OnOk, Result, Ok, Err, is_some}
+use Rattle.std.specs.Prelude.{OnOk, Result, Ok, Err}
 use Rattle.std.proofs.lemmas.Grind.{flat_map-append, take_at_read}
 use Rattle.netlist_schema.specs.Design.{Design}
 use Rattle.flat_spec.specs.Types.{Item}
@@ -24,8 +24,3 @@ one_more_line d items i item h is =
 pub both_parts : (d : Design) (limit : Option ℕ) (items shown : List Item) (last : List ℕ) → shown ≡ shown_items limit items → last ≡ last_line limit items
     → item_lines d shown ++ (last ++ []) ≡ item_lines d (shown_items limit items) ++ last_line limit items
 both_parts d limit items shown last first second = ap (λ v. item_lines d shown ++ v) (append-nil last) ∙ (ap (λ v. item_lines d v ++ last) first ∙ ap (λ v. item_lines d (shown_items limit items) ++ v) second)
-
--- nothing has failed
-pub not_stuck : {E : Type 0} (failure : Option E) → is_some failure ≡ false → failure ≡ None
-not_stuck None h = refl
-not_stuck (Some e) h = absurd (cc h)

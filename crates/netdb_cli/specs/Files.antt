@@ -1,5 +1,6 @@
 -- Which bytes are a design file, and what may be wrong with them.
 use Rattle.std.specs.Prelude.{◌≡◌, ◌≤◌, ℕ, List, length, None, Some}
+use Rattle.netlist_schema.specs.declared.limits.TheConstants.{MOST_FILE_BYTES}
 use Rattle.spelling_spec.specs.Lexing.{tokens, lex_fault}
 use Rattle.spelling_spec.specs.Spelling.{Spells}
 use Rattle.spelling_spec.specs.Tree.{Bare, Placed}
@@ -12,7 +13,7 @@ use Rattle.netdb_cli.specs.declared.status.EdifFault.TheVariants.{Lex, Tree, Mea
 
 -- The bytes are a design file of the design: as many as one may have, they spell a tree that means the design.
 pub record IsDesignFile (bytes : List ℕ) (d : Design) : Type 0 where
-  pub size : length bytes ≤ 134217728
+  pub size : length bytes ≤ MOST_FILE_BYTES
   pub tree : Bare
   pub spelled : Spells bytes tree
   pub means : MeansFile tree d

@@ -1,7 +1,8 @@
 -- What a call of the program answers, why, and what it wrote.
-use Rattle.std.specs.Prelude.{◌≡◌, ◌⊎◌, ◌<◌, ◌≤◌, ℕ, List, drop, length, Option, None, IfSome, IsSomeAnd, MatchOption}
+use Rattle.std.specs.Prelude.{◌≡◌, ◌⊎◌, ◌<◌, ◌≤◌, ◌+◌, ℕ, List, drop, length, Option, None, IfSome, IsSomeAnd, MatchOption}
 use Rattle.netlist_schema.specs.Design.{Design}
 use Rattle.netlist_schema.specs.Valid.{IsValid}
+use Rattle.netlist_schema.specs.declared.limits.TheConstants.{MOST_FILE_BYTES}
 use Rattle.netdb_outside.specs.Outside.{Shelf, Appends, AppendsFront, Rose, file_named}
 use Rattle.spelling_spec.specs.Spelling.{Spells}
 use Rattle.spelling_spec.specs.Tree.{Bare}
@@ -24,11 +25,11 @@ IsFile told name P = IfSome told (λ shelf. IsSomeAnd (file_named shelf.files na
 
 -- more bytes than a design file may have
 abbrev pub IsTooLarge : List ℕ → Type 0
-IsTooLarge bytes = 134217728 < length bytes
+IsTooLarge bytes = MOST_FILE_BYTES < length bytes
 
 -- as many bytes as a design file may have, of which this is wrong
 abbrev pub IsBad : EdifFault → List ℕ → Type 0
-IsBad fault bytes = (length bytes ≤ 134217728) × IsWrong bytes fault
+IsBad fault bytes = (length bytes ≤ MOST_FILE_BYTES) × IsWrong bytes fault
 
 -- a design that was read from the file: it is valid, and the file, where it is told, is a design file of it
 pub record IsRead (told : Option Shelf) (name : List ℕ) (d : Design) : Type 0 where
@@ -67,7 +68,7 @@ pub record IsTopless (told : Option Shelf) (name : List ℕ) (wanted : Wanted) :
 
 -- where files are told: the file of this name was read to its end, or to one byte past the size of a design file
 abbrev pub IsReadThrough : Option Shelf → List ℕ → Type 0
-IsReadThrough told name = IfSome told (λ shelf. IsSomeAnd (file_named shelf.files name) (λ bytes. shelf.rest ≡ drop 134217729 bytes))
+IsReadThrough told name = IfSome told (λ shelf. IsSomeAnd (file_named shelf.files name) (λ bytes. shelf.rest ≡ drop (MOST_FILE_BYTES + 1) bytes))
 
 -- what holds of the outside before and after a call: the files with their rest, the count of their faults, what was written, and the count of the sink's faults
 pub record Outside : Type 0 where
@@ -123,5 +124,5 @@ abbrev pub IsDue : Option Shelf → List ℕ → Wanted → Status → Type 0
 IsDue told name wanted result = IfSome told (λ shelf. MatchOption (file_named shelf.files name)
     ((result ≡ status.Missing 1) ⊎ IsExcuse result)
     (λ bytes. (IsTooLarge bytes → (result ≡ status.TooLarge 1) ⊎ IsExcuse result)
-    × (length bytes ≤ 134217728 → IsNoDesignFile bytes → IsBadFile result ⊎ IsExcuse result)
+    × (length bytes ≤ MOST_FILE_BYTES → IsNoDesignFile bytes → IsBadFile result ⊎ IsExcuse result)
     × ((d : Design) → IsDesignFile bytes d → IsDueOf wanted d result)))

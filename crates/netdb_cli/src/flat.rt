@@ -1,14 +1,13 @@
 //! The lines of a flattening, on their way to a sink.
 ghost use Rattle.std.specs.Prelude.{◌≡◌, ◌≤◌, ◌++◌, OnErr, OnOk, IsErrOf};
-ghost use Rattle.edif_writer.specs.Written.{Writes};
-ghost use Rattle.edif_writer.specs.declared.error.WriteError.TheVariants.{WriteFault};
+ghost use Rattle.netdb_outside.specs.Buffered.{Writes};
+ghost use Rattle.netdb_outside.specs.declared.write_error.WriteError.TheVariants.{WriteFault};
 ghost use Rattle.netdb_outside.specs.Outside.{Appends, AppendsFront, Rose};
 ghost use Rattle.report_spec.specs.Lines.{item_line, item_lines, last_line as line_behind, shown_items};
 
-use edif_writer::{Page, WriteError};
 use flat_report::item_text;
 use flat_spec::Item;
-use netdb_outside::Sink;
+use netdb_outside::{BufferedSink, Sink, WriteError};
 use netlist_schema::Shown;
 use std::alloc::Global;
 
@@ -26,7 +25,7 @@ pub fn write_items<S: Shown, K: Sink>(
     ensures fault { IsErrOf result WriteFault → Rose (K.faults out.old) (K.faults out.new) }
     ensures never_falls { K.faults out.old ≤ K.faults out.new }
 {
-    let mut page = Page::new(alloc);
+    let mut page = BufferedSink::new(alloc);
     put_lines(alloc, design, up_to(items, limit), &mut page, out);
     page.put(last_line(items, limit), out);
     page.finish(out)
@@ -63,7 +62,7 @@ fn put_lines<S: Shown, K: Sink>(
     alloc: Global,
     design: &S,
     items: &[Item],
-    page: &mut Page,
+    page: &mut BufferedSink,
     out: &mut K,
 )
     ensures { Writes K.written K.faults out.old page.old out.new page.new (item_lines (S.design design.now) items.now) }
@@ -80,7 +79,7 @@ fn put_line<S: Shown, K: Sink>(
     design: &S,
     item: &Item,
     line: &mut Vec<u8>,
-    page: &mut Page,
+    page: &mut BufferedSink,
     out: &mut K,
 )
     ensures { Writes K.written K.faults out.old page.old out.new page.new (item_line (S.design design.now) item.now) }

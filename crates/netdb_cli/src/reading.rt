@@ -4,6 +4,7 @@ ghost use Rattle.spelling_spec.specs.Lexing.{lex_fault, tokens};
 ghost use Rattle.spelling_spec.specs.Tree.{Placed};
 ghost use Rattle.spelling_spec.specs.TreeFaults.{IsFile};
 ghost use Rattle.edif_tree.specs.Nodes.{IsAt};
+ghost use Rattle.netlist_schema.specs.declared.limits.TheConstants.{MOST_FILE_BYTES};
 ghost use Rattle.netdb_cli.specs.Files.{IsDesignFile, IsWrong};
 ghost use Rattle.netdb_cli.specs.Steps.{Says, said_by_lexer, said_by_tree, said_by_reader};
 
@@ -81,7 +82,7 @@ fn tree_of(alloc: Global, bytes: &[u8]) -> Result<Tree, NoDesign>
 
 /// The design that the bytes of a design file mean, or what is wrong with them.
 pub fn read_bytes(alloc: Global, bytes: &[u8]) -> Result<Design, NoDesign>
-    requires { length bytes.now ≤ 134217728 }
+    requires { length bytes.now ≤ MOST_FILE_BYTES }
     ensures design { IfOk result (IsDesignFile bytes.now) }
     ensures fault { IfErr result (Says (IsWrong bytes.now)) }
 {

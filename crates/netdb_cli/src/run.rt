@@ -12,16 +12,14 @@ use crate::flat::write_items;
 use crate::reading::{NoDesign, read_bytes};
 use crate::status::Status;
 use design_model::{PlainError, plain_flat};
-use edif_writer::{WriteError, write_design};
+use edif_writer::write_design;
 use flat_spec::Item;
-use netdb_outside::{Contents, Files, Gate, Sink, read_file};
+use netdb_outside::{Contents, Files, Gate, Sink, WriteError, read_file};
 use netlist_schema::Design;
+use netlist_schema::limits::MOST_FILE_BYTES;
 use std::alloc::Global;
 use std::sync::Wait;
 use std::thread::Threads;
-
-/// The most bytes that a design file may have.
-const DESIGN_FILE_LIMIT: u64 = 134_217_728;
 
 /// The position of the file's name among the words.
 const FILE_WORD: u32 = 1;
@@ -86,7 +84,7 @@ fn write_output<K: Sink>(alloc: Global, design: &Design, wanted: Wanted, out: &m
 
 /// Writes what is wanted of the design of a design file with these bytes.
 fn write_bytes<K: Sink>(alloc: Global, bytes: &[u8], wanted: Wanted, out: &mut K) -> Status
-    requires { length bytes.now ≤ 134217728 }
+    requires { length bytes.now ≤ MOST_FILE_BYTES }
     ensures gives { BytesGive bytes.now wanted (record { bytes = K.written out.old; faults = K.faults out.old }) (record { bytes = K.written out.new; faults = K.faults out.new }) result }
     ensures never_falls { K.faults out.old ≤ K.faults out.new }
 {
@@ -113,7 +111,7 @@ fn run_command<F: Files, K: Sink>(
     ensures reading { F.faults files.old ≤ F.faults files.new }
     ensures writing { K.faults out.old ≤ K.faults out.new }
 {
-    match read_file(alloc, files, name, DESIGN_FILE_LIMIT) {
+    match read_file(alloc, files, name, MOST_FILE_BYTES) {
         Contents::Bytes(text) => write_bytes(alloc, text.as_slice(), wanted, out),
         Contents::TooLarge => Status::TooLarge { word: FILE_WORD },
         Contents::Missing => Status::Missing { word: FILE_WORD },

@@ -1,4 +1,5 @@
 pub mod Appending
+pub mod BufferedLemmas
 pub mod Distinct
 pub mod FileNames
 pub mod Takings

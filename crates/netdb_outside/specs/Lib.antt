@@ -1,3 +1,4 @@
+pub mod Buffered
 pub mod Contents
 pub mod MemFiles
 pub mod MemSink

@@ -107,8 +107,8 @@ fn refused_opening(error: &io::Error) -> Opened
     }
 }
 
-/// One read, tried again where a signal interrupts it.
-pub(crate) fn read_retrying<F: Read>(file: &mut F, buf: &mut [u8]) -> io::Result<usize>
+/// One read, tried again where a signal interrupts it, some times. An error that it answers is the last one. Takes no memory.
+pub fn read_retrying<F: Read>(file: &mut F, buf: &mut [u8]) -> io::Result<usize>
     ensures { ReadsAtMost result buf.new }
 {
     for _ in 0..TRIES {

@@ -1,7 +1,8 @@
 //! The outside of a program, as traits: files to be read, a sink to be written, and a gate that is told how far a script has
-//! come. Each has a form in memory, and files and sink have one over the system's.
+//! come. Each has a form in memory, and files and sink have one over the system's. `BufferedSink` gathers bytes into pieces for a sink.
 #![tactic(auto)]
 
+pub mod buffered_sink;
 pub mod contents;
 pub mod files;
 pub mod gate;
@@ -10,9 +11,9 @@ pub mod host_out;
 pub mod mem_files;
 pub mod mem_sink;
 pub mod sink;
-#[cfg(test)]
-mod tests;
+pub mod write_error;
 
+pub use buffered_sink::{Appended, BufferedSink};
 pub use contents::{Contents, read_file};
 pub use files::{Files, Got, Opened};
 pub use gate::{FreeGate, Gate};
@@ -21,3 +22,4 @@ pub use host_out::HostOut;
 pub use mem_files::{MemFiles, NamedFile, names_differ};
 pub use mem_sink::MemSink;
 pub use sink::{Put, Sink};
+pub use write_error::WriteError;

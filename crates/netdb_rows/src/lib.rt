@@ -1,8 +1,6 @@
-//! The worked rows of the program, run on its top call over files and a sink in memory, and on the calls of the flattening.
+//! The worked rows of the program, run on its top call over files and a sink in memory.
 #![tactic(auto)]
 
-#[cfg(test)]
-mod flat;
 #[cfg(test)]
 mod rows;
 #[cfg(test)]

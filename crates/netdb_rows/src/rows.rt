@@ -101,6 +101,9 @@ fn check<R: Abort + Threads + Wait + Sync>(
 
 const WRITE: [&str; 2] = ["write", "F"];
 
+/// The words that write a file that is not there.
+const MISSING: [&str; 2] = ["write", "nosuch"];
+
 /// A case of `write F` with no fault.
 fn of(file: &str) -> Case<'_> {
     Case {
@@ -282,53 +285,104 @@ fn designs_are_flattened(rt: HostRuntime) -> Result<(), Fail> {
     Ok(())
 }
 
-#[test]
-fn refusals_have_their_causes(rt: HostRuntime) -> Result<(), Fail> {
-    let file = format!(in rt.alloc(); "{HEAD})")?;
-    let (missing, fault, large) = (["write", "nosuch"], ["write"], ["flat", "F", "limit", "0"]);
-    let flat = ["flat", "F"];
-    let cases: [(&[&str], &[u64], Option<u64>, u8, &str); 8] = [
-        (&[], &[], None, 2, ""),
-        (&fault, &[], None, 2, ""),
-        (&large, &[], None, 2, ""),
-        (&missing, &[], None, 3, ""),
-        (&missing, &[1], None, 4, ""),
-        (&WRITE, &[2], None, 4, ""),
-        (&WRITE, &[], Some(10), 5, "(edif e\n ("),
-        (&flat, &[], None, 9, ""),
-    ];
-    for (words, failing, length, number, text) in cases {
+/// Words, the calls that fail, how many bytes the sink takes, the status that is wanted, and what was written.
+type Refusal<'a> = (&'a [&'a str], &'a [u64], Option<u64>, Status, &'a str);
+
+/// Those of the refusals on a file whose status or whose writing is another one.
+fn missed<R: Threads + Wait + Sync + Abort>(
+    rt: &R,
+    alloc: Global,
+    file: &str,
+    refusals: &[Refusal],
+) -> Result<String, Fail> {
+    let mut missed = String::new(alloc);
+    for (words, failing, length, want, written) in refusals {
         let case = Case {
-            file: file.as_str(),
+            file,
             words,
             failing,
-            length,
+            length: *length,
         };
-        let want = Want {
-            number,
-            fault: "",
-            written: text,
-        };
-        check(&rt, rt.alloc(), &case, &want)?;
+        let (status, out) = run(rt, alloc, &case)?;
+        if status != *want || out.written() != written.as_bytes() {
+            missed.push_str(&format!(in alloc; "{words:?} {failing:?} give {status:?}\n")?)?;
+        }
     }
-    let counter = Case {
-        length: Some(10),
-        ..of(COUNTER)
-    };
-    let want = Want {
-        number: 5,
-        fault: "",
-        written: "(edif coun",
-    };
-    check(&rt, rt.alloc(), &counter, &want)?;
-    let (status, _) = run(
+    Ok(missed)
+}
+
+#[test]
+fn refusals_have_their_causes(rt: HostRuntime) -> Result<(), Fail> {
+    let alloc = rt.alloc();
+    let empty = format!(in alloc; "{HEAD})")?;
+    let refusals: [Refusal; 9] = [
+        (&[], &[], None, Status::Usage, ""),
+        (&["write"], &[], None, Status::Usage, ""),
+        (&["flat", "F", "limit", "0"], &[], None, Status::Usage, ""),
+        (&MISSING, &[], None, Status::Missing { word: 1 }, ""),
+        (&MISSING, &[1], None, Status::ReadFault { word: 1 }, ""),
+        (&WRITE, &[2], None, Status::ReadFault { word: 1 }, ""),
+        (
+            &["flat", "F"],
+            &[2],
+            None,
+            Status::ReadFault { word: 1 },
+            "",
+        ),
+        (&WRITE, &[], Some(10), Status::WriteFault, "(edif e\n ("),
+        (&["flat", "F"], &[], None, Status::NoTop, ""),
+    ];
+    assert_eq!(rt; missed(&rt, alloc, &empty, &refusals)?.as_str(), "");
+    let fault: [Refusal; 1] = [(&WRITE, &[], Some(10), Status::WriteFault, "(edif coun")];
+    assert_eq!(rt; missed(&rt, alloc, COUNTER, &fault)?.as_str(), "");
+    Ok(())
+}
+
+/// The text of the fault of a file that is to be written.
+fn fault<R: Threads + Wait + Sync + Abort>(
+    rt: &R,
+    alloc: Global,
+    file: &str,
+) -> Result<String, Fail> {
+    let (status, _) = run(rt, alloc, &of(file))?;
+    let fault = fault_of(alloc, &status)?;
+    Ok(String::from_utf8_lossy(alloc, fault.as_slice())?)
+}
+
+/// Of several faults one that stands is named: the second fault of these files stands in the file's own form, and the first one in it.
+#[test]
+fn a_fault_that_stands_is_named(rt: HostRuntime) -> Result<(), Fail> {
+    let alloc = rt.alloc();
+    assert_eq!(rt;
+        fault(&rt, alloc, "(foo)")?.as_str(),
+        "NotInProfile foo at 0"
+    );
+    let version = fault(
         &rt,
-        rt.alloc(),
-        &Case {
-            words: &missing,
-            ..of("")
-        },
+        alloc,
+        "(edif e (edifVersion 2 0 0) (keywordMap (keywordLevel 0)))",
     )?;
-    assert!(rt; status == Status::Missing { word: 1 });
+    assert!(rt; matches!(version.as_str(), "BadForm at 28" | "BadForm at 0"));
+    let level = fault(&rt, alloc, "(edif e (edifLevel 0))")?;
+    assert!(rt; matches!(level.as_str(), "BadForm at 8" | "BadForm at 0"));
+    Ok(())
+}
+
+/// One blank more than a design file may have bytes.
+fn too_many_blanks(alloc: Global) -> Result<String, AllocError> {
+    let block = repeated(alloc, "                                ", 32_768)?;
+    let mut made = repeated(alloc, &block, 128)?;
+    made.push_str(" ")?;
+    Ok(made)
+}
+
+#[test]
+fn a_file_has_at_most_128_mib(rt: HostRuntime) -> Result<(), Fail> {
+    let alloc = rt.alloc();
+    let blanks = too_many_blanks(alloc)?;
+    assert_eq!(rt; blanks.len(), 134_217_729);
+    let (status, out) = run(&rt, alloc, &of(&blanks))?;
+    assert!(rt; status == Status::TooLarge { word: 1 });
+    assert!(rt; out.written().is_empty());
     Ok(())
 }

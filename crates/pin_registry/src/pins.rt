@@ -5,12 +5,13 @@ ghost use Rattle.pin_registry.specs.Counts.{count_at};
 ghost use Rattle.pin_registry.specs.Registry.{IsLive, with_pin, without_pin};
 
 use netlist_schema::NoMemory;
+use netlist_schema::limits::MOST_EVENTS;
 use std::alloc::Global;
 use std::collections::BTreeMap;
 use std::marker::Model;
 
-/// The greatest number of pins that a registry makes.
-pub const MOST_PINS: u64 = 4_194_304;
+/// The greatest number of pins that a registry makes: each is made at an event of a history.
+pub const MOST_PINS: u64 = MOST_EVENTS;
 
 /// The pins that were made, numbered from 0 in the order in which they were made, and those of them that are live. Each
 /// live pin holds a version.
@@ -113,32 +114,5 @@ fn count_down(counts: &mut BTreeMap<u64, u64>, version: u64)
         let _ = counts.insert(version, count - 1);
     } else {
         counts.remove(&version);
-    }
-}
-
-#[cfg(test)]
-mod tests {
-    use super::*;
-    use std::test::Fail;
-
-    #[test]
-    fn a_version_is_held_until_its_last_pin_ends(rt: HostRuntime) -> Result<(), Fail> {
-        let mut pins = Pins::new(rt.alloc());
-        assert_eq!(rt; pins.live(), 0);
-        assert!(rt; !pins.holds(0));
-        assert_eq!(rt; pins.add(0)?, 0);
-        assert_eq!(rt; pins.add(0)?, 1);
-        assert_eq!(rt; pins.add(7)?, 2);
-        assert_eq!(rt; pins.live(), 3);
-        pins.remove(0);
-        assert!(rt; pins.holds(0));
-        pins.remove(1);
-        assert!(rt; !pins.holds(0));
-        assert!(rt; pins.holds(7));
-        assert_eq!(rt; pins.add(0)?, 3);
-        assert!(rt; pins.holds(0));
-        assert_eq!(rt; pins.live(), 2);
-        assert_eq!(rt; pins.made(), 4);
-        Ok(())
     }
 }

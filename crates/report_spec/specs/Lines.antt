@@ -5,7 +5,7 @@ use Rattle.std.specs.Option.{option_map_or}
 use Rattle.std.specs.Fmt.{decimal}
 use Rattle.netlist_schema.specs.Design.{Design, lib_at, cell_at}
 use Rattle.netlist_schema.specs.Types.{CellId}
-use Rattle.edif_names.specs.PropertyText.{property_text}
+use Rattle.edif_spec.specs.PropertyText.{property_text}
 use Rattle.flat_spec.specs.Effective.{names_along}
 use Rattle.flat_spec.specs.Flattening.{flattening}
 use Rattle.flat_spec.specs.Paths.{at_path, cell_along, net_of}

@@ -1,10 +1,10 @@
-//! The designs, built part by part.
+//! The design, built part by part.
 ghost use Rattle.std.specs.Prelude.{◌≡◌, [], ◌∷◌, Some, None, IfOk, codes};
-ghost use Rattle.writer_rows.specs.Designs.{plain, shown, text_property, port_of, inst_of, cell_of, lib_of, escaped, inner_cell, outer_cell, out_of_order};
+ghost use Rattle.writer_rows.specs.Designs.{plain, text_property, inst_of, cell_of, lib_of, inner_cell, outer_cell, out_of_order};
 
 use netlist_schema::{
-    CellBody, CellId, CellKind, Contents, Design, Direction, Ident, Inst, Lib, LibHead, LibId,
-    Name, Note, Port, Property, Row, Text, TopHead, Value,
+    CellBody, CellId, CellKind, Contents, Design, Ident, Inst, Lib, LibHead, LibId, Name, Note,
+    Property, Row, Text, TopHead, Value,
 };
 use std::alloc::Global;
 use std::test::Fail;
@@ -30,17 +30,6 @@ fn text(alloc: Global, bytes: &[u8]) -> Result<Text, Fail>
     Ok(Text::of(bytes))
 }
 
-fn renamed(alloc: Global, id: &[u8], bytes: &[u8]) -> Result<Name, Fail>
-    ensures { IfOk result (λ name. name ≡ shown id.now bytes.now) }
-{
-    let id = ident(alloc, id)?;
-    let bytes = text(alloc, bytes)?;
-    Ok(Name {
-        id,
-        shown: Some(bytes),
-    })
-}
-
 fn property(alloc: Global, key: &[u8], bytes: &[u8]) -> Result<Property, Fail>
     ensures { IfOk result (λ property. property ≡ text_property key.now bytes.now) }
 {
@@ -51,18 +40,6 @@ fn property(alloc: Global, key: &[u8], bytes: &[u8]) -> Result<Property, Fail>
         value: Value::Text(bytes),
         owner: None,
     })
-}
-
-fn port(alloc: Global, name: Name, direction: Direction) -> Port
-    ensures { result ≡ port_of name None direction }
-{
-    Port {
-        name,
-        array: None,
-        direction: Some(direction),
-        designator: None,
-        properties: Row::of(Vec::new(alloc)),
-    }
 }
 
 fn inst(name: Name, slot: u32, properties: Vec<Property>) -> Inst
@@ -79,24 +56,17 @@ fn inst(name: Name, slot: u32, properties: Vec<Property>) -> Inst
     }
 }
 
-fn cell(
-    alloc: Global,
-    name: Name,
-    view: Name,
-    ports: Vec<Port>,
-    properties: Vec<Property>,
-    contents: Option<Contents>,
-) -> CellBody
-    ensures { result ≡ cell_of name view ports.items properties.items contents }
+fn cell(alloc: Global, name: Name, view: Name, contents: Option<Contents>) -> CellBody
+    ensures { result ≡ cell_of name view contents }
 {
     CellBody {
         name,
         kind: CellKind::Generic,
         properties: Row::of(Vec::new(alloc)),
         view,
-        view_properties: Row::of(properties),
+        view_properties: Row::of(Vec::new(alloc)),
         interface_properties: Row::of(Vec::new(alloc)),
-        ports: Row::of(ports),
+        ports: Row::of(Vec::new(alloc)),
         contents,
     }
 }
@@ -123,36 +93,6 @@ fn library(name: Name, cells: Vec<CellBody>) -> Lib
     }
 }
 
-fn escaped_cell(alloc: Global) -> Result<CellBody, Fail>
-    ensures { IfOk result (λ cell. cell ≡ cell_of (plain (codes "1")) (plain (codes "v")) (port_of (shown (codes "a_0_") (codes "a[0]")) None Direction.Input ∷ []) (text_property (codes "K") (codes "\"%") ∷ []) None) }
-{
-    let id = name(alloc, b"1")?;
-    let view = name(alloc, b"v")?;
-    let a = renamed(alloc, b"a_0_", b"a[0]")?;
-    let k = property(alloc, b"K", b"\"%")?;
-    let ports = vec![in alloc; port(alloc, a, Direction::Input)]?;
-    let properties = vec![in alloc; k]?;
-    Ok(cell(alloc, id, view, ports, properties, None))
-}
-
-fn escaped_libs(alloc: Global) -> Result<Row<Lib>, Fail>
-    ensures { IfOk result (λ libs. libs ≡ escaped.libs) }
-{
-    let w = name(alloc, b"w")?;
-    let only = escaped_cell(alloc)?;
-    let cells = vec![in alloc; only]?;
-    Ok(Row::of(vec![in alloc; library(w, cells)]?))
-}
-
-pub fn escaped(alloc: Global) -> Result<Design, Fail>
-    ensures { IfOk result (λ design. design ≡ escaped) }
-{
-    let title = name(alloc, b"e")?;
-    let libs = escaped_libs(alloc)?;
-    let notes = Row::of(Vec::new(alloc));
-    Ok(Design::of(title, libs, None, notes))
-}
-
 fn inner_cell(alloc: Global, id: &[u8]) -> Result<CellBody, Fail>
     ensures { IfOk result (λ cell. cell ≡ inner_cell id.now) }
 {
@@ -163,7 +103,7 @@ fn inner_cell(alloc: Global, id: &[u8]) -> Result<CellBody, Fail>
     let properties = vec![in alloc; init]?;
     let insts = vec![in alloc; inst(u2, 0, properties)]?;
     let contents = placing(alloc, insts);
-    Ok(cell(alloc, id, view, Vec::new(alloc), Vec::new(alloc), contents))
+    Ok(cell(alloc, id, view, contents))
 }
 
 fn outer_cell(alloc: Global) -> Result<CellBody, Fail>
@@ -177,15 +117,15 @@ fn outer_cell(alloc: Global) -> Result<CellBody, Fail>
     let second = inst(u3, 3, Vec::new(alloc));
     let insts = vec![in alloc; first, second]?;
     let contents = placing(alloc, insts);
-    Ok(cell(alloc, id, view, Vec::new(alloc), Vec::new(alloc), contents))
+    Ok(cell(alloc, id, view, contents))
 }
 
 fn leaf_cell(alloc: Global) -> Result<CellBody, Fail>
-    ensures { IfOk result (λ cell. cell ≡ cell_of (plain (codes "LUT")) (plain (codes "v")) [] [] None) }
+    ensures { IfOk result (λ cell. cell ≡ cell_of (plain (codes "LUT")) (plain (codes "v")) None) }
 {
     let id = name(alloc, b"LUT")?;
     let view = name(alloc, b"v")?;
-    Ok(cell(alloc, id, view, Vec::new(alloc), Vec::new(alloc), None))
+    Ok(cell(alloc, id, view, None))
 }
 
 fn out_of_order_libs(alloc: Global) -> Result<Row<Lib>, Fail>

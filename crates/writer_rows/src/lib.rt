@@ -1,4 +1,4 @@
-//! Worked designs, as they are written.
+//! A worked design that no file has, since a cell stands before one that it places: the order of its cells, and its text.
 #![tactic(auto)]
 
 #[cfg(test)]

@@ -1,25 +1,11 @@
-//! What is written of each design.
-use crate::designs::{escaped, out_of_order};
+//! In which order the cells of the design are written, and what is written.
+use crate::designs::out_of_order;
+use cell_order::cell_order;
 use edif_writer::{WriteError, write_design};
 use netdb_outside::MemSink;
-use netlist_schema::Design;
+use netlist_schema::{Design, LibId};
 use std::alloc::Global;
-use std::process::Abort;
 use std::test::Fail;
-
-const ESCAPED: &str = "(edif e
- (edifVersion 2 0 0)
- (edifLevel 0)
- (keywordMap (keywordLevel 0))
- (library w
-  (edifLevel 0)
-  (technology (numberDefinition))
-  (cell &1 (cellType GENERIC)
-   (view v (viewType NETLIST)
-    (interface
-     (port (rename a_0_ \"a[0]\") (direction INPUT)))
-    (property K (string \"%34 37%\"))))))
-";
 
 const OUT_OF_ORDER: &str = "(edif e
  (edifVersion 2 0 0)
@@ -51,28 +37,27 @@ const OUT_OF_ORDER: &str = "(edif e
   (userData netdb_note (path u1 u2) (property INIT (string \"1\")))))
 ";
 
-/// Writes a design into a sink of a length, and compares the answer and the bytes.
-fn check<R: Abort>(
-    rt: &R,
+/// What is answered when a design is written into a sink of a length, and what was written.
+fn written(
     alloc: Global,
     design: &Design,
     length: Option<u64>,
-    answer: Result<(), WriteError>,
-    want: &str,
-) {
+) -> Result<(Result<(), WriteError>, String), Fail> {
     let mut out = MemSink::new(alloc, length);
-    let got = write_design(alloc, design, &mut out);
-    assert_eq!(rt; got, answer);
-    assert_eq!(rt; out.written(), want.as_bytes());
+    let answer = write_design(alloc, design, &mut out);
+    let text = String::from_utf8_lossy(alloc, out.written())?;
+    Ok((answer, text))
 }
 
 #[test]
-fn writes_worked_designs(rt: HostRuntime) -> Result<(), Fail> {
+fn a_design_out_of_order_is_written_in_order(rt: HostRuntime) -> Result<(), Fail> {
     let alloc = rt.alloc();
-    check(&rt, alloc, &escaped(alloc)?, None, Ok(()), ESCAPED);
     let design = out_of_order(alloc)?;
-    check(&rt, alloc, &design, None, Ok(()), OUT_OF_ORDER);
-    let fault = Err(WriteError::WriteFault);
-    check(&rt, alloc, &design, Some(10), fault, "(edif e\n (");
+    let order = cell_order(alloc, &design, LibId(0))?;
+    assert_eq!(rt; order.as_slice(), [0, 1, 3, 2].as_slice());
+    let (answer, text) = written(alloc, &design, None)?;
+    assert!(rt; answer == Ok(()) && text.as_str() == OUT_OF_ORDER);
+    let (answer, text) = written(alloc, &design, Some(10))?;
+    assert!(rt; answer == Err(WriteError::WriteFault) && text.as_str() == "(edif e\n (");
     Ok(())
 }

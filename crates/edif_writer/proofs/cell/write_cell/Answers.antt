@@ -1,5 +1,5 @@
 use Rattle.edif_writer.proofs.ListTexts.{cell_text}
-use Rattle.edif_writer.proofs.WrittenLemmas.{writes_then, writes_same}
+use Rattle.netdb_outside.proofs.BufferedLemmas.{writes_then, writes_same}
 use Rattle.edif_writer.proofs.cell.write_cell.Goals as goal
 
 pub returns : goal.returns

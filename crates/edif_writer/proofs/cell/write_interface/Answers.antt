@@ -1,5 +1,5 @@
 use Rattle.edif_writer.proofs.ListTexts.{interface_text}
-use Rattle.edif_writer.proofs.WrittenLemmas.{writes_then, writes_same}
+use Rattle.netdb_outside.proofs.BufferedLemmas.{writes_then, writes_same}
 use Rattle.edif_writer.proofs.cell.write_interface.Goals as goal
 
 pub returns : goal.returns

@@ -1,7 +1,7 @@
 use Rattle.std.proofs.Common.{map, take}
 use Rattle.edif_spec.specs.Canonical.{port_tree}
 use Rattle.edif_writer.specs.Lines.{lined}
-use Rattle.edif_writer.specs.Written.{Writes}
+use Rattle.netdb_outside.specs.Buffered.{Writes}
 use Rattle.edif_writer.proofs.cell.write_port_lines.Given as goal
 
 abbrev pub invariant-loop-port : goal.invariant-loop-port

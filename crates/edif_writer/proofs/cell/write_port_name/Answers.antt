@@ -1,7 +1,7 @@
 use Rattle.std.proofs.Common.{suc, pos, ap}
 use Rattle.std.specs.Fmt.{signed_decimal}
 use Rattle.edif_writer.proofs.SmallTexts.{scalar_text, array_text}
-use Rattle.edif_writer.proofs.WrittenLemmas.{writes_then, writes_same}
+use Rattle.netdb_outside.proofs.BufferedLemmas.{writes_then, writes_same}
 use Rattle.edif_writer.proofs.cell.write_port_name.Goals as goal
 
 pub returns-in-None : goal.returns-in-None

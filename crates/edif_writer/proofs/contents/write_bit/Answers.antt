@@ -1,5 +1,5 @@
 use Rattle.edif_writer.proofs.ContentsTexts.{member_text}
-use Rattle.edif_writer.proofs.WrittenLemmas.{writes_then, writes_same}
+use Rattle.netdb_outside.proofs.BufferedLemmas.{writes_then, writes_same}
 use Rattle.edif_writer.proofs.contents.write_bit.Goals as goal
 
 pub returns-in-Some : goal.returns-in-Some

@@ -1,5 +1,5 @@
 use Rattle.edif_writer.proofs.ContentsTexts.{contents_line_text}
-use Rattle.edif_writer.proofs.WrittenLemmas.{writes_then, writes_same}
+use Rattle.netdb_outside.proofs.BufferedLemmas.{writes_then, writes_same}
 use Rattle.edif_writer.proofs.contents.write_contents_line.Goals as goal
 
 pub returns-in-Some : goal.returns-in-Some

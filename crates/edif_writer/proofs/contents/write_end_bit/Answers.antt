@@ -1,6 +1,6 @@
 use Rattle.std.proofs.Common.{ap}
 use Rattle.edif_spec.specs.Canonical.{layout, port_ref_tree}
-use Rattle.edif_writer.proofs.WrittenLemmas.{writes_same}
+use Rattle.netdb_outside.proofs.BufferedLemmas.{writes_same}
 use Rattle.edif_writer.proofs.contents.write_end_bit.Goals as goal
 
 pub returns-in-Some : goal.returns-in-Some

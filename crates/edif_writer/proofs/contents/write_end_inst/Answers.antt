@@ -1,6 +1,6 @@
 use Rattle.std.proofs.Common.{suc}
 use Rattle.edif_writer.proofs.ContentsTexts.{end_inst_text}
-use Rattle.edif_writer.proofs.WrittenLemmas.{writes_then, writes_same}
+use Rattle.netdb_outside.proofs.BufferedLemmas.{writes_then, writes_same}
 use Rattle.edif_writer.proofs.contents.write_end_inst.Goals as goal
 
 pub returns-in-Some : goal.returns-in-Some

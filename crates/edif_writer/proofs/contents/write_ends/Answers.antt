@@ -5,7 +5,7 @@ use Rattle.netlist_schema.specs.Types.{End}
 use Rattle.edif_spec.specs.Canonical.{layout, end_tree}
 use Rattle.edif_writer.specs.Lines.{spaced}
 use Rattle.edif_writer.proofs.FormTexts.{one_more}
-use Rattle.edif_writer.proofs.WrittenLemmas.{writes_then, writes_same}
+use Rattle.netdb_outside.proofs.BufferedLemmas.{writes_then, writes_same}
 use Rattle.edif_writer.proofs.contents.write_ends.Goals as goal
 
 pub loop-end-preserved : goal.loop-end-preserved

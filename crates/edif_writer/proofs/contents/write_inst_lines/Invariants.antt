@@ -1,7 +1,7 @@
 use Rattle.std.proofs.Common.{map, take}
 use Rattle.edif_spec.specs.Canonical.{inst_tree}
 use Rattle.edif_writer.specs.Lines.{lined}
-use Rattle.edif_writer.specs.Written.{Writes}
+use Rattle.netdb_outside.specs.Buffered.{Writes}
 use Rattle.edif_writer.proofs.contents.write_inst_lines.Given as goal
 
 abbrev pub invariant-loop-inst : goal.invariant-loop-inst

@@ -1,7 +1,7 @@
 use Rattle.std.proofs.Common.{◌++◌}
 use Rattle.edif_spec.specs.Canonical.{layout, new_line, net_tree}
 use Rattle.edif_writer.proofs.FormTexts.{one_more}
-use Rattle.edif_writer.proofs.WrittenLemmas.{writes_then, writes_same}
+use Rattle.netdb_outside.proofs.BufferedLemmas.{writes_then, writes_same}
 use Rattle.edif_writer.proofs.contents.write_net_lines.Goals as goal
 
 pub loop-net-preserved : goal.loop-net-preserved

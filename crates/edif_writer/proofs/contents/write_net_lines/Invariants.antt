@@ -1,7 +1,7 @@
 use Rattle.std.proofs.Common.{map, take}
 use Rattle.edif_spec.specs.Canonical.{net_tree}
 use Rattle.edif_writer.specs.Lines.{lined}
-use Rattle.edif_writer.specs.Written.{Writes}
+use Rattle.netdb_outside.specs.Buffered.{Writes}
 use Rattle.edif_writer.proofs.contents.write_net_lines.Given as goal
 
 abbrev pub invariant-loop-net : goal.invariant-loop-net

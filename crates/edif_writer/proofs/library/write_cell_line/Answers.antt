@@ -1,7 +1,7 @@
 use Rattle.std.proofs.Common.{◌≡◌, ◌++◌, ap}
 use Rattle.edif_spec.specs.Canonical.{layout, new_line, cell_tree}
 use Rattle.edif_writer.proofs.Places.{valid_placed}
-use Rattle.edif_writer.proofs.WrittenLemmas.{writes_then, writes_same}
+use Rattle.netdb_outside.proofs.BufferedLemmas.{writes_then, writes_same}
 use Rattle.edif_writer.proofs.library.write_cell_line.Goals as goal
 
 pub write_cell-requires : goal.write_cell-requires

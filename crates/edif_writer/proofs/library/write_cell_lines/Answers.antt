@@ -10,7 +10,7 @@ use Rattle.edif_writer.specs.Lines.{lined}
 use Rattle.edif_writer.proofs.FormTexts.{lined-append}
 use Rattle.edif_writer.proofs.Places.{cells_more, valid_there}
 use Rattle.edif_writer.proofs.Renumbered.{cell_stays}
-use Rattle.edif_writer.proofs.WrittenLemmas.{writes_then, writes_same}
+use Rattle.netdb_outside.proofs.BufferedLemmas.{writes_then, writes_same}
 use Rattle.edif_writer.proofs.library.write_cell_lines.Goals as goal
 
 pub loop-slot-preserved : goal.loop-slot-preserved

@@ -3,7 +3,7 @@ use Rattle.edif_spec.specs.Arranged.{arranged, new_cells, orders_from}
 use Rattle.edif_spec.specs.Canonical.{cell_tree}
 use Rattle.netlist_schema.specs.Design.{cells_in}
 use Rattle.edif_writer.specs.Lines.{lined}
-use Rattle.edif_writer.specs.Written.{Writes}
+use Rattle.netdb_outside.specs.Buffered.{Writes}
 use Rattle.edif_writer.proofs.library.write_cell_lines.Given as goal
 
 abbrev pub invariant-loop-slot : goal.invariant-loop-slot

@@ -1,5 +1,5 @@
-use Rattle.std.proofs.Common.{◌≡◌, [], ◌∷◌, ◌++◌, Option, Some, None, false, map, refl, ap, sym, ◌∙◌}
-use Rattle.std.specs.Prelude.{codes, is_some, option_map}
+use Rattle.std.proofs.Common.{◌≡◌, [], ◌∷◌, ◌++◌, Option, Some, None, map, refl, ap, sym, ◌∙◌}
+use Rattle.std.specs.Prelude.{codes, option_map}
 use Rattle.std.specs.Option.{option_map_or}
 use Rattle.edif_spec.specs.Arranged.{arranged, order_of, orders_from, new_cells}
 use Rattle.edif_spec.specs.Canonical.{layout, cell_tree, library_keyword, library_tree, name_text, name_tree}
@@ -10,19 +10,15 @@ use Rattle.edif_writer.specs.Lines.{lined}
 use Rattle.edif_writer.proofs.Places.{order_there}
 use Rattle.edif_writer.proofs.Renumbered.{moved_lib}
 use Rattle.edif_writer.proofs.WholeTexts.{library_text}
-use Rattle.edif_writer.proofs.WrittenLemmas.{writes_then, writes_same, writes_failed}
+use Rattle.netdb_outside.proofs.BufferedLemmas.{writes_then, writes_same, ran_out}
 use Rattle.edif_writer.proofs.library.write_library_line.Goals as goal
-
-not_stuck : {E : Type 0} (o : Option E) → is_some o ≡ false → o ≡ None
-not_stuck None h = refl
-not_stuck (Some e) h = absurd (cc h)
 
 of_head : (o : Option Lib) (h : LibHead) → Some h ≡ option_map (λ (l : Lib). l.head) o → (l : Lib) × (o ≡ Some l)
 of_head None h e = absurd (cc e)
 of_head (Some l) h e = (l, refl)
 
 pub returns-in_default : goal.returns-in_default
-returns-in_default g c lib found = writes_failed c.args.out.now c.args.page.now c.run_out.new.self _ (not_stuck c.args.page.now.failure (sym c.is_stuck.ensures ∙ c.if-is_stuck.false)) c.run_out.ensures.failure
+returns-in_default g c lib found = ran_out c.args.out.now c.args.page.now c.run_out.new.self _ (sym c.is_stuck.ensures ∙ c.if-is_stuck.false) c.run_out.ensures
 
 pub write_cell_lines-requires-clause-there : goal.write_cell_lines-requires-clause-there
 write_cell_lines-requires-clause-there g c =

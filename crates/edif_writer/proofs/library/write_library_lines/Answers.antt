@@ -5,7 +5,7 @@ use Rattle.edif_spec.specs.Canonical.{library_tree}
 use Rattle.edif_writer.specs.Lines.{lined}
 use Rattle.edif_writer.proofs.Renumbered.{moved_length}
 use Rattle.edif_writer.proofs.WholeTexts.{writes_line}
-use Rattle.edif_writer.proofs.WrittenLemmas.{writes_same}
+use Rattle.netdb_outside.proofs.BufferedLemmas.{writes_same}
 use Rattle.edif_writer.proofs.library.write_library_lines.Goals as goal
 
 pub loop-lib-preserved : goal.loop-lib-preserved

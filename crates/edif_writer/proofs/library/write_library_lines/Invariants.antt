@@ -2,7 +2,7 @@ use Rattle.std.proofs.Common.{map, take}
 use Rattle.edif_spec.specs.Arranged.{arranged}
 use Rattle.edif_spec.specs.Canonical.{library_tree}
 use Rattle.edif_writer.specs.Lines.{lined}
-use Rattle.edif_writer.specs.Written.{Writes}
+use Rattle.netdb_outside.specs.Buffered.{Writes}
 use Rattle.edif_writer.proofs.library.write_library_lines.Given as goal
 
 abbrev pub invariant-loop-lib : goal.invariant-loop-lib

@@ -1,6 +1,6 @@
 use Rattle.edif_spec.specs.Design.{cell_id, lib_id}
 use Rattle.edif_writer.proofs.ContentsTexts.{cell_ref_text}
-use Rattle.edif_writer.proofs.WrittenLemmas.{writes_then, writes_same}
+use Rattle.netdb_outside.proofs.BufferedLemmas.{writes_then, writes_same}
 use Rattle.edif_writer.proofs.reference.write_cell_ref.Goals as goal
 
 pub returns : goal.returns

@@ -1,5 +1,5 @@
 use Rattle.edif_writer.proofs.SmallTexts.{rename_text}
-use Rattle.edif_writer.proofs.WrittenLemmas.{writes_then, writes_same}
+use Rattle.netdb_outside.proofs.BufferedLemmas.{writes_then, writes_same}
 use Rattle.edif_writer.proofs.small.write_name.Goals as goal
 
 pub returns-in-Some : goal.returns-in-Some

@@ -1,5 +1,5 @@
 use Rattle.edif_writer.proofs.SmallTexts.{scaled_text}
-use Rattle.edif_writer.proofs.WrittenLemmas.{writes_then, writes_same}
+use Rattle.netdb_outside.proofs.BufferedLemmas.{writes_then, writes_same}
 use Rattle.edif_writer.proofs.small.write_number.Goals as goal
 
 pub returns-in-Scaled : goal.returns-in-Scaled

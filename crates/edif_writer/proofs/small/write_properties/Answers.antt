@@ -3,7 +3,7 @@ use Rattle.std.proofs.lemmas.List.{take_all}
 use Rattle.edif_spec.specs.Canonical.{layout, property_tree}
 use Rattle.edif_writer.specs.Lines.{spaced}
 use Rattle.edif_writer.proofs.FormTexts.{one_more}
-use Rattle.edif_writer.proofs.WrittenLemmas.{writes_then, writes_same}
+use Rattle.netdb_outside.proofs.BufferedLemmas.{writes_then, writes_same}
 use Rattle.edif_writer.proofs.small.write_properties.Goals as goal
 
 pub loop-property-preserved : goal.loop-property-preserved

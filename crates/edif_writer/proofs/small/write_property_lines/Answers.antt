@@ -1,7 +1,7 @@
 use Rattle.std.proofs.Common.{◌++◌, suc}
 use Rattle.edif_spec.specs.Canonical.{layout, new_line, property_tree}
 use Rattle.edif_writer.proofs.FormTexts.{one_more}
-use Rattle.edif_writer.proofs.WrittenLemmas.{writes_then, writes_same}
+use Rattle.netdb_outside.proofs.BufferedLemmas.{writes_then, writes_same}
 use Rattle.edif_writer.proofs.small.write_property_lines.Goals as goal
 
 pub loop-property-preserved : goal.loop-property-preserved

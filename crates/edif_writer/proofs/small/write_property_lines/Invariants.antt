@@ -1,7 +1,7 @@
 use Rattle.std.proofs.Common.{map, take}
 use Rattle.edif_spec.specs.Canonical.{property_tree}
 use Rattle.edif_writer.specs.Lines.{lined}
-use Rattle.edif_writer.specs.Written.{Writes}
+use Rattle.netdb_outside.specs.Buffered.{Writes}
 use Rattle.edif_writer.proofs.small.write_property_lines.Given as goal
 
 abbrev pub invariant-loop-property : goal.invariant-loop-property

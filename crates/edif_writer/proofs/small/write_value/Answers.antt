@@ -1,5 +1,5 @@
 use Rattle.edif_writer.proofs.SmallTexts.{integer_text, number_text, text_text}
-use Rattle.edif_writer.proofs.WrittenLemmas.{writes_then, writes_same}
+use Rattle.netdb_outside.proofs.BufferedLemmas.{writes_then, writes_same}
 use Rattle.edif_writer.proofs.small.write_value.Goals as goal
 use Rattle.std.proofs.Common.{suc}
 

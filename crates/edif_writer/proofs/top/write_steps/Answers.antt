@@ -4,7 +4,7 @@ use Rattle.spelling_spec.specs.Tree.{word}
 use Rattle.edif_spec.specs.Canonical.{layout}
 use Rattle.edif_writer.specs.Lines.{spaced}
 use Rattle.edif_writer.proofs.FormTexts.{one_more}
-use Rattle.edif_writer.proofs.WrittenLemmas.{writes_then, writes_same}
+use Rattle.netdb_outside.proofs.BufferedLemmas.{writes_then, writes_same}
 use Rattle.edif_writer.proofs.top.write_steps.Goals as goal
 
 pub loop-step-preserved : goal.loop-step-preserved

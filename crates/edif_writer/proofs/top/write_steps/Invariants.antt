@@ -1,7 +1,7 @@
 use Rattle.std.proofs.Common.{ℕ, map, take}
 use Rattle.spelling_spec.specs.Tree.{word}
 use Rattle.edif_writer.specs.Lines.{spaced}
-use Rattle.edif_writer.specs.Written.{Writes}
+use Rattle.netdb_outside.specs.Buffered.{Writes}
 use Rattle.edif_writer.proofs.top.write_steps.Given as goal
 
 abbrev pub invariant-loop-step : goal.invariant-loop-step

@@ -9,7 +9,7 @@ use Rattle.netlist_schema.specs.Names.{HasDistinctKeys}
 use Rattle.edif_writer.specs.Lines.{lined}
 use Rattle.edif_writer.proofs.ContentsTexts.{top_line_text}
 use Rattle.edif_writer.proofs.Renumbered.{cell_ref_stays}
-use Rattle.edif_writer.proofs.WrittenLemmas.{writes_then, writes_same}
+use Rattle.netdb_outside.proofs.BufferedLemmas.{writes_then, writes_same}
 use Rattle.edif_writer.proofs.top.write_top_line.Goals as goal
 
 pub returns-in-Some : goal.returns-in-Some

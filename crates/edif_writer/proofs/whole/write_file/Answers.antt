@@ -2,7 +2,7 @@ use Rattle.std.proofs.Common.{ap}
 use Rattle.edif_spec.specs.Arranged.{arranged}
 use Rattle.edif_spec.specs.Canonical.{layout, name_tree}
 use Rattle.edif_writer.proofs.WholeTexts.{design_text}
-use Rattle.edif_writer.proofs.WrittenLemmas.{writes_then, writes_same}
+use Rattle.netdb_outside.proofs.BufferedLemmas.{writes_then, writes_same}
 use Rattle.edif_writer.proofs.whole.write_file.Goals as goal
 
 pub returns : goal.returns

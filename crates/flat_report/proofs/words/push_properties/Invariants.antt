@@ -1,6 +1,6 @@
 use Rattle.std.proofs.Common.{◌≡◌, ◌++◌, drop, map}
 use Rattle.edif_names.specs.Parts.{Grows}
-use Rattle.edif_names.specs.PropertyText.{property_text}
+use Rattle.edif_spec.specs.PropertyText.{property_text}
 use Rattle.flat_report.specs.Parts.{behind_blanks}
 use Rattle.flat_report.proofs.words.push_properties.Given as goal
 

@@ -1,4 +1,4 @@
-use Rattle.edif_writer.proofs.WrittenLemmas.{writes_then, writes_same}
+use Rattle.netdb_outside.proofs.BufferedLemmas.{writes_then, writes_same}
 use Rattle.netdb_cli.proofs.TextLemmas.{one_more_line}
 use Rattle.netdb_cli.proofs.flat.put_lines.Goals as goal
 

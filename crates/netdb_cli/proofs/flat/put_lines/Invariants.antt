@@ -1,5 +1,5 @@
 use Rattle.std.proofs.Common.{take}
-use Rattle.edif_writer.specs.Written.{Writes}
+use Rattle.netdb_outside.specs.Buffered.{Writes}
 use Rattle.report_spec.specs.Lines.{item_lines}
 use Rattle.netdb_cli.proofs.flat.put_lines.Given as goal
 

@@ -1,0 +1,16 @@
+//! Tests of the crates that read and write files. They show what no clause says: that calls succeed where there is memory, and that
+//! the definitions give the texts, places and words that were meant.
+#![tactic(auto)]
+
+#[cfg(test)]
+mod forms;
+#[cfg(test)]
+mod lexing;
+#[cfg(test)]
+mod outside;
+#[cfg(test)]
+mod reading;
+#[cfg(test)]
+mod trees;
+#[cfg(test)]
+mod words;

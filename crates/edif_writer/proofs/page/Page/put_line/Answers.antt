@@ -1,7 +1,0 @@
-use Rattle.std.proofs.Common.{◌∷◌, ap}
-use Rattle.std.proofs.lemmas.List.{replicate-append-replicate}
-use Rattle.edif_writer.proofs.WrittenLemmas.{writes_then, writes_same}
-use Rattle.edif_writer.proofs.page.Page.put_line.Goals as goal
-
-pub loop-preserved : goal.loop-preserved
-loop-preserved g c = writes_same (ap (λ v. 10 ∷ v) (replicate-append-replicate c.loop.counter 1 32)) (writes_then c.loop.invariant c.put-in-loop.ensures)

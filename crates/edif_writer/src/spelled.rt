@@ -1,0 +1,84 @@
+//! Line feeds, identifiers, strings and integers, on their way to a sink.
+ghost use Rattle.std.specs.Prelude.{◌≡◌, ◌++◌, pos, OnErr, OnOk};
+ghost use Rattle.std.specs.Fmt.{signed_decimal};
+ghost use Rattle.edif_spec.specs.Canonical.{name_text, string_text, new_line};
+ghost use Rattle.netdb_outside.specs.Buffered.{Writes};
+
+use edif_names::{write_ident, write_integer, write_string};
+use netdb_outside::{Appended, BufferedSink, Sink};
+use netlist_schema::{Ident, NoMemory, Text};
+use std::alloc::Global;
+
+/// An identifier, as a file spells it.
+#[derive(Drop)]
+struct SpelledIdent<'a>(&'a Ident);
+
+impl<'a> Appended for SpelledIdent<'a> {
+    ghost text = { λ s. name_text s.0.now };
+
+    fn append_to(&self, alloc: Global, bytes: &mut Vec<u8>) -> Result<(), NoMemory> {
+        write_ident(alloc, self.0, bytes)
+    }
+}
+
+/// A string between quotes, as a file spells it.
+#[derive(Drop)]
+struct SpelledString<'a>(&'a Text);
+
+impl<'a> Appended for SpelledString<'a> {
+    ghost text = { λ s. string_text s.0.now };
+
+    fn append_to(&self, alloc: Global, bytes: &mut Vec<u8>) -> Result<(), NoMemory> {
+        write_string(alloc, self.0, bytes)
+    }
+}
+
+/// An integer, as a file spells it.
+#[derive(Drop)]
+struct SpelledInteger(i64);
+
+impl Appended for SpelledInteger {
+    ghost text = { λ s. signed_decimal s.0 };
+
+    fn append_to(&self, alloc: Global, bytes: &mut Vec<u8>) -> Result<(), NoMemory> {
+        write_integer(alloc, self.0, bytes)
+    }
+}
+
+/// Begins a line: a line feed, and as many blanks as its level.
+pub fn put_line<K: Sink>(level: usize, page: &mut BufferedSink, out: &mut K)
+    ensures { Writes K.written K.faults out.old page.old out.new page.new (new_line level) }
+{
+    page.put(b"\n", out);
+    for _ in 0..level {
+        page.put(b" ", out);
+    }
+}
+
+/// Writes an identifier.
+pub fn put_ident<K: Sink>(alloc: Global, name: &Ident, page: &mut BufferedSink, out: &mut K)
+    ensures { Writes K.written K.faults out.old page.old out.new page.new (name_text name.now) }
+{
+    page.put_text(alloc, &SpelledIdent(name), out);
+}
+
+/// Writes a string, between quotes.
+pub fn put_string<K: Sink>(alloc: Global, text: &Text, page: &mut BufferedSink, out: &mut K)
+    ensures { Writes K.written K.faults out.old page.old out.new page.new (string_text text.now) }
+{
+    page.put_text(alloc, &SpelledString(text), out);
+}
+
+/// Writes an integer.
+pub fn put_integer<K: Sink>(alloc: Global, value: &i64, page: &mut BufferedSink, out: &mut K)
+    ensures { Writes K.written K.faults out.old page.old out.new page.new (signed_decimal value.now) }
+{
+    page.put_text(alloc, &SpelledInteger(*value), out);
+}
+
+/// Writes a number that is not negative.
+pub fn put_number<K: Sink>(alloc: Global, value: u32, page: &mut BufferedSink, out: &mut K)
+    ensures { Writes K.written K.faults out.old page.old out.new page.new (signed_decimal (pos value)) }
+{
+    put_integer(alloc, &i64::from(value), page, out);
+}
