@@ -12,7 +12,7 @@ use Rattle.netlist_schema.specs.declared.ids.Object.{Object}
 use Rattle.conflict_check.specs.Commits.{Commits, last_commit, IsLater, HasNoLater, IsFirstLater}
 use Rattle.conflict_check.specs.Marks.{later_mark, IsFirst}
 use Rattle.conflict_check.specs.declared.stamps.Later.{Later}
-use Rattle.conflict_check.proofs.Order.{object_cmp_total}
+use Rattle.netlist_schema.proofs.Objects.{object_cmp_total}
 
 -- the least of these objects with a later commit, or that there is none
 abbrev pub FirstAmong : Commits → List Object → ℕ → Option Later → Type 0

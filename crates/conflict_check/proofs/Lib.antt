@@ -1,4 +1,3 @@
 pub mod Finding
 pub mod Marking
-pub mod Order
 pub mod Views

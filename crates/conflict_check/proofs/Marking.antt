@@ -11,7 +11,7 @@ use Rattle.netlist_schema.specs.Order.{object_cmp}
 use Rattle.netlist_schema.specs.declared.ids.Object.{Object}
 use Rattle.conflict_check.specs.Commits.{later_of}
 use Rattle.conflict_check.specs.Marks.{mark_at, marked_at, is_among, HasSameMarks, HasEntries}
-use Rattle.conflict_check.proofs.Order.{object_cmp_total, same_object}
+use Rattle.netlist_schema.proofs.Objects.{object_cmp_total, tied_object}
 
 abbrev Marks : Type 0
 Marks = BTreeMap Object (Option ℕ)
@@ -46,7 +46,7 @@ pub same_marks_insert : (m n : Marks) (object : Object) → Updates object_cmp m
 same_marks_insert m n object h q = mark_at_insert m n object (mark_at m object) h q ∙ cases (cases_Bool (eq_by_cmp object_cmp object q))
   where
     cases : (eq_by_cmp object_cmp object q ≡ true) ⊎ (eq_by_cmp object_cmp object q ≡ false) → cond (eq_by_cmp object_cmp object q) (mark_at m object) (mark_at m q) ≡ mark_at m q
-    cases (inl e) = rw e (ap (mark_at m) (same_object object q e))
+    cases (inl e) = rw e (ap (mark_at m) (tied_object object q e))
     cases (inr e) = rw e refl
 
 -- a later mark twice is one
@@ -73,7 +73,7 @@ marked_more first m n objects version i d in_range before h q =
     mark_at_insert m n object new h q
     ∙ ap (cond (eq_by_cmp object_cmp object q) new) (before q)
     ∙ ap (λ b. cond b new (marked_at first (take i objects) version q)) turned
-    ∙ one_more (is_among (take i objects) q) (eq_by_cmp object_cmp q object) (mark_at first q) new version (λ e. ap (λ x. Some (later_of x version)) (ap (mark_at m) (sym (same_object q object e)) ∙ before q))
+    ∙ one_more (is_among (take i objects) q) (eq_by_cmp object_cmp q object) (mark_at first q) new version (λ e. ap (λ x. Some (later_of x version)) (ap (mark_at m) (sym (tied_object q object e)) ∙ before q))
     ∙ ap (λ b. cond b (Some (later_of (mark_at first q) version)) (mark_at first q)) (sym (list_any_more (eq_by_cmp object_cmp q) objects i d in_range))
 
 -- the one outcome where the other cannot be

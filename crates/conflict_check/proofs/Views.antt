@@ -18,7 +18,7 @@ use Rattle.netlist_schema.specs.declared.ids.Object.{Object}
 use Rattle.conflict_check.specs.Commits.{Commits, last_commit, later_of, IsMarked}
 use Rattle.conflict_check.specs.Inside.{stamped}
 use Rattle.conflict_check.specs.Marks.{mark_at, marked_at, is_among, HasSameMarks}
-use Rattle.conflict_check.proofs.Order.{object_cmp_total, object_cmp_exact, same_object}
+use Rattle.netlist_schema.proofs.Objects.{object_cmp_total, object_cmp_exact, tied_object}
 use Rattle.conflict_check.proofs.Marking.{inner_cond}
 
 abbrev Entries : Type 0
@@ -57,7 +57,7 @@ marked_commits old new written version h =
   where
     not_among : (object : Object) → (Contains written object → ⊥) → is_among written object ≡ false
     not_among object lacks = elim (cases_Bool (is_among written object)) [
-      | inl e ↦ absurd (lacks (Contains-from_any same_object object written e))
+      | inl e ↦ absurd (lacks (Contains-from_any tied_object object written e))
       | inr e ↦ e
     ]
 

@@ -1,46 +1,23 @@
 -- Dropping a net, cutting an end and setting a property keep the nets of a cell good.
-use Rattle.std.proofs.Common.{◌≡◌, ◌≢◌, ℕ, zero, suc, ◌+◌, ◌≤◌, Bool, true, false, cond, not, arith, List, [], ◌∷◌, ◌++◌, map, length, Option, Some, None, refl, sym, ap, subst, ◌∙◌, length-append}
-use Rattle.std.specs.Prelude.{filter, remove, slice_set}
+use Rattle.std.proofs.Common.{◌≡◌, ◌≢◌, ℕ, zero, suc, ◌+◌, ◌≤◌, Bool, true, false, not, arith, List, [], ◌∷◌, ◌++◌, map, length, Option, Some, None, refl, sym, ap, subst, ◌∙◌, length-append}
+use Rattle.std.proofs.lemmas.List.Elements.{recursion_from_All, All-from_recursion, All-push, All-set}
 use Rattle.std.specs.List.{All, AllByRecursion, position_from}
 use Rattle.std.specs.Option.{option_map_or}
-use Rattle.std.specs.Cmp.Lexicographic.{bytes_decides}
-use Rattle.std.proofs.lemmas.List.Elements.{recursion_from_All, All-from_recursion, All-push, All-set}
+use Rattle.std.specs.Prelude.{filter, remove, slice_set}
 use Rattle.netlist_schema.specs.Design.{Design, nets_of}
 use Rattle.netlist_schema.specs.Names.{AreDistinct, HasDistinctKeys}
 use Rattle.netlist_schema.specs.Typed.{IsTypedNet, IsTypedProperty}
 use Rattle.netlist_schema.specs.Types.{CellBody, End, Net, Property}
 use Rattle.netlist_schema.specs.Valid.{IsEndOf}
-use Rattle.edit_spec.specs.Edit.{changed_at}
-use Rattle.edit_spec.specs.Find.{is_name, property_place}
-use Rattle.edit_spec.specs.Rows.{set_property, net_without_end, is_end, without_end}
-use Rattle.edit_spec.proofs.Edits.{map-changed_at}
-use Rattle.edit_spec.proofs.Joined.{Apart, apart_of, distinct_of, each_append, each_left, each_right, ends_of_nets, All-changed_at, length-changed_at}
-use Rattle.edit_spec.proofs.Valid.{AreGoodNets, is_name-refl}
-
--- dropping one of a list
-pub each_drop : {X : Type 0} (P : X → Type 0) (i : ℕ) (xs : List X) → AllByRecursion P xs → AllByRecursion P (remove xs i)
-each_drop P zero [] all = tt
-each_drop P (suc i) [] all = tt
-each_drop P zero (x ∷ xs) all = all.1
-each_drop P (suc i) (x ∷ xs) all = (all.0, each_drop P i xs all.1)
-
-pub apart_drop : {X : Type 0} (i : ℕ) (xs : List X) → Apart xs → Apart (remove xs i)
-apart_drop zero [] apart = tt
-apart_drop (suc i) [] apart = tt
-apart_drop zero (x ∷ xs) apart = apart.1
-apart_drop (suc i) (x ∷ xs) apart = (each_drop (λ y. x ≢ y) i xs apart.0, apart_drop i xs apart.1)
-
-pub map_drop : {X Y : Type 0} (f : X → Y) (i : ℕ) (xs : List X) → map f (remove xs i) ≡ remove (map f xs) i
-map_drop f zero [] = refl
-map_drop f (suc i) [] = refl
-map_drop f zero (x ∷ xs) = refl
-map_drop f (suc i) (x ∷ xs) = ap (λ ys. f x ∷ ys) (map_drop f i xs)
-
-pub length_drop : {X : Type 0} (i : ℕ) (xs : List X) → length (remove xs i) ≤ length xs
-length_drop zero [] = omega arith
-length_drop (suc i) [] = omega arith
-length_drop zero (x ∷ xs) = omega arith
-length_drop (suc i) (x ∷ xs) = let rest = length_drop i xs in omega arith
+use Rattle.edit_core.specs.Edit.{changed_at}
+use Rattle.edit_core.specs.Find.{is_name, property_place}
+use Rattle.edit_spec.specs.Cut.{is_end, net_without_end, without_end}
+use Rattle.edit_spec.specs.SetProp.{set_property}
+use Rattle.edit_core.proofs.Edits.{map-changed_at}
+use Rattle.edit_core.proofs.Lists.{Apart, apart_of, distinct_of, each_append, each_left, each_right, All-changed_at, length-changed_at, All-drop, apart_drop, apart_filter, apart_more, apart_rest, apart_right, each_filter, filter_both, found_key, length_drop, length_filter, map_drop, missing_key}
+use Rattle.edit_core.proofs.Refusals.{is_name-refl, same_name}
+use Rattle.edit_spec.proofs.Joined.{ends_of_nets}
+use Rattle.edit_spec.proofs.Valid.{AreGoodNets}
 
 each_ends_drop : (P : End → Type 0) (i : ℕ) (nets : List Net) → AllByRecursion P (ends_of_nets nets) → AllByRecursion P (ends_of_nets (remove nets i))
 each_ends_drop P zero [] all = tt
@@ -48,16 +25,6 @@ each_ends_drop P (suc i) [] all = tt
 each_ends_drop P zero (net ∷ nets) all = each_right P net.ends (ends_of_nets nets) all
 each_ends_drop P (suc i) (net ∷ nets) all =
     each_append P net.ends (ends_of_nets (remove nets i)) (each_left P net.ends (ends_of_nets nets) all) (each_ends_drop P i nets (each_right P net.ends (ends_of_nets nets) all))
-
-pub apart_right : {X : Type 0} (xs ys : List X) → Apart (xs ++ ys) → Apart ys
-apart_right [] ys apart = apart
-apart_right (x ∷ xs) ys apart = apart_right xs ys apart.1
-
--- the same beginning, and an end of which all that is said holds
-pub apart_rest : {X : Type 0} (xs ys zs : List X) → Apart (xs ++ ys) → Apart zs → ((x : X) → AllByRecursion (λ y. x ≢ y) ys → AllByRecursion (λ y. x ≢ y) zs) → Apart (xs ++ zs)
-apart_rest [] ys zs apart rest less = rest
-apart_rest (x ∷ xs) ys zs apart rest less =
-    (each_append (λ y. x ≢ y) xs zs (each_left (λ y. x ≢ y) xs ys apart.0) (less x (each_right (λ y. x ≢ y) xs ys apart.0)), apart_rest xs ys zs apart.1 rest less)
 
 apart_ends_drop : (i : ℕ) (nets : List Net) → Apart (ends_of_nets nets) → Apart (ends_of_nets (remove nets i))
 apart_ends_drop zero [] apart = tt
@@ -73,9 +40,6 @@ length_ends_drop zero (net ∷ nets) = omega (arith, length-append net.ends (end
 length_ends_drop (suc i) (net ∷ nets) =
     let rest = length_ends_drop i nets in
     omega (arith, length-append net.ends (ends_of_nets nets), length-append net.ends (ends_of_nets (remove nets i)))
-
-pub All-drop : {X : Type 0} (P : X → Type 0) (i : ℕ) (xs : List X) → All P xs → All P (remove xs i)
-All-drop P i xs all = All-from_recursion P (remove xs i) (each_drop P i xs (recursion_from_All P xs all))
 
 pub drop_good : (d : Design) (body : CellBody) (place : ℕ) → AreGoodNets d body (nets_of body) → AreGoodNets d body (remove (nets_of body) place)
 drop_good d body place good =
@@ -93,39 +57,6 @@ drop_good d body place good =
       ends = All-from_recursion (IsEndOf d body) (ends_of_nets (remove nets place)) (each_ends_drop (IsEndOf d body) place nets (recursion_from_All (IsEndOf d body) (ends_of_nets nets) good.ends));
       once = distinct_of (ends_of_nets (remove nets place)) (apart_ends_drop place nets (apart_of (ends_of_nets nets) good.once));
     }
-
--- leaving out some ends
-pub each_filter : {X : Type 0} (P : X → Type 0) (keep : X → Bool) (xs : List X) → AllByRecursion P xs → AllByRecursion P (filter keep xs)
-each_filter P keep [] all = tt
-each_filter {X} P keep (x ∷ xs) all = kept (keep x) x (filter keep xs) all.0 (each_filter P keep xs all.1)
-  where
-    kept : (b : Bool) (x : X) (rest : List X) → P x → AllByRecursion P rest → AllByRecursion P (cond b (x ∷ rest) rest)
-    kept true x rest here all = (here, all)
-    kept false x rest here all = all
-
-pub apart_filter : {X : Type 0} (keep : X → Bool) (xs : List X) → Apart xs → Apart (filter keep xs)
-apart_filter keep [] apart = tt
-apart_filter {X} keep (x ∷ xs) apart = kept (keep x) x (filter keep xs) (each_filter (λ y. x ≢ y) keep xs apart.0) (apart_filter keep xs apart.1)
-  where
-    kept : (b : Bool) (x : X) (rest : List X) → AllByRecursion (λ y. x ≢ y) rest → Apart rest → Apart (cond b (x ∷ rest) rest)
-    kept true x rest here all = (here, all)
-    kept false x rest here all = all
-
-filter_both : {X : Type 0} (keep : X → Bool) (xs ys : List X) → filter keep (xs ++ ys) ≡ filter keep xs ++ filter keep ys
-filter_both keep [] ys = refl
-filter_both {X} keep (x ∷ xs) ys = kept (keep x) x (filter keep (xs ++ ys)) (filter keep xs) (filter keep ys) (filter_both keep xs ys)
-  where
-    kept : (b : Bool) (x : X) (all left right : List X) → all ≡ left ++ right → cond b (x ∷ all) all ≡ cond b (x ∷ left) left ++ right
-    kept true x all left right same = ap (λ zs. x ∷ zs) same
-    kept false x all left right same = same
-
-pub length_filter : {X : Type 0} (keep : X → Bool) (xs : List X) → length (filter keep xs) ≤ length xs
-length_filter keep [] = omega arith
-length_filter {X} keep (x ∷ xs) = kept (keep x) (filter keep xs) (length_filter keep xs)
-  where
-    kept : (b : Bool) (rest : List X) → length rest ≤ length xs → length (cond b (x ∷ rest) rest) ≤ suc (length xs)
-    kept true rest less = omega arith
-    kept false rest less = omega arith
 
 ends_left : (end : Option End) (nets : List Net) → ends_of_nets (without_end end nets) ≡ filter (λ other. not (is_end end other)) (ends_of_nets nets)
 ends_left end [] = refl
@@ -161,18 +92,6 @@ cut_good d body end good =
       once = subst (λ (ends : List End). AreDistinct ends) (sym left) (distinct_of (filter keep (ends_of_nets nets)) (apart_filter keep (ends_of_nets nets) (apart_of (ends_of_nets nets) good.once)));
     }
 
--- setting a property
-pub found_key : (b : Bool) (i k : ℕ) (rest : Option ℕ) (P : Type 0) → (b ≡ true → i ≡ k → P) → (rest ≡ Some k → P) → cond b (Some i) rest ≡ Some k → P
-found_key true i k rest P here later is = here refl (cc)
-found_key false i k rest P here later is = later is
-
-pub missing_key : (b : Bool) (i : ℕ) (rest : Option ℕ) → cond b (Some i) rest ≡ None → (b ≡ false) × (rest ≡ None)
-missing_key true i rest is = cc
-missing_key false i rest is = (refl, is)
-
-pub same_name : (a b : List ℕ) → is_name a b ≡ true → a ≡ b
-same_name a b is = (bytes_decides a b).0 is
-
 abbrev keys : List Property → List (List ℕ)
 keys properties = map (λ property. property.key.id) properties
 
@@ -195,10 +114,6 @@ key_is_new i property (q ∷ qs) is =
 keys_more : (property : Property) (properties : List Property) → keys (properties ++ property ∷ []) ≡ keys properties ++ property.key.id ∷ []
 keys_more property [] = refl
 keys_more property (q ∷ qs) = ap (λ (ks : List (List ℕ)). q.key.id ∷ ks) (keys_more property qs)
-
-pub apart_more : {X : Type 0} (xs : List X) (x : X) → AllByRecursion (λ y. y ≢ x) xs → Apart xs → Apart (xs ++ x ∷ [])
-apart_more [] x new apart = (tt, tt)
-apart_more (y ∷ ys) x new apart = (each_append (λ z. y ≢ z) ys (x ∷ []) apart.0 (new.0, tt), apart_more ys x new.1 apart.1)
 
 put_key : (place : Option ℕ) (property : Property) (properties : List Property) → key_place 0 property.key.id properties ≡ place → HasDistinctKeys properties → HasDistinctKeys (option_map_or (λ k. slice_set properties k property) place (properties ++ property ∷ []))
 put_key (Some k) property properties is distinct =

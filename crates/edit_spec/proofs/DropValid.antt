@@ -1,38 +1,38 @@
 -- Removing an instance, with its ends and the notes whose paths go through it, keeps a design valid.
-use Rattle.std.proofs.Common.{◌≡◌, ◌≢◌, ⊎_elim, ℕ, zero, suc, ◌+◌, ◌-◌, ◌<◌, ◌≤◌, Bool, true, false, cond, not, arith, List, [], ◌∷◌, ◌++◌, map, length, Option, Some, None, refl, sym, ap, subst, ◌∙◌, length-append, slice_get, slice_index_or, eq-eqb}
-use Rattle.std.specs.Prelude.{IsSomeAnd, filter, remove, flat_map, nat_lt, ◌==◌, ◌&&◌}
-use Rattle.std.specs.List.{All, AllByRecursion, Contains, position_from}
-use Rattle.std.specs.Option.{option_map, option_map_or, option_and_then, option_to_list}
+use Rattle.std.proofs.Common.{◌≡◌, ◌≢◌, ⊎_elim, ℕ, zero, suc, ◌-◌, ◌<◌, ◌≤◌, Bool, true, false, cond, not, arith, List, [], ◌∷◌, ◌++◌, map, length, Option, Some, None, refl, sym, ap, subst, ◌∙◌, length-append, slice_get, slice_index_or, eq-eqb}
 use Rattle.std.proofs.lemmas.Bool.{ltb-true, ltb-false, eqb-true}
 use Rattle.std.proofs.lemmas.List.{length-map}
 use Rattle.std.proofs.lemmas.List.Concat.{flat_map-append}
 use Rattle.std.proofs.lemmas.List.Elements.{recursion_from_All, All-from_recursion}
+use Rattle.std.specs.List.{All, AllByRecursion, Contains}
+use Rattle.std.specs.Option.{option_map, option_map_or, option_and_then, option_to_list}
+use Rattle.std.specs.Prelude.{IsSomeAnd, filter, remove, flat_map, nat_lt, ◌==◌, ◌&&◌}
 use Rattle.netlist_schema.specs.Design.{Design, cell_at, insts_of, nets_of}
 use Rattle.netlist_schema.specs.Hierarchy.{IsCell, HasInst, Resolves, insts_at}
 use Rattle.netlist_schema.specs.Names.{AreDistinct, HasDistinctKeys, note_key}
 use Rattle.netlist_schema.specs.Typed.{IsTypedInst, IsTypedNet, IsTypedNote}
 use Rattle.netlist_schema.specs.Types.{CellBody, CellId, Contents, End, Inst, Net, Note, TopHead}
 use Rattle.netlist_schema.specs.Valid.{IsValid, IsValidCell, IsEndAt, IsEndOf, HasBit, IsNoteBelow}
-use Rattle.netlist_schema.proofs.Cells.{cell_of_inst}
-use Rattle.edit_spec.specs.Edit.{inner, noted, edited, with_contents}
-use Rattle.edit_spec.specs.Find.{is_name, inst_named, inst_place, cell_named}
-use Rattle.edit_spec.specs.Paths.{same_cell, goes_through}
-use Rattle.edit_spec.specs.Rows.{named, inside, no_lib, no_cell, no_inst, end_moved, end_without_inst, net_without_inst, without_inst, goes_on, other_notes, seen_if, set_notes}
+use Rattle.edit_core.specs.Edit.{inner, edited_once, noted, edited}
+use Rattle.edit_core.specs.Find.{is_name, inst_named, inst_place}
+use Rattle.edit_core.specs.Notes.{goes_on, other_notes, seen_if}
+use Rattle.edit_core.specs.Paths.{same_cell, goes_through}
+use Rattle.edit_core.specs.Rule.{no_inst}
+use Rattle.edit_core.specs.declared.reply.Reply.TheVariants.{NoInst}
+use Rattle.edit_spec.specs.DropInst.{end_moved, end_without_inst, net_without_inst, without_inst, set_notes}
 use Rattle.edit_spec.specs.Step.{step}
-use Rattle.edit_spec.specs.declared.ops.CellName.{CellName}
-use Rattle.edit_spec.specs.declared.ops.Op.TheVariants.{DropInst}
-use Rattle.edit_spec.specs.declared.ops.Reply.TheVariants.{NoInst}
-use Rattle.edit_spec.proofs.Changes.{All-drop, length_drop, map_drop, apart_drop, length_filter, same_name}
-use Rattle.edit_spec.proofs.Edits.{cases_cell}
-use Rattle.edit_spec.proofs.InnerValid.{AreGoodContents, AreGoodNotes, good_notes_before, with_both, inner_valid, inst_after, inst_here, inst_elsewhere, below_with_more}
+use Rattle.edit_core.proofs.Edits.{cases_cell}
+use Rattle.edit_core.proofs.Filled.{fill, filled, inner_filled, has_contents}
+use Rattle.edit_core.proofs.InnerValid.{AreGoodContents, AreGoodNotes, good_notes_before, with_both, inner_valid, inst_after, inst_here, inst_elsewhere, below_with_more}
+use Rattle.edit_core.proofs.Levels.{same_cell-refl}
+use Rattle.edit_core.proofs.Lists.{All-drop, length_drop, map_drop, apart_drop, length_filter, Apart, apart_of, distinct_of, each_append}
+use Rattle.edit_core.proofs.Named.{inst_at_place, leads, named_at}
+use Rattle.edit_core.proofs.Reached.{Contains-tail}
+use Rattle.edit_core.proofs.Refusals.{neither, is_name-refl}
+use Rattle.edit_spec.proofs.InsideStep.{inside_of}
 use Rattle.edit_spec.proofs.InstValid.{good_contents_before}
 use Rattle.edit_spec.proofs.JoinValid.{there}
-use Rattle.edit_spec.proofs.Joined.{Apart, apart_of, distinct_of, each_append, ends_of_nets}
-use Rattle.edit_spec.proofs.Levels.{same_cell-refl}
-use Rattle.edit_spec.proofs.NotesValid.{inst_at_place}
-use Rattle.edit_spec.proofs.Reached.{Contains-tail}
-use Rattle.edit_spec.proofs.StepValid.{row_valid, cell_there, inside_of}
-use Rattle.edit_spec.proofs.Valid.{first_none, neither, is_name-refl}
+use Rattle.edit_spec.proofs.Joined.{ends_of_nets}
 
 -- items of a list with one item less
 get_before : {X : Type 0} (xs : List X) (p i : ℕ) → i < p → slice_get (remove xs p) i ≡ slice_get xs i
@@ -91,12 +91,12 @@ each_moved P p end (Some i) own moved = by_test (i == p) refl
 abbrev left : CellBody → ℕ → Contents
 left old p = record { insts = remove (insts_of old) p; nets = map (net_without_inst p) (nets_of old) }
 
-end_left : (d : Design) (old : CellBody) (p : ℕ) (end : End) → IsEndOf d old end → AllByRecursion (IsEndOf d (with_contents (left old p) old)) (end_without_inst p end)
+end_left : (d : Design) (old : CellBody) (p : ℕ) (end : End) → IsEndOf d old end → AllByRecursion (IsEndOf d (fill (left old p) old)) (end_without_inst p end)
 end_left d old p end is =
-    each_moved (IsEndOf d (with_contents (left old p) old)) p end end.inst
+    each_moved (IsEndOf d (fill (left old p) old)) p end end.inst
     (λ none.
     let was : IsEndAt d old None end.port end.bit = subst (λ (i : Option ℕ). IsEndAt d old i end.port end.bit) none is in
-    subst (λ (i : Option ℕ). IsEndAt d (with_contents (left old p) old) i end.port end.bit) (sym none) was)
+    subst (λ (i : Option ℕ). IsEndAt d (fill (left old p) old) i end.port end.bit) (sym none) was)
     (λ i some apart.
     let was : IsEndAt d old (Some i) end.port end.bit = subst (λ (o : Option ℕ). IsEndAt d old o end.port end.bit) some is in
     subst (λ (o : Option Inst). IsSomeAnd o (λ inst. IsSomeAnd (cell_at d inst.of) (λ of. HasBit of.ports end.port end.bit))) (sym (get_moved (insts_of old) p i (nat_lt p i) refl apart)) was)
@@ -104,10 +104,10 @@ end_left d old p end is =
 abbrev ends_left : ℕ → List End → List End
 ends_left p ends = flat_map (end_without_inst p) ends
 
-each_end_left : (d : Design) (old : CellBody) (p : ℕ) (ends : List End) → AllByRecursion (IsEndOf d old) ends → AllByRecursion (IsEndOf d (with_contents (left old p) old)) (ends_left p ends)
+each_end_left : (d : Design) (old : CellBody) (p : ℕ) (ends : List End) → AllByRecursion (IsEndOf d old) ends → AllByRecursion (IsEndOf d (fill (left old p) old)) (ends_left p ends)
 each_end_left d old p [] all = tt
 each_end_left d old p (end ∷ ends) all =
-    each_append (IsEndOf d (with_contents (left old p) old)) (end_without_inst p end) (ends_left p ends) (end_left d old p end all.0) (each_end_left d old p ends all.1)
+    each_append (IsEndOf d (fill (left old p) old)) (end_without_inst p end) (ends_left p ends) (end_left d old p end all.0) (each_end_left d old p ends all.1)
 
 ends_of_left : (p : ℕ) (nets : List Net) → ends_of_nets (map (net_without_inst p) nets) ≡ ends_left p (ends_of_nets nets)
 ends_of_left p [] = refl
@@ -214,49 +214,9 @@ left_good d id old p valid found =
       net_properties = All-from_recursion (λ (net : Net). HasDistinctKeys net.properties) (map change nets) (each_map (λ (net : Net). HasDistinctKeys net.properties) (λ (net : Net). HasDistinctKeys net.properties) change (λ net is. is) nets (recursion_from_All (λ (net : Net). HasDistinctKeys net.properties) nets was.net_properties));
       places = All-drop (λ (inst : Inst). IsCell d inst.of) p insts was.places;
       not_later = All-drop (λ (inst : Inst). inst.of.lib.0 ≤ id.lib.0) p insts was.not_later;
-      ends = subst (All (IsEndOf d (with_contents (left old p) old))) (sym ends) (All-from_recursion (IsEndOf d (with_contents (left old p) old)) (ends_left p (ends_of_nets nets)) (each_end_left d old p (ends_of_nets nets) (recursion_from_All (IsEndOf d old) (ends_of_nets nets) cell.ends)));
+      ends = subst (All (IsEndOf d (fill (left old p) old))) (sym ends) (All-from_recursion (IsEndOf d (fill (left old p) old)) (ends_left p (ends_of_nets nets)) (each_end_left d old p (ends_of_nets nets) (recursion_from_All (IsEndOf d old) (ends_of_nets nets) cell.ends)));
       once = subst (λ (es : List End). AreDistinct es) (sym ends) (distinct_of (ends_left p (ends_of_nets nets)) (apart_left p (ends_of_nets nets) (apart_of (ends_of_nets nets) was.once)));
     }
-
--- a path that does not go through the instance still leads where it led
-not_named : (b : Bool) (name other : List ℕ) → is_name name other ≡ b → name ≢ other → b ≡ false
-not_named true name other is apart = absurd (apart (same_name name other is))
-not_named false name other is apart = refl
-
-each_at : (P : List ℕ → Type 0) (insts : List Inst) (inst : Inst) (k : ℕ) → k < length insts → slice_index_or insts k inst ≡ inst → AllByRecursion P (map (λ (i : Inst). i.name.id) insts) → P inst.name.id
-each_at P [] inst k within is all = absurd (omega arith)
-each_at P (i ∷ insts) inst zero within is all = subst (λ (x : Inst). P x.name.id) is all.0
-each_at P (i ∷ insts) inst (suc k) within is all = each_at P insts inst k (omega arith) is all.1
-
-place_at : (n : ℕ) (insts : List Inst) (inst : Inst) (name : List ℕ) (k : ℕ) → k < length insts → slice_index_or insts k inst ≡ inst → Apart (map (λ (i : Inst). i.name.id) insts) → inst.name.id ≡ name → position_from (λ other. is_name other name) n (map (λ (i : Inst). i.name.id) insts) ≡ Some (n + k)
-place_at n [] inst name k within is apart same = absurd (omega arith)
-place_at n (i ∷ insts) inst name zero within is apart same =
-    let here : is_name i.name.id name ≡ true = subst (λ (x : List ℕ). is_name i.name.id x ≡ true) (ap (λ (x : Inst). x.name.id) is ∙ same) (is_name-refl i.name.id) in
-    let place : n ≡ n + 0 = omega arith in
-    ap (λ (b : Bool). cond b (Some n) (position_from (λ other. is_name other name) (n + 1) (map (λ (x : Inst). x.name.id) insts))) here ∙ ap (λ (m : ℕ). Some m) place
-place_at n (i ∷ insts) inst name (suc k) within is apart same =
-    let other : i.name.id ≢ inst.name.id = each_at (λ x. i.name.id ≢ x) insts inst k (omega arith) is apart.0 in
-    let here : is_name i.name.id name ≡ false = not_named (is_name i.name.id name) i.name.id name refl (λ eq. other (eq ∙ sym same)) in
-    let place : (n + 1) + k ≡ n + suc k = omega arith in
-    ap (λ (b : Bool). cond b (Some n) (position_from (λ x. is_name x name) (n + 1) (map (λ (x : Inst). x.name.id) insts))) here
-    ∙ place_at (n + 1) insts inst name k (omega arith) is apart.1 same ∙ ap (λ (m : ℕ). Some m) place
-
-get_at : (insts : List Inst) (inst : Inst) (k : ℕ) → k < length insts → slice_index_or insts k inst ≡ inst → slice_get insts k ≡ Some inst
-get_at [] inst k within is = absurd (omega arith)
-get_at (i ∷ insts) inst zero within is = ap (λ (x : Inst). Some x) is
-get_at (i ∷ insts) inst (suc k) within is = get_at insts inst k (omega arith) is
-
-found_named : (insts : List Inst) (inst : Inst) (name : List ℕ) → Contains insts inst → AreDistinct (map (λ (i : Inst). i.name.id) insts) → inst.name.id ≡ name → inst_named name insts ≡ Some inst
-found_named insts inst name has distinct same =
-    let place = place_at 0 insts inst name has.0 has.1 has.2 (apart_of (map (λ (i : Inst). i.name.id) insts) distinct) same in
-    let zero_more : 0 + has.0 ≡ has.0 = omega arith in
-    ap (option_and_then (slice_get insts)) (place ∙ ap (λ (m : ℕ). Some m) zero_more) ∙ get_at insts inst has.0 has.1 has.2
-
-pub named_at : (d : Design) (at : CellId) (inst : Inst) (name : List ℕ) → IsValid d → HasInst d at inst → inst.name.id ≡ name → inst_named name (insts_at d at) ≡ Some inst
-named_at d at inst name valid has same =
-    let found = cell_of_inst d at inst has in
-    let insts : insts_at d at ≡ insts_of found.0 = ap (λ (o : Option CellBody). option_map_or insts_of o []) found.1 in
-    ap (inst_named name) insts ∙ found_named (insts_of found.0) inst name found.2 (valid.cells at found.0 found.1).names.insts same
 
 still_leads : (d : Design) (id : CellId) (old : CellBody) (p : ℕ) (gone : Inst) (notes : List Note) → IsValid d → cell_at d id ≡ Some old → slice_get (insts_of old) p ≡ Some gone → (path : List (List ℕ)) (at : CellId) → Resolves d at path → goes_through d id gone.name.id at path ≡ false → Resolves (with_both d id (left old p) notes) at path
 still_leads d id old p gone notes valid found is_gone [] at leads away = tt
@@ -358,11 +318,12 @@ left_valid d id old p gone valid found is_gone =
     inner_valid d id old (left old p) notes valid found (left_good d id old p valid found) (notes_left d id old p gone notes d.top refl valid found is_gone) (λ x below. valid.no_cycle x (below_with_more d f had below))
 
 -- the operation
-left_edits : (d : Design) (id : CellId) (contents : Contents) (others : List Note) (b : Bool) → (length others == length d.notes) ≡ b → (length others ≡ length d.notes → others ≡ d.notes) → IsValid (with_both d id contents others) → IsValid (edited d (inner id contents ∷ cond b [] (noted others ∷ [])))
-left_edits d id contents others true is same valid = subst (λ (notes : List Note). IsValid (with_both d id contents notes)) (same (eqb-true (length others) (length d.notes) is)) valid
-left_edits d id contents others false is same valid = valid
+left_edits : (d : Design) (id : CellId) (contents : Contents) (others : List Note) → edited_once d (inner id contents) ≡ filled d id contents → (b : Bool) → (length others == length d.notes) ≡ b → (length others ≡ length d.notes → others ≡ d.notes) → IsValid (with_both d id contents others) → IsValid (edited d (inner id contents ∷ cond b [] (noted others ∷ [])))
+left_edits d id contents others fills true is same valid =
+    subst IsValid (sym fills) (subst (λ (notes : List Note). IsValid (with_both d id contents notes)) (same (eqb-true (length others) (length d.notes) is)) valid)
+left_edits d id contents others fills false is same valid = subst (λ (e : Design). IsValid (edited_once e (noted others))) (sym fills) valid
 
-drop_edit : (d : Design) (r : Option CellId) (inst : List ℕ) → IsValid d → no_inst (inside_of d r) inst ≡ None → ((id : CellId) → r ≡ Some id → (body : CellBody) × (cell_at d id ≡ Some body)) → IsValid (edited d (option_to_list (option_map (λ id. inner id (without_inst (inside_of d r) inst)) r) ++ set_notes (seen_if r d.notes) (seen_if r (other_notes d r inst))))
+pub drop_edit : (d : Design) (r : Option CellId) (inst : List ℕ) → IsValid d → no_inst (inside_of d r) inst ≡ None → ((id : CellId) → r ≡ Some id → (body : CellBody) × (cell_at d id ≡ Some body)) → IsValid (edited d (option_to_list (option_map (λ id. inner id (without_inst (inside_of d r) inst)) r) ++ set_notes (seen_if r d.notes) (seen_if r (other_notes d r inst))))
 drop_edit d None inst valid allowed cell = valid
 drop_edit d (Some id) inst valid allowed cell =
     let found = cell id refl in
@@ -374,12 +335,6 @@ drop_edit d (Some id) inst valid allowed cell =
     let others : List Note = other_notes d (Some id) inst in
     let done : IsValid (with_both d id (left old place.0) others) = subst (λ (n : List ℕ). IsValid (with_both d id (left old place.0) (other_notes d (Some id) n))) item.2 (left_valid d id old place.0 item.0 valid found.1 item.1) in
     let placed : IsValid (with_both d id (without_inst old.contents inst) others) = subst (λ (o : Option ℕ). IsValid (with_both d id (record { insts = option_map_or (remove (insts_of old)) o (insts_of old); nets = option_map_or (λ p. map (net_without_inst p) (nets_of old)) o (nets_of old) }) others)) (sym place.1) done in
+    let inside = has_contents old.contents place.0 item.0 item.1 in
     subst (λ (c : Option Contents). IsValid (edited d (inner id (without_inst c inst) ∷ set_notes d.notes others))) (sym contents)
-    (left_edits d id (without_inst old.contents inst) others (length others == length d.notes) refl (λ same. all_kept (λ note. not (goes_on d d.top (Some id) inst note)) d.notes same) placed)
-
-pub drop_inst_step : (d : Design) (cell : CellName) (inst : List ℕ) → IsValid d → IsValid (step d (DropInst cell inst)).design
-drop_inst_step d cell inst valid =
-    row_valid d (DropInst cell inst) valid (λ allowed.
-    let n1 = first_none (no_lib (named d cell)) (no_cell (named d cell) ∷ no_inst (inside d cell) inst ∷ []) allowed in
-    let n2 = first_none (no_cell (named d cell)) (no_inst (inside d cell) inst ∷ []) n1.1 in
-    drop_edit d (cell_named d cell) inst valid (first_none (no_inst (inside d cell) inst) [] n2.1).0 (cell_there d cell))
+    (left_edits d id (without_inst old.contents inst) others (inner_filled d id (without_inst old.contents inst) old inside.0 found.1 inside.1) (length others == length d.notes) refl (λ same. all_kept (λ note. not (goes_on d d.top (Some id) inst note)) d.notes same) placed)

@@ -1,11 +1,13 @@
 -- Adding an instance, and setting a property of one, keep a design valid.
 use Rattle.std.proofs.Common.{◌≡◌, ◌≢◌, ◌⊎◌, inl, inr, ⊎_elim, ℕ, zero, suc, ◌+◌, ◌<◌, ◌≤◌, true, false, arith, List, [], ◌∷◌, ◌++◌, map, length, Option, Some, None, refl, sym, ap, subst, ◌∙◌, slice_get, slice_index_or, length-append}
-use Rattle.std.specs.Prelude.{IsSomeAnd}
-use Rattle.std.specs.List.{All, Contains, list_any}
-use Rattle.std.specs.Option.{option_map_or}
 use Rattle.std.proofs.lemmas.List.{map-append}
 use Rattle.std.proofs.lemmas.List.Elements.{All-push}
 use Rattle.std.proofs.lemmas.List.Quantifiers.{all_pairs_push}
+use Rattle.std.specs.List.{All, Contains, list_any}
+use Rattle.std.specs.Option.{option_map_or}
+use Rattle.std.specs.Prelude.{IsSomeAnd}
+use Rattle.netlist_schema.proofs.Cells.{All-cell_at}
+use Rattle.netlist_schema.proofs.WithCell.{All-weaker, with_cell_is_valid}
 use Rattle.netlist_schema.specs.Change.{shape_of}
 use Rattle.netlist_schema.specs.Design.{Design, cell_at, insts_of, nets_of, ends_of}
 use Rattle.netlist_schema.specs.Hierarchy.{IsCell, HasInst, IsBelow, placed, deeper, NoCellIsBelowItself}
@@ -14,18 +16,17 @@ use Rattle.netlist_schema.specs.Names.{AreDistinct, HasDistinctKeys}
 use Rattle.netlist_schema.specs.Typed.{IsTypedCell, IsTypedInst, IsTypedProperty}
 use Rattle.netlist_schema.specs.Types.{CellBody, CellId, Contents, Inst, Property}
 use Rattle.netlist_schema.specs.Valid.{IsValid, IsValidCell, IsEndAt, IsEndOf, HasBit, IsNoteBelow}
-use Rattle.netlist_schema.proofs.Cells.{All-cell_at}
-use Rattle.netlist_schema.proofs.WithCell.{All-weaker, with_cell_is_valid}
-use Rattle.edit_spec.specs.Edit.{inner, edited_once, with_contents, changed_at}
-use Rattle.edit_spec.specs.Find.{is_same}
-use Rattle.edit_spec.specs.Rows.{new_inst, set_property}
+use Rattle.edit_core.specs.Edit.{changed_at}
+use Rattle.edit_core.specs.Find.{is_same}
+use Rattle.edit_spec.specs.AddInst.{new_inst}
+use Rattle.edit_spec.specs.SetProp.{set_property}
+use Rattle.edit_core.proofs.Edits.{map-changed_at, cases_cell}
+use Rattle.edit_core.proofs.Filled.{fill, filled, with_changed_is}
+use Rattle.edit_core.proofs.InnerValid.{AreGoodContents, good_notes_before, weaker_top, with_both, inner_valid, inst_after, inst_here, inst_elsewhere, resolves_with_more}
+use Rattle.edit_core.proofs.Lists.{All-changed_at, length-changed_at}
+use Rattle.edit_core.proofs.Reached.{Contains-tail}
+use Rattle.edit_core.proofs.Refusals.{neither, is_same-refl}
 use Rattle.edit_spec.proofs.Changes.{set_property_typed, set_property_distinct}
-use Rattle.edit_spec.proofs.Edits.{map-changed_at}
-use Rattle.edit_spec.proofs.InnerValid.{AreGoodContents, good_notes_before, weaker_top, with_both, inner_valid, inst_after, inst_here, inst_elsewhere, resolves_with_more}
-use Rattle.edit_spec.proofs.Joined.{All-changed_at, length-changed_at}
-use Rattle.edit_spec.proofs.Reached.{Contains-tail}
-use Rattle.edit_spec.proofs.Valid.{neither, is_same-refl, with_changed_is}
-use Rattle.edit_spec.proofs.Edits.{cases_cell}
 
 -- the contents before are good
 pub good_contents_before : (d : Design) (id : CellId) (old : CellBody) → IsValid d → cell_at d id ≡ Some old → AreGoodContents d id old (record { insts = insts_of old; nets = nets_of old })
@@ -44,11 +45,11 @@ good_contents_before d id old valid found =
       net_properties = cell.names.net_properties;
       places = cell.placed;
       not_later = cell.not_later;
-      ends = All-weaker (IsEndOf d old) (IsEndOf d (with_contents (record { insts = insts_of old; nets = nets_of old }) old)) (ends_of old) (λ end is. same_insts end.inst end.port end.bit is) cell.ends;
+      ends = All-weaker (IsEndOf d old) (IsEndOf d (fill (record { insts = insts_of old; nets = nets_of old }) old)) (ends_of old) (λ end is. same_insts end.inst end.port end.bit is) cell.ends;
       once = cell.joined_once;
     }
   where
-    same_insts : (inst : Option ℕ) (port bit : ℕ) → IsEndAt d old inst port bit → IsEndAt d (with_contents (record { insts = insts_of old; nets = nets_of old }) old) inst port bit
+    same_insts : (inst : Option ℕ) (port bit : ℕ) → IsEndAt d old inst port bit → IsEndAt d (fill (record { insts = insts_of old; nets = nets_of old }) old) inst port bit
     same_insts None port bit is = is
     same_insts (Some place) port bit is = is
 
@@ -58,7 +59,7 @@ some_and_longer Q [] y k is = absurd is
 some_and_longer Q (x ∷ xs) y zero is = is
 some_and_longer Q (x ∷ xs) y (suc k) is = some_and_longer Q xs y k is
 
-longer_end : (d : Design) (old : CellBody) (new : Inst) (inst : Option ℕ) (port bit : ℕ) → IsEndAt d old inst port bit → IsEndAt d (with_contents (record { insts = insts_of old ++ new ∷ []; nets = nets_of old }) old) inst port bit
+longer_end : (d : Design) (old : CellBody) (new : Inst) (inst : Option ℕ) (port bit : ℕ) → IsEndAt d old inst port bit → IsEndAt d (fill (record { insts = insts_of old ++ new ∷ []; nets = nets_of old }) old) inst port bit
 longer_end d old new None port bit is = is
 longer_end d old new (Some place) port bit is = some_and_longer (λ inst. IsSomeAnd (cell_at d inst.of) (λ of. HasBit of.ports port bit)) (insts_of old) new place is
 
@@ -89,7 +90,7 @@ more_good d id of old name identifier free room there not_later valid found =
       net_properties = was.net_properties;
       places = All-push (λ (inst : Inst). IsCell d inst.of) insts new was.places there;
       not_later = All-push (λ (inst : Inst). inst.of.lib.0 ≤ id.lib.0) insts new was.not_later not_later;
-      ends = All-weaker (IsEndOf d old) (IsEndOf d (with_contents (record { insts = insts ++ new ∷ []; nets = nets_of old }) old)) (ends_of old) (λ end is. longer_end d old new end.inst end.port end.bit is) cell.ends;
+      ends = All-weaker (IsEndOf d old) (IsEndOf d (fill (record { insts = insts ++ new ∷ []; nets = nets_of old }) old)) (ends_of old) (λ end is. longer_end d old new end.inst end.port end.bit is) cell.ends;
       once = was.once;
     }
 
@@ -155,11 +156,11 @@ no_way_round d id of x none apart not (inr (inl id_x, inr x_of)) = not (subst (�
 no_way_round d id of x none apart not (inr (inr id_x, inl x_of)) = not (subst (λ (c : CellId). IsBelow d id c) x_of id_x)
 no_way_round d id of x none apart not (inr (inr id_x, inr x_of)) = not (below_trans d id_x x_of)
 
-pub more_valid : (d : Design) (id of : CellId) (old : CellBody) (name : List ℕ) → AreGoodContents d id old (record { insts = insts_of old ++ new_inst name of ∷ []; nets = nets_of old }) → of ≢ id → ¬ IsBelow d id of → IsValid d → cell_at d id ≡ Some old → IsValid (edited_once d (inner id (record { insts = insts_of old ++ new_inst name of ∷ []; nets = nets_of old })))
+pub more_valid : (d : Design) (id of : CellId) (old : CellBody) (name : List ℕ) → AreGoodContents d id old (record { insts = insts_of old ++ new_inst name of ∷ []; nets = nets_of old }) → of ≢ id → ¬ IsBelow d id of → IsValid d → cell_at d id ≡ Some old → IsValid (filled d id (record { insts = insts_of old ++ new_inst name of ∷ []; nets = nets_of old }))
 more_valid d id of old name good apart not valid found =
     let new = new_inst name of in
     let contents : Contents = record { insts = insts_of old ++ new ∷ []; nets = nets_of old } in
-    let e = edited_once d (inner id contents) in
+    let e = filled d id contents in
     let f = with_both d id contents d.notes in
     let has_old : (other : CellId) (inst : Inst) → (other ≡ id) → HasInst d other inst → Contains (insts_of old) inst = λ other inst at has. subst (λ (o : Option CellBody). Contains (option_map_or insts_of o []) inst) (ap (cell_at d) at ∙ found) has in
     let more : (other : CellId) (inst : Inst) → HasInst d other inst → HasInst f other inst = λ other inst has. ⊎_elim
@@ -199,22 +200,22 @@ some_and_changed Q f keeps zero (x ∷ xs) (suc k) is = is
 some_and_changed Q f keeps (suc i) (x ∷ xs) zero is = is
 some_and_changed Q f keeps (suc i) (x ∷ xs) (suc k) is = some_and_changed Q f keeps i xs k is
 
-property_end : (d : Design) (old : CellBody) (property : Property) (i : ℕ) (inst : Option ℕ) (port bit : ℕ) → IsEndAt d old inst port bit → IsEndAt d (with_contents (record { insts = changed_at (inst_with property) i (insts_of old); nets = nets_of old }) old) inst port bit
+property_end : (d : Design) (old : CellBody) (property : Property) (i : ℕ) (inst : Option ℕ) (port bit : ℕ) → IsEndAt d old inst port bit → IsEndAt d (fill (record { insts = changed_at (inst_with property) i (insts_of old); nets = nets_of old }) old) inst port bit
 property_end d old property i None port bit is = is
 property_end d old property i (Some place) port bit is =
     some_and_changed (λ inst. IsSomeAnd (cell_at d inst.of) (λ of. HasBit of.ports port bit)) (inst_with property) (λ inst has. has) i (insts_of old) place is
 
-pub inst_property_valid : (d : Design) (id : CellId) (old : CellBody) (property : Property) (i : ℕ) → IsTypedProperty property → IsValid d → cell_at d id ≡ Some old → IsValid (edited_once d (inner id (record { insts = changed_at (inst_with property) i (insts_of old); nets = nets_of old })))
+pub inst_property_valid : (d : Design) (id : CellId) (old : CellBody) (property : Property) (i : ℕ) → IsTypedProperty property → IsValid d → cell_at d id ≡ Some old → IsValid (filled d id (record { insts = changed_at (inst_with property) i (insts_of old); nets = nets_of old }))
 inst_property_valid d id old property i typed valid found =
     let insts = insts_of old in
     let change : Inst → Inst = inst_with property in
     let contents : Contents = record { insts = changed_at change i insts; nets = nets_of old } in
-    let new : CellBody = with_contents contents old in
+    let new : CellBody = fill contents old in
     let cell : IsValidCell d id old = valid.cells id old found in
     let typed_old : IsTypedCell old = All-cell_at IsTypedCell d id old valid.typed.cells found in
     let places : map (λ (inst : Inst). (inst.name.id, inst.of)) (changed_at change i insts) ≡ map (λ (inst : Inst). (inst.name.id, inst.of)) insts = map-changed_at change (λ (inst : Inst). (inst.name.id, inst.of)) (λ _. refl) i insts in
     let shape : shape_of new ≡ shape_of old = λ k. record { name = old.name; ports = old.ports; insts = places k } in
-    subst IsValid (sym (with_changed_is d id (with_contents contents) old found))
+    subst IsValid (sym (with_changed_is d id (fill contents) old found))
     (with_cell_is_valid d id old new valid found shape
     (record {
       name = typed_old.name;

@@ -1,25 +1,19 @@
 -- What is shown of a net and of an instance is the same in two designs that agree.
 use Rattle.std.proofs.Common.{◌≡◌, inl, inr, ℕ, ◌++◌, true, false, List, [], ◌∷◌, Option, Some, None, refl, sym, ap, subst, ◌∙◌, slice_get}
-use Rattle.std.specs.Prelude.{IsSome}
 use Rattle.std.specs.List.{Contains}
 use Rattle.std.specs.Option.{option_map, option_map_or, option_and_then, option_to_list}
-use Rattle.std.proofs.lemmas.Option.{slice_get_within, get_or_from_slice_get}
+use Rattle.std.specs.Prelude.{IsSome}
 use Rattle.netlist_schema.specs.Design.{Design, cell_at, insts_in, insts_of}
 use Rattle.netlist_schema.specs.Hierarchy.{HasInst, IsCell}
 use Rattle.netlist_schema.specs.Types.{CellBody, CellId, Contents, End, Inst, LibHead, Port}
-use Rattle.edit_spec.specs.Find.{cell_named, inst_named, inst_place}
-use Rattle.edit_spec.specs.Needs.{IsForName, IsCellOf, IsAtEnd}
-use Rattle.edit_spec.specs.Objects.{AgreesOn, Grown, IsClosed, Outside, outside_of, outside_at, head_at, name_of, cell_name_at}
-use Rattle.edit_spec.specs.Rows.{named, inside, placed, contents_at, ports_seen, ports_at, ends_by_name, end_by_name, inst_of_end, ends_of_net, net_shown}
-use Rattle.edit_spec.specs.declared.ops.CellName.{CellName}
-use Rattle.edit_spec.proofs.Same.{named_same, inside_same, placed_same, face_of_placed_same}
-
-inst_at : (insts : List Inst) (place : Option ℕ) (inst : Inst) → option_and_then (slice_get insts) place ≡ Some inst → Contains insts inst
-inst_at insts None inst is = cc
-inst_at insts (Some k) inst is = (k, slice_get_within insts k inst is, get_or_from_slice_get insts k inst inst is)
-
-pub named_inst : (name : List ℕ) (insts : List Inst) (inst : Inst) → inst_named name insts ≡ Some inst → Contains insts inst
-named_inst name insts inst is = inst_at insts (inst_place name insts) inst is
+use Rattle.edit_core.specs.Find.{cell_named, inst_named}
+use Rattle.edit_core.specs.Objects.{AgreesOn, Grown, IsClosed, Outside, outside_of, outside_at, head_at, name_of, cell_name_at}
+use Rattle.edit_core.specs.Reading.{IsForCell, IsFaceOf}
+use Rattle.edit_core.specs.Seen.{named, inside, placed, contents_at, ports_seen}
+use Rattle.edit_core.specs.declared.reply.CellName.{CellName}
+use Rattle.edit_spec.specs.ShowNet.{ends_of_net, inst_of_end, ports_at, end_by_name, ends_by_name, net_shown, IsAtEnd}
+use Rattle.edit_core.proofs.Named.{named_inst}
+use Rattle.edit_core.proofs.Same.{by_name, named_same, inside_same, placed_same, face_of_placed_same}
 
 pub insts_found : (o : Option CellBody) → insts_in (option_and_then (λ body. body.contents) o) ≡ option_map_or insts_of o []
 insts_found None = refl
@@ -50,11 +44,11 @@ inst_name_same : (d e : Design) (inst : Option Inst) → Grown d e → ((i : Ins
 inst_name_same d e None grown there = refl
 inst_name_same d e (Some i) grown there = cell_name_same d e i.of grown (there i refl)
 
-pub inst_shown_same : (d e : Design) (cell : CellName) (inst : List ℕ) → IsClosed d → Grown d e → AgreesOn d e (IsForName d cell) → option_and_then (λ i. cell_name_at d i.of) (placed d cell inst) ≡ option_and_then (λ i. cell_name_at e i.of) (placed e cell inst)
+pub inst_shown_same : (d e : Design) (cell : CellName) (inst : List ℕ) → IsClosed d → Grown d e → AgreesOn d e (IsForCell d cell) → option_and_then (λ i. cell_name_at d i.of) (placed d cell inst) ≡ option_and_then (λ i. cell_name_at e i.of) (placed e cell inst)
 inst_shown_same d e cell inst closed grown agree =
     inst_name_same d e (placed d cell inst) grown (λ i is. placed_there d cell inst i closed is) ∙ ap (option_and_then (λ (i : Inst). cell_name_at e i.of)) (placed_same d e cell inst grown agree)
 
-ports_at_same : (d e : Design) (ports : Option (List Port)) (contents : Option Contents) (place : Option ℕ) → AgreesOn d e (IsCellOf (option_and_then (slice_get (insts_in contents)) place)) → ports_at d ports contents place ≡ ports_at e ports contents place
+ports_at_same : (d e : Design) (ports : Option (List Port)) (contents : Option Contents) (place : Option ℕ) → AgreesOn d e (IsFaceOf (option_and_then (slice_get (insts_in contents)) place)) → ports_at d ports contents place ≡ ports_at e ports contents place
 ports_at_same d e ports contents None agree = refl
 ports_at_same d e ports contents (Some place) agree = ap ports_seen (face_of_placed_same d e (slice_get (insts_in contents) place) agree)
 
@@ -65,7 +59,7 @@ ends_same d e ports contents (end ∷ ends) agree =
     let rest : ends_by_name d ports contents ends ≡ ends_by_name e ports contents ends = ends_same d e ports contents ends (λ o is. agree o (inr is)) in
     λ i. option_to_list (end_by_name (inst_of_end contents end) (option_and_then (λ seen. slice_get seen end.port) (here i)) end.bit) ++ rest i
 
-pub net_shown_same : (d e : Design) (cell : CellName) (net : List ℕ) → Grown d e → AgreesOn d e (IsForName d cell) → AgreesOn d e (IsAtEnd (inside d cell) (ends_of_net (inside d cell) net)) → net_shown d cell net ≡ net_shown e cell net
+pub net_shown_same : (d e : Design) (cell : CellName) (net : List ℕ) → Grown d e → AgreesOn d e (IsForCell d cell) → AgreesOn d e (IsAtEnd (inside d cell) (ends_of_net (inside d cell) net)) → net_shown d cell net ≡ net_shown e cell net
 net_shown_same d e cell net grown agree ends_agree =
     ends_same d e (ports_seen (named d cell).face) (inside d cell) (ends_of_net (inside d cell) net) ends_agree
-    ∙ (λ i. ends_by_name e (ports_seen (named_same d e cell grown agree i).face) (inside_same d e cell grown agree i) (ends_of_net (inside_same d e cell grown agree i) net))
+    ∙ (λ i. ends_by_name e (ports_seen (named_same d e cell grown (by_name d e cell agree) i).face) (inside_same d e cell grown agree i) (ends_of_net (inside_same d e cell grown agree i) net))

@@ -1,22 +1,23 @@
 -- In a valid design each end of a net is shown, and each instance by the name of its cell.
 use Rattle.std.proofs.Common.{◌≡◌, ◌++◌, ℕ, zero, suc, ◌<◌, List, [], ◌∷◌, length, Option, Some, None, refl, sym, ap, subst, ◌∙◌, slice_get}
-use Rattle.std.specs.Prelude.{IsSome, IsSomeAnd, map}
+use Rattle.std.proofs.lemmas.List.Elements.{recursion_from_All}
 use Rattle.std.specs.List.{AllByRecursion}
 use Rattle.std.specs.Option.{option_map, option_map_or, option_and_then, option_to_list}
-use Rattle.std.proofs.lemmas.List.Elements.{recursion_from_All}
+use Rattle.std.specs.Prelude.{IsSome, IsSomeAnd, map}
+use Rattle.netlist_schema.proofs.WithCell.{lib_of_cell}
 use Rattle.netlist_schema.specs.Design.{Design, cell_at, insts_of, nets_of, ends_of, port_width}
 use Rattle.netlist_schema.specs.Types.{CellBody, CellId, End, Inst, Lib, LibHead, Net, Port}
 use Rattle.netlist_schema.specs.Valid.{IsValid, IsEndAt, IsEndOf, HasBit}
-use Rattle.edit_spec.specs.Find.{cell_named, net_named, net_place}
-use Rattle.edit_spec.specs.Rows.{inside, contents_at, ports_at, ports_seen, face_at, face_of, ends_by_name, end_by_name, inst_of_end, ends_of_net, net_shown}
-use Rattle.edit_spec.specs.declared.ops.CellName.{CellName}
-use Rattle.edit_spec.proofs.Joined.{each_left, each_right, ends_of_nets}
-use Rattle.netlist_schema.proofs.WithCell.{lib_of_cell}
-use Rattle.edit_spec.specs.Objects.{outside_of, outside_at, head_at, name_of, cell_name_at}
-use Rattle.edit_spec.specs.Rows.{placed}
-use Rattle.edit_spec.proofs.Closed.{some_cell, valid_is_closed}
+use Rattle.edit_core.specs.Find.{cell_named, net_named, net_place}
+use Rattle.edit_core.specs.Objects.{face_at, face_of, outside_of, outside_at, head_at, name_of, cell_name_at}
+use Rattle.edit_core.specs.Seen.{inside, contents_at, ports_seen, placed}
+use Rattle.edit_core.specs.declared.reply.CellName.{CellName}
+use Rattle.edit_spec.specs.ShowNet.{ends_of_net, inst_of_end, ports_at, end_by_name, ends_by_name, net_shown}
+use Rattle.edit_core.proofs.Closed.{some_cell, valid_is_closed}
+use Rattle.edit_core.proofs.Lists.{each_left, each_right}
+use Rattle.edit_core.proofs.Named.{cell_there}
+use Rattle.edit_spec.proofs.Joined.{ends_of_nets}
 use Rattle.edit_spec.proofs.Shown.{placed_there}
-use Rattle.edit_spec.proofs.StepValid.{cell_there}
 
 some_port : (o : Option Port) (Q : Port → Type 0) → IsSomeAnd o Q → (p : Port) × (o ≡ Some p)
 some_port None Q is = absurd is

@@ -1,21 +1,21 @@
 -- A worked example: a small design, operations on it, and their replies.
-use Rattle.std.specs.Prelude.{ℕ, true, false, pos, List, [], ◌∷◌, Option, Some, None, codes}
+use Rattle.std.specs.Prelude.{ℕ, true, false, pos, List, [], ◌∷◌, ◌++◌, Option, Some, None, codes}
 use Rattle.netlist_schema.specs.Design.{Design}
 use Rattle.netlist_schema.specs.Types.{CellBody, CellId, Contents, End, Inst, Name, Net, Port, Property, Value}
 use Rattle.netlist_schema.specs.declared.cell.CellKind.TheVariants.{Generic}
 use Rattle.netlist_schema.specs.declared.cell.Direction.TheVariants.{Input, Output, Inout}
 use Rattle.netlist_schema.specs.declared.property.Value.TheVariants.{Boolean, Integer}
-use Rattle.edit_spec.specs.declared.ops.CellName.{CellName}
-use Rattle.edit_spec.specs.declared.ops.EndName.{EndName}
+use Rattle.edit_core.specs.declared.reply.CellName.{CellName}
+use Rattle.edit_core.specs.declared.reply.EndName.{EndName}
+use Rattle.edit_core.specs.declared.reply.Reply.{Reply}
+use Rattle.edit_core.specs.declared.reply.Reply.TheVariants.{Done, Cell, Net as ShownNet, Inst as ShownInst, NoLib, NoCell, NoInst, NoNet, NoPort, BadBit, Taken, AlreadyJoined, NotJoined, IsLeaf, IsCyclic, NoPath, NoNote, Copies}
 use Rattle.edit_spec.specs.declared.ops.Op.{Op}
-use Rattle.edit_spec.specs.declared.ops.Op.TheVariants.{ShowCell, ShowNet, ShowInst, AddCell, AddNet, DropNet, AddInst, DropInst, Join, Cut, SetProp, SetNote, DropNote}
-use Rattle.edit_spec.specs.declared.ops.Reply.{Reply}
-use Rattle.edit_spec.specs.declared.ops.Reply.TheVariants.{Done, Cell, Net as ShownNet, Inst as ShownInst, NoLib, NoCell, NoInst, NoNet, NoPort, BadBit, Taken, AlreadyJoined, NotJoined, IsLeaf, IsCyclic, NoPath, NoNote}
-use Rattle.edit_spec.specs.declared.ops.Target.TheVariants.{Net as OfNet}
+use Rattle.edit_spec.specs.declared.ops.Op.TheVariants.{ShowCell, ShowNet, ShowInst, AddCell, AddNet, DropNet, AddInst, DropInst, Join, Cut, SetProp, SetNote, DropNote, Uniquify, UniquePath, Ungroup}
+use Rattle.edit_spec.specs.declared.ops.Target.TheVariants.{Inst as OfInst, Net as OfNet}
 
 -- ---- the design: a leaf P, a cell C with two of it, and the top T with C and P
 
-abbrev plain : List ℕ → Name
+abbrev pub plain : List ℕ → Name
 plain id = record { id = id; shown = None }
 
 abbrev cell_id : ℕ → CellId
@@ -33,7 +33,7 @@ net_of id ends = record { name = plain id; ends = ends; properties = [] }
 abbrev end_at : Option ℕ → ℕ → End
 end_at inst port = record { inst = inst; port = port; bit = 0 }
 
-abbrev body_of : List ℕ → List Port → Option Contents → CellBody
+abbrev pub body_of : List ℕ → List Port → Option Contents → CellBody
 body_of id ports contents = record {
   name = plain id;
   kind = Generic;
@@ -112,4 +112,52 @@ worked_replies =
     ∷ (SetNote (codes "i" ∷ codes "zz" ∷ []) (says (Integer (pos 1))), NoPath)
     ∷ (DropNote (codes "i" ∷ codes "j" ∷ []) (codes "K"), Done)
     ∷ (DropNote (codes "i" ∷ codes "j" ∷ []) (codes "K"), NoNote)
+    ∷ (UniquePath (codes "i" ∷ []), Copies 1)
+    ∷ (UniquePath (codes "i" ∷ codes "zz" ∷ []), NoPath)
+    ∷ (Uniquify, Copies 0)
+    ∷ []
+
+-- the same, and then an instance is dissolved
+abbrev pub whole_replies : List ShownReply
+whole_replies = worked_replies ++ (Ungroup (in_w (codes "T")) (codes "i_j"), IsLeaf) ∷ (Ungroup (in_w (codes "T")) (codes "i"), Done) ∷ []
+
+-- ---- an instance that is dissolved: a leaf is not, and what was inside moves up
+
+abbrev pub ungroup_replies : List ShownReply
+ungroup_replies =
+    (SetNote (codes "i" ∷ codes "j" ∷ []) (says (Integer (pos 1))), Done)
+    ∷ (SetNote (codes "i" ∷ []) (says (Integer (pos 3))), Done)
+    ∷ (Ungroup (in_w (codes "T")) (codes "i_j"), IsLeaf)
+    ∷ (Ungroup (in_w (codes "T")) (codes "i"), Done)
+    ∷ (Ungroup (in_w (codes "T")) (codes "i"), NoInst)
+    ∷ (ShowCell (in_w (codes "T")), Cell 0 3 3 false)
+    ∷ (ShowNet (in_w (codes "T")) (codes "X"), ShownNet (end_on (codes "i_j") (codes "a") 0 ∷ end_on (codes "i_j_1") (codes "a") 0 ∷ []))
+    ∷ (ShowNet (in_w (codes "T")) (codes "Y"), NoNet)
+    ∷ (ShowNet (in_w (codes "T")) (codes "i_s"), ShownNet (end_on (codes "i_k") (codes "a") 0 ∷ []))
+    ∷ (DropNote (codes "i" ∷ []) (codes "K"), NoNote)
+    ∷ (DropNote (codes "i_j_1" ∷ []) (codes "K"), Done)
+    ∷ []
+
+-- ---- an instance that goes: later instances move one place forward, and its notes go
+
+abbrev keyed : List ℕ → Value → Property
+keyed key value = record { key = plain key; value = value; owner = None }
+
+abbrev pub drop_replies : List ShownReply
+drop_replies =
+    (SetNote (codes "i" ∷ codes "j" ∷ []) (says (Integer (pos 1))), Done)
+    ∷ (SetNote (codes "i_j" ∷ []) (says (Integer (pos 2))), Done)
+    ∷ (SetNote (codes "i" ∷ []) (says (Integer (pos 3))), Done)
+    ∷ (SetProp (in_w (codes "T")) (OfInst (codes "i_j")) (keyed (codes "K") (Integer (pos 1))), Done)
+    ∷ (SetProp (in_w (codes "T")) (OfInst (codes "i_j")) (keyed (codes "L") (Integer (pos 2))), Done)
+    ∷ (SetProp (in_w (codes "T")) (OfInst (codes "i_j")) (keyed (codes "K") (Integer (pos 3))), Done)
+    ∷ (DropInst (in_w (codes "T")) (codes "i"), Done)
+    ∷ (ShowCell (in_w (codes "T")), Cell 0 1 3 false)
+    ∷ (ShowNet (in_w (codes "T")) (codes "X"), ShownNet [])
+    ∷ (ShowNet (in_w (codes "T")) (codes "Y"), ShownNet (end_on (codes "i_j") (codes "a") 0 ∷ []))
+    ∷ (ShowInst (in_w (codes "T")) (codes "i_j"), ShownInst (in_w (codes "P")) (keyed (codes "K") (Integer (pos 3)) ∷ keyed (codes "L") (Integer (pos 2)) ∷ []))
+    ∷ (DropNote (codes "i" ∷ codes "j" ∷ []) (codes "K"), NoNote)
+    ∷ (DropNote (codes "i" ∷ []) (codes "K"), NoNote)
+    ∷ (DropNote (codes "i_j" ∷ []) (codes "K"), Done)
+    ∷ (SetNote [] (says (Integer (pos 1))), NoPath)
     ∷ []

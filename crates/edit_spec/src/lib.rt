@@ -1,7 +1,11 @@
 //! Editing operations on a design: what each replies, reads and writes.
 #![tactic(auto)]
 
+pub mod copied;
 pub mod laws;
 pub mod ops;
+pub mod typed;
 
-pub use ops::{CellName, EndName, Op, PortDecl, Reply, Target};
+pub use edit_core::{CellName, EndName, Reply};
+pub use ops::{Op, PortDecl, Target};
+pub use typed::told;

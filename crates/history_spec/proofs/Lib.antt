@@ -1,6 +1,9 @@
+pub mod Faces
 pub mod Histories
+pub mod Inside
+pub mod Kept
 pub mod Lists
-pub mod Objects
+pub mod Made
 pub mod OneAnswer
 pub mod Promised
 pub mod Refused

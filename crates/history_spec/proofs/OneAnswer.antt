@@ -3,7 +3,7 @@ use Rattle.std.proofs.Common.{◌≡◌, ℕ, ◌+◌, ◌<◌, ◌≤◌, List,
 use Rattle.netlist_schema.specs.Types.{Object}
 use Rattle.edit_spec.specs.Step.{run}
 use Rattle.edit_spec.specs.declared.ops.Op.{Op}
-use Rattle.edit_spec.specs.declared.ops.Reply.{Reply}
+use Rattle.edit_core.specs.declared.reply.Reply.{Reply}
 use Rattle.history_spec.specs.declared.event.Call.{Call}
 use Rattle.history_spec.specs.declared.event.Call.TheVariants.{Pin, PinAt, Release, Collect, Commit}
 use Rattle.history_spec.specs.declared.event.Answer.{Answer}
@@ -13,7 +13,7 @@ use Rattle.history_spec.specs.State.{State, LivePin, head, design, after, IsLive
 use Rattle.history_spec.specs.Answers.{Answers, IsKept, IsLeastKept, IsConflict, HasNoConflict, dropped}
 use Rattle.history_spec.specs.History.{IsLegalFrom}
 use Rattle.history_spec.specs.Laws.{asked}
-use Rattle.history_spec.proofs.Objects.{same_object}
+use Rattle.netlist_schema.proofs.Objects.{same_object}
 use Rattle.history_spec.proofs.Sound.{IsFine, fine_after, one_pin}
 
 after_pin : (s : State) (caller : ℕ) (b : Answer) → Answers s caller Pin b → b ≡ Pinned s.made (head s)

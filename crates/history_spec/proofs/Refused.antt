@@ -4,10 +4,10 @@ use Rattle.std.specs.Prelude.{IsTrue}
 use Rattle.std.specs.Ordering.{is_le}
 use Rattle.netlist_schema.specs.Order.{object_cmp}
 use Rattle.netlist_schema.specs.Types.{Object}
-use Rattle.netlist_schema.specs.declared.ids.Object.TheVariants.{Cell}
+use Rattle.netlist_schema.specs.declared.ids.Object.TheVariants.{Contents}
 use Rattle.edit_spec.specs.Needs.{Reads}
-use Rattle.edit_spec.specs.Paths.{most_cells}
-use Rattle.edit_spec.specs.declared.ops.Reply.TheVariants.{Done, IsCyclic}
+use Rattle.edit_core.specs.Paths.{most_cells}
+use Rattle.edit_core.specs.declared.reply.Reply.TheVariants.{Done, IsCyclic}
 use Rattle.history_spec.specs.declared.event.Answer.TheVariants.{Pinned, Released, Committed, Conflict}
 use Rattle.history_spec.specs.declared.event.Call.TheVariants.{Pin, Release, Commit}
 use Rattle.history_spec.specs.Answers.{Admits, Clashes, IsConflict, HasNoConflict}
@@ -27,31 +27,31 @@ first_done = after both_pinned (event 0 (Commit 0 b_in_a) (Committed 1 (Done ∷
 first_free : HasNoConflict both_pinned 0 b_in_a
 first_free object w c = let later = c.later in let there = c.there in omega arith
 
-reads_a : Reads two_cells a_in_b (Cell (at_place 0))
+reads_a : Reads two_cells a_in_b (Contents (at_place 0))
 unfolding most_cells
-reads_a = inl (inr (inl refl))
+reads_a = inl (inr (inr (inr (inl refl))))
 
-writes_a : IsWritten first_done 1 (Cell (at_place 0))
+writes_a : IsWritten first_done 1 (Contents (at_place 0))
 unfolding most_cells
 writes_a = inl (inl refl)
 
-writes_only_a : (object : Object) → IsWritten first_done 1 object → object ≡ Cell (at_place 0)
+writes_only_a : (object : Object) → IsWritten first_done 1 object → object ≡ Contents (at_place 0)
 unfolding most_cells
 writes_only_a object (inl (inl e)) = e
 writes_only_a object (inl (inr none)) = absurd none
 writes_only_a object (inr none) = absurd none
 
-clash_is_a : (object : Object) (u : ℕ) → Clashes first_done 0 a_in_b object u → object ≡ Cell (at_place 0)
+clash_is_a : (object : Object) (u : ℕ) → Clashes first_done 0 a_in_b object u → object ≡ Contents (at_place 0)
 clash_is_a object u c =
     let later = c.later in
     let there = c.there in
     let at : u ≡ 1 = omega arith in
     writes_only_a object (subst (λ (w : ℕ). IsWritten first_done w object) at c.written)
 
-a_least : (other : Object) → other ≡ Cell (at_place 0) → IsTrue (is_le (object_cmp (Cell (at_place 0)) other))
-a_least other e = subst (λ (o : Object). IsTrue (is_le (object_cmp (Cell (at_place 0)) o))) (sym e) refl
+a_least : (other : Object) → other ≡ Contents (at_place 0) → IsTrue (is_le (object_cmp (Contents (at_place 0)) other))
+a_least other e = subst (λ (o : Object). IsTrue (is_le (object_cmp (Contents (at_place 0)) o))) (sym e) refl
 
-second_conflicts : IsConflict first_done 0 a_in_b (Cell (at_place 0)) 1
+second_conflicts : IsConflict first_done 0 a_in_b (Contents (at_place 0)) 1
 second_conflicts = record {
   clashes = record { read = reads_a; later = omega arith; there = omega arith; written = writes_a };
   least = λ other u c. a_least other (clash_is_a other u c);
@@ -80,11 +80,11 @@ pinned_twice = record { room = omega arith; callers = tt; answers = (refl, refl)
 first_accepted : Admits both_pinned (event 0 (Commit 0 b_in_a) (Committed 1 (Done ∷ [])))
 first_accepted = record { room = omega arith; callers = (0, (0, omega arith, refl)); answers = (0, (0, omega arith, refl), first_free, refl, sym first_alone) }
 
-second_refused : Admits first_done (event 1 (Commit 1 a_in_b) (Conflict (Cell (at_place 0)) 1))
+second_refused : Admits first_done (event 1 (Commit 1 a_in_b) (Conflict (Contents (at_place 0)) 1))
 second_refused = record { room = omega arith; callers = (0, (1, omega arith, refl)); answers = (0, (1, omega arith, refl), second_conflicts) }
 
 abbrev second_done : State
-second_done = after first_done (event 1 (Commit 1 a_in_b) (Conflict (Cell (at_place 0)) 1))
+second_done = after first_done (event 1 (Commit 1 a_in_b) (Conflict (Contents (at_place 0)) 1))
 
 pin_released : Admits second_done (event 1 (Release 1) Released)
 pin_released = record { room = tt; callers = (0, (1, omega arith, refl)); answers = tt }

@@ -14,6 +14,7 @@ use Rattle.history_spec.specs.History.{IsLegalFrom, Legal, state_from, state_aft
 use Rattle.edit_spec.specs.declared.ops.Op.{Op}
 use Rattle.history_spec.specs.Laws.{IsSound}
 use Rattle.history_spec.proofs.Histories.{along}
+use Rattle.history_spec.proofs.Kept.{few_rising, greatest_last}
 use Rattle.history_spec.proofs.Lists.{in_cases, Rises, rises_push, rises_filter, rises_pairs, from_filter, to_filter, filter_test, in_any, any_in, one_goes, one_by_number}
 
 -- what an event keeps; the numbers of events are left out, so that it also speaks of a state before its event is counted
@@ -222,15 +223,19 @@ is_sound d xs legal =
     let live = f.live in
     let made = h.made in
     let within = h.within in
+    let versions = h.versions in
+    let kept = few_rising s.kept (head s) f.ascending f.there in
     record {
       few_made = h.made;
       few_versions = h.versions;
+      few_kept = omega arith;
       few_live = omega arith;
       numbered = f.numbered;
       distinct = rises_pairs (λ (pin : LivePin). pin.number) s.pins f.rising;
       there = f.there;
       ascending = rises_pairs (λ (v : ℕ). v) s.kept f.ascending;
       head_kept = f.head_kept;
+      head_last = greatest_last s.kept (head s) f.ascending f.head_kept f.there;
       pinned_kept = f.pinned_kept;
     }
 

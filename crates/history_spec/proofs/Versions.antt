@@ -6,14 +6,15 @@ use Rattle.netlist_schema.specs.Design.{Design}
 use Rattle.netlist_schema.specs.Types.{Object}
 use Rattle.edit_spec.specs.Frame.{IsReplayed}
 use Rattle.edit_spec.specs.Needs.{Written}
-use Rattle.edit_spec.specs.Objects.{Grown, IsClosed, value_of}
+use Rattle.edit_core.specs.Objects.{Grown, IsClosed, value_of}
 use Rattle.edit_spec.specs.Step.{step, run}
 use Rattle.edit_spec.specs.declared.ops.Op.{Op}
-use Rattle.edit_spec.proofs.Closed.{step_closed}
-use Rattle.edit_spec.proofs.Edits.{Agrees-refl}
-use Rattle.edit_spec.proofs.Framed.{frame, replay}
-use Rattle.edit_spec.proofs.Growing.{Grown-refl, Grown-trans}
-use Rattle.edit_spec.proofs.Values.{agree_is_same_value, run_is_grown}
+use Rattle.edit_spec.proofs.Framed.{step_closed}
+use Rattle.edit_spec.proofs.Overlaid.{run_stays}
+use Rattle.edit_spec.proofs.Replayed.{replay}
+use Rattle.edit_core.proofs.Growing.{Grown-refl, Grown-trans}
+use Rattle.edit_core.proofs.Values.{agree_is_same_value}
+use Rattle.edit_spec.proofs.Values.{run_is_grown}
 use Rattle.history_spec.specs.declared.event.Call.{Call}
 use Rattle.history_spec.specs.declared.event.Call.TheVariants.{Release, Collect, Commit}
 use Rattle.history_spec.specs.declared.event.Answer.{Answer}
@@ -31,12 +32,8 @@ closed_run d [] closed = closed
 closed_run d (op ∷ ops) closed = closed_run (step d op).design ops (step_closed d op closed)
 
 -- an object that operations do not write keeps its value
-pub same_unwritten : (d : Design) (ops : List Op) (object : Object) → IsClosed d → ¬ Written d ops object → value_of (run d ops).design object ≡ value_of d object
-same_unwritten d [] object closed free = refl
-same_unwritten d (op ∷ ops) object closed free =
-    let framed = frame d d op closed (Grown-refl d) (λ o is. Agrees-refl d o) in
-    let once : value_of d object ≡ value_of (step d op).design object = (agree_is_same_value d (step d op).design object).0 (framed.stays object (λ is. free (inl is))) in
-    same_unwritten (step d op).design ops object (step_closed d op closed) (λ is. free (inr is)) ∙ sym once
+pub same_unwritten : (d : Design) (ops : List Op) (object : Object) → ¬ Written d ops object → value_of (run d ops).design object ≡ value_of d object
+same_unwritten d ops object free = sym ((agree_is_same_value d (run d ops).design object).0 (run_stays ops d object free))
 
 -- ---- the versions after a commit
 
@@ -123,7 +120,7 @@ same_value s follows closed object v (suc k) w is le free =
     subst (λ (u : ℕ). ¬ Written (design s u) ops object) before (free (v + k + 1) (omega arith) (omega arith)) in
     ap (λ (u : ℕ). value_of (design s u) object) at
     ∙ (ap (λ (d : Design). value_of d object) (follows (v + k) (omega arith))
-    ∙ (same_unwritten (design s (v + k)) ops object (closed_versions s follows closed (v + k) (omega arith)) unwritten
+    ∙ (same_unwritten (design s (v + k)) ops object unwritten
     ∙ same_value s follows closed object v k (v + k) refl (omega arith) free))
 
 -- where no later commit wrote what the operations read, they do the same on the last version

@@ -1,11 +1,11 @@
 -- A worked history: two callers place each other's cells in the same version, and the second one to commit is refused.
 use Rattle.std.specs.Prelude.{◌≡◌, ℕ, List, [], ◌∷◌, ◌++◌, codes}
 use Rattle.netlist_schema.specs.Design.{Design}
-use Rattle.netlist_schema.specs.declared.ids.Object.TheVariants.{Cell}
+use Rattle.netlist_schema.specs.declared.ids.Object.TheVariants.{Contents}
 use Rattle.edit_spec.specs.Step.{run}
 use Rattle.edit_spec.specs.declared.ops.Op.{Op}
-use Rattle.edit_spec.specs.declared.ops.Reply.{Reply}
-use Rattle.edit_spec.specs.declared.ops.Reply.TheVariants.{Done, IsCyclic}
+use Rattle.edit_core.specs.declared.reply.Reply.{Reply}
+use Rattle.edit_core.specs.declared.reply.Reply.TheVariants.{Done, IsCyclic}
 use Rattle.history_spec.specs.declared.event.Answer.TheVariants.{Pinned, Released, Committed, Conflict}
 use Rattle.history_spec.specs.declared.event.Call.TheVariants.{Pin, Release, Commit}
 use Rattle.history_spec.specs.declared.event.Event.{Event}
@@ -25,13 +25,13 @@ b_in_a = place (codes "B") (codes "A") ∷ []
 abbrev pub a_in_b : List Op
 a_in_b = place (codes "A") (codes "B") ∷ []
 
--- both pin version 0 and commit; the second commit read the cell A, which the first one wrote
+-- both pin version 0 and commit; the second commit read the contents of A, which the first one wrote
 abbrev pub refused_commit : List Event
 refused_commit =
     event 0 Pin (Pinned 0 0)
     ∷ event 1 Pin (Pinned 1 0)
     ∷ event 0 (Commit 0 b_in_a) (Committed 1 (Done ∷ []))
-    ∷ event 1 (Commit 1 a_in_b) (Conflict (Cell (at_place 0)) 1)
+    ∷ event 1 (Commit 1 a_in_b) (Conflict (Contents (at_place 0)) 1)
     ∷ event 1 (Release 1) Released
     ∷ event 1 Pin (Pinned 2 1)
     ∷ []

@@ -1,15 +1,15 @@
 -- What holds of legal histories.
-use Rattle.std.specs.Prelude.{◌≡◌, ℕ, ◌<◌, ◌≤◌, List, ◌++◌, length, Contains, AllPairs}
+use Rattle.std.specs.Prelude.{◌≡◌, ℕ, ◌<◌, ◌≤◌, ◌+◌, List, [], ◌∷◌, ◌++◌, length, Contains, AllPairs}
 use Rattle.std.specs.List.{All}
 use Rattle.netlist_schema.specs.Design.{Design}
-use Rattle.edit_spec.specs.Objects.{Grown}
+use Rattle.edit_core.specs.Objects.{Grown}
 use Rattle.edit_spec.specs.Typed.{IsTypedOp}
 use Rattle.history_spec.specs.declared.event.Call.{Call}
 use Rattle.history_spec.specs.declared.event.Call.TheVariants.{Release, Commit}
 use Rattle.history_spec.specs.declared.event.Answer.TheVariants.{Committed}
 use Rattle.history_spec.specs.declared.event.Event.{Event}
 use Rattle.edit_spec.specs.declared.ops.Op.{Op}
-use Rattle.edit_spec.specs.declared.ops.Reply.{Reply}
+use Rattle.edit_core.specs.declared.reply.Reply.{Reply}
 use Rattle.history_spec.specs.State.{State, LivePin, head}
 use Rattle.history_spec.specs.Answers.{IsKept, most_events, places}
 use Rattle.history_spec.specs.History.{state_after, version_at}
@@ -25,6 +25,8 @@ pub record IsSound (s : State) : Type 0 where
   -- each event makes at most one pin or version
   pub few_made : s.made ≤ s.events
   pub few_versions : head s ≤ s.events
+  -- and each version beyond the first has its event
+  pub few_kept : length s.kept ≤ s.events + 1
   -- half of the places, since each live pin has its event and a place for its release
   pub few_live : length s.pins ≤ 2097152
   -- each live pin was made, and no two have one number
@@ -35,6 +37,7 @@ pub record IsSound (s : State) : Type 0 where
   pub ascending : AllPairs (λ v later. v < later) s.kept
   -- the last version is kept, and so is the version of each live pin
   pub head_kept : IsKept s (head s)
+  pub head_last : (before : List ℕ) × (s.kept ≡ before ++ head s ∷ [])
   pub pinned_kept : (pin : LivePin) → Contains s.pins pin → IsKept s pin.version
 
 -- the accepted commit of these operations by a caller

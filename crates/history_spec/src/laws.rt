@@ -1,20 +1,22 @@
 //! What holds of every legal history. A law is what a function without parameters ensures; there is nothing to run.
-ghost use Rattle.std.specs.Prelude.{◌≡◌, ◌↔◌, ◌⊎◌, ◌≤◌, List, [], ◌∷◌, ◌++◌, ℕ, map};
+ghost use Rattle.std.specs.Prelude.{◌≡◌, ◌↔◌, ◌⊎◌, ◌≤◌, ◌<◌, ◌+◌, length, List, [], ◌∷◌, ◌++◌, ℕ, map};
 ghost use Rattle.std.specs.List.{All};
 ghost use Rattle.netlist_schema.specs.Design.{Design};
 ghost use Rattle.netlist_schema.specs.Types.{Object};
 ghost use Rattle.netlist_schema.specs.Valid.{IsValid};
 ghost use Rattle.edit_spec.specs.Frame.{IsReplayed};
-ghost use Rattle.edit_spec.specs.Objects.{IsClosed};
+ghost use Rattle.edit_core.specs.Objects.{IsClosed, IsThere};
 ghost use Rattle.edit_spec.specs.Step.{run};
 ghost use Rattle.edit_spec.specs.declared.ops.Op.{Op};
-ghost use Rattle.edit_spec.specs.declared.ops.Reply.{Reply};
+ghost use Rattle.edit_core.specs.declared.reply.Reply.{Reply};
 ghost use Rattle.history_spec.specs.Answers.{Admits, Answers, HasNoConflict, HasRoom, IsCallers, IsKept};
 ghost use Rattle.history_spec.specs.History.{IsLegalFrom, Legal, state_after, version_at};
 ghost use Rattle.history_spec.specs.Laws.{IsGrowing, IsReleaseOf, IsSound, IsTypedCall, accepted, asked};
-ghost use Rattle.history_spec.specs.State.{IsLive, IsWritten, after, collected, head};
+ghost use Rattle.history_spec.specs.State.{IsLive, IsWritten, after, collected, head, next_version, version};
 ghost use Rattle.history_spec.specs.declared.event.Answer.{Answer};
+ghost use Rattle.history_spec.specs.declared.event.Answer.TheVariants.{Conflict};
 ghost use Rattle.history_spec.specs.declared.event.Call.{Call};
+ghost use Rattle.history_spec.specs.declared.event.Call.TheVariants.{Commit};
 ghost use Rattle.history_spec.specs.declared.event.Event.{Event};
 
 /// A history with one more event is legal exactly where the history is and the event may come next: it has room, is its
@@ -47,6 +49,22 @@ pub fn version_stays()
     ensures written { (d : Design) (events more : List Event) (w : ℕ) (object : Object) → w ≤ head (state_after d events) → IsWritten (state_after d (events ++ more)) w object ↔ IsWritten (state_after d events) w object }
 {}
 
+/// Each version is what the operations of its commit make of the one before. The version that an accepted commit makes is the next
+/// one, and in this and each later history it is what the commit's operations make of the version that was last when it came.
+pub fn versions_follow()
+    ensures next { (d : Design) (events : List Event) (v : ℕ) → v < head (state_after d events)
+        → version_at d events (v + 1) ≡ (run (version_at d events v) (version (state_after d events) (v + 1)).made_by).design }
+    ensures commit { (d : Design) (events more : List Event) (caller number : ℕ) (ops : List Op) (made : ℕ) (replies : List Reply) → Legal d (events ++ accepted caller number ops made replies ∷ more)
+        → (made ≡ head (state_after d events) + 1) × (version (state_after d (events ++ accepted caller number ops made replies ∷ more)) made ≡ next_version (state_after d events) ops) }
+{}
+
+/// What a commit wrote is there in its version and in each later one, and so the object of a refused commit is there in the last one.
+pub fn written_is_there()
+    ensures version { (d : Design) (events : List Event) (v w : ℕ) (object : Object) → w ≤ v → v ≤ head (state_after d events) → IsWritten (state_after d events) w object → IsThere (version_at d events v) object }
+    ensures conflict { (d : Design) (events : List Event) (caller number : ℕ) (ops : List Op) (object : Object) (w : ℕ) → Answers (state_after d events) caller (Commit number ops) (Conflict object w)
+        → IsThere (version_at d events (head (state_after d events))) object }
+{}
+
 /// Where no commit after a pin's version wrote what operations read there, they read and write the same objects on the
 /// last version as on the pinned one, and reply the same. So the replies to an accepted commit, which are those on the
 /// last version, are those on the pinned version.
@@ -57,10 +75,11 @@ pub fn replies_on_head()
         → Legal d (events ++ accepted caller number ops version replies ∷ []) → IsLive (state_after d events) number caller v → replies ≡ (run (version_at d events v) ops).replies }
 {}
 
-/// The numbers of pins and versions after a legal history: how many there are, that no two live pins have one number, and
-/// that the last version and those of live pins are kept.
+/// The numbers of pins and versions after a legal history: how many there are, that no two live pins have one number, that
+/// the kept versions stand in order and end with the last version, and that those of live pins are kept. Events are counted.
 pub fn states_are_sound()
-    ensures { (d : Design) (events : List Event) → Legal d events → IsSound (state_after d events) }
+    ensures sound { (d : Design) (events : List Event) → Legal d events → IsSound (state_after d events) }
+    ensures counted { (d : Design) (events : List Event) → (state_after d events).events ≡ length events }
 {}
 
 /// A collect leaves just the last version and those of live pins.

@@ -2,7 +2,9 @@
 ghost use Rattle.std.specs.Prelude.{ℕ, ◌≤◌};
 ghost use Rattle.netlist_schema.specs.Design.{Design};
 ghost use Rattle.history_spec.specs.ExampleCollect.{collected_versions, one_cell};
-ghost use Rattle.history_spec.specs.ExampleConflict.{IsRefusedCommit};
+ghost use Rattle.history_spec.specs.ExampleConflict.{IsRefusedCommit, two_cells};
+ghost use Rattle.history_spec.specs.ExampleFaces.{AreFacesApart};
+ghost use Rattle.history_spec.specs.ExampleInside.{inside_commits};
 ghost use Rattle.history_spec.specs.ExampleRoom.{HavePins, HaveRounds};
 ghost use Rattle.history_spec.specs.History.{Legal};
 
@@ -10,6 +12,17 @@ ghost use Rattle.history_spec.specs.History.{Legal};
 /// refused, and what it wanted is refused on the next version by its own reply.
 pub fn second_commit_is_refused()
     ensures { IsRefusedCommit }
+{}
+
+/// A commit inside a cell leaves a commit free that joins the cell's ports from outside; a commit on its interface refuses it.
+pub fn inside_and_interface_are_apart()
+    ensures { AreFacesApart }
+{}
+
+/// Commits inside two cells. A refused commit is told the least object that it read and a later commit wrote, and the last commit
+/// that wrote that object.
+pub fn least_object_and_last_commit_are_named()
+    ensures { Legal two_cells inside_commits }
 {}
 
 /// A version is kept while it is pinned. The first collect after its last pin drops it, and then it is gone.

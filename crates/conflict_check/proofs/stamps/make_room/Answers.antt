@@ -1,6 +1,6 @@
 use Rattle.std.proofs.Common.{get_or, Some, ◌∙◌}
 use Rattle.netlist_schema.specs.declared.ids.Object.TheVariants.{Directory}
-use Rattle.conflict_check.proofs.Order.{updates_by_order, ordered_by_order}
+use Rattle.netlist_schema.proofs.Objects.{updates_by_order, ordered_by_order}
 use Rattle.conflict_check.proofs.Marking.{same_marks_insert, has_entries_more}
 use Rattle.conflict_check.proofs.stamps.make_room.Goals as goal
 

@@ -1,7 +1,7 @@
 use Rattle.std.proofs.Common.{get_or, sym, ap, ◌∙◌, Some, is_some}
 use Rattle.std.proofs.lemmas.Bool.{false≢true}
 use Rattle.netlist_schema.specs.declared.ids.Object.TheVariants.{Directory}
-use Rattle.conflict_check.proofs.Order.{updates_by_order, get_by_order, ordered_by_order}
+use Rattle.netlist_schema.proofs.Objects.{updates_by_order, get_by_order, ordered_by_order}
 use Rattle.conflict_check.proofs.Marking.{ok_since, marked_more, has_entries_insert}
 use Rattle.conflict_check.proofs.stamps.set_marks.Goals as goal
 

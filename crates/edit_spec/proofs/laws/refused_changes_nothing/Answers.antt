@@ -1,4 +1,4 @@
-use Rattle.edit_spec.proofs.Growing as lemma
+use Rattle.edit_spec.proofs.Framed as lemma
 use Rattle.edit_spec.proofs.laws.refused_changes_nothing.Goals as goal
 
 pub returns : goal.returns

@@ -1,4 +1,4 @@
-use Rattle.edit_spec.proofs.AllValid as lemma
+use Rattle.edit_spec.proofs.Framed as lemma
 use Rattle.edit_spec.proofs.laws.step_is_valid.Goals as goal
 
 pub returns : goal.returns

@@ -1,4 +1,4 @@
-use Rattle.edit_spec.proofs.Closed as lemma
+use Rattle.edit_spec.proofs.Framed as lemma
 use Rattle.edit_spec.proofs.laws.step_keeps_closed.Goals as goal
 
 pub returns : goal.returns

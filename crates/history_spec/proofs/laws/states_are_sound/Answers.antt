@@ -1,5 +1,6 @@
 use Rattle.history_spec.proofs.Sound as lemma
+use Rattle.history_spec.proofs.Kept as kept
 use Rattle.history_spec.proofs.laws.states_are_sound.Goals as goal
 
 pub returns : goal.returns
-returns c = lemma.is_sound
+returns c = record { sound = lemma.is_sound; counted = kept.events_after }

@@ -1,0 +1,17 @@
+pub mod Closed
+pub mod Edits
+pub mod Filled
+pub mod Framed
+pub mod Growing
+pub mod InnerValid
+pub mod Levels
+pub mod Lists
+pub mod MoreCell
+pub mod Named
+pub mod Overlaid
+pub mod Reached
+pub mod Refusals
+pub mod Same
+pub mod There
+pub mod Values
+pub mod Written

@@ -1,0 +1,11 @@
+pub mod Edit
+pub mod Find
+pub mod Frame
+pub mod Local
+pub mod Notes
+pub mod Objects
+pub mod Overlay
+pub mod Paths
+pub mod Reading
+pub mod Rule
+pub mod Seen

@@ -1,0 +1,5 @@
+use Rattle.edit_spec.proofs.Example as lemma
+use Rattle.edit_spec.proofs.laws.ungroup_example.Goals as goal
+
+pub returns : goal.returns
+returns c = lemma.ungrouped

@@ -1,0 +1,24 @@
+-- Removing a note.
+use Rattle.std.specs.Prelude.{ℕ, List, [], ◌∷◌, Option, is_none, remove}
+use Rattle.std.specs.Option.{option_map_or}
+use Rattle.netlist_schema.specs.Design.{Design}
+use Rattle.netlist_schema.specs.Types.{Note, Object, TopHead}
+use Rattle.edit_core.specs.Notes.{note_place, notes_seen, put_notes}
+use Rattle.edit_core.specs.Reading.{IsNotesBelow}
+use Rattle.edit_core.specs.Rule.{Rule, refuse}
+use Rattle.edit_core.specs.declared.reply.Reply.TheVariants.{Done, NoNote, NoTop}
+
+-- the note of this path and key is removed
+abbrev pub drop_note : Option TopHead → List Note → List (List ℕ) → List ℕ → Rule
+drop_note top notes path key = record {
+  refusals = refuse (is_none top) NoTop ∷ refuse (is_none (note_place path key notes)) NoNote ∷ [];
+  reply = Done;
+  edits = put_notes top (option_map_or (remove notes) (note_place path key notes) notes);
+}
+
+abbrev pub drop_note_of : List (List ℕ) → List ℕ → Design → Rule
+drop_note_of path key d = drop_note d.top (notes_seen d.top d.notes) path key
+
+-- it needs the notes, where there is a top
+abbrev pub drop_note_needs : Design → Object → Type 0
+drop_note_needs d o = IsNotesBelow d.top o

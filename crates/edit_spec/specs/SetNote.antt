@@ -1,0 +1,28 @@
+-- Setting a note.
+use Rattle.std.specs.Prelude.{◌&&◌, ◌++◌, ℕ, Bool, not, nat_le, List, [], ◌∷◌, Option, length, is_none, slice_set}
+use Rattle.std.specs.Option.{option_map_or}
+use Rattle.netlist_schema.specs.Design.{Design}
+use Rattle.netlist_schema.specs.Types.{Note, Object, Property, TopHead}
+use Rattle.edit_core.specs.Notes.{note_place, notes_seen, put_notes}
+use Rattle.edit_core.specs.Paths.{is_path}
+use Rattle.edit_core.specs.Reading.{IsForPath}
+use Rattle.edit_core.specs.Rule.{Rule, refuse}
+use Rattle.edit_core.specs.declared.reply.Reply.TheVariants.{Done, NoPath, NoTop, TooMany}
+
+-- the note of equal path and key is replaced in place, else it is added
+abbrev pub set_note : Option TopHead → Bool → List Note → List (List ℕ) → Property → Rule
+set_note top leads notes path property =
+    let place = note_place path property.key.id notes in
+    let note : Note = record { path = path; property = property } in
+    record {
+      refusals = refuse (is_none top) NoTop ∷ refuse (not leads) NoPath ∷ refuse (is_none place && nat_le 1048576 (length notes)) (TooMany 1048576) ∷ [];
+      reply = Done;
+      edits = put_notes top (option_map_or (λ i. slice_set notes i note) place (notes ++ note ∷ []));
+    }
+
+abbrev pub set_note_of : List (List ℕ) → Property → Design → Rule
+set_note_of path property d = set_note d.top (is_path d d.top path) (notes_seen d.top d.notes) path property
+
+-- it needs the notes, and the contents of the cells that its path reaches
+abbrev pub set_note_needs : List (List ℕ) → Design → Object → Type 0
+set_note_needs path d o = IsForPath d d.top path o

@@ -1,0 +1,9 @@
+pub mod Dissolved
+pub mod Groups
+pub mod KeepsNets
+pub mod Maps
+pub mod MovedNotes
+pub mod Names
+pub mod Needs
+pub mod Ungroup
+pub mod Worked

@@ -1,0 +1,13 @@
+pub mod Alike
+pub mod Blocks
+pub mod Copies
+pub mod Counts
+pub mod Erased
+pub mod ExampleCapital
+pub mod ExamplePair
+pub mod Laws
+pub mod Local
+pub mod Needs
+pub mod Parts
+pub mod Rows
+pub mod Split
