@@ -7,8 +7,6 @@
 mod board;
 mod logged;
 mod plays;
-#[cfg(test)]
-mod tests;
 mod turn;
 
 pub use logged::Logged;

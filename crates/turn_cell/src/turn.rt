@@ -83,6 +83,11 @@ type Board<V> = Shared<
 
 type Place<V> = Seat<Option<V>, View<<V as Logged>::Base, <V as Logged>::Entry>>;
 
+// The low 32 bits of a word.
+fn low_half(word: u64) -> u32 {
+    (word % 4_294_967_296) as u32
+}
+
 // The seats of a new table, in the order of their numbers.
 fn deal<V: Logged>(
     alloc: Global,
@@ -178,11 +183,13 @@ impl<V: Logged> Turn<V> {
             × (seat.new.me ≡ (with_phase (InTurn ticket (V.entries x)) v, (0, Some x) ∷ seat.old.me.1))
             × AgreeWith V.made_by (V.entries x) (number_of v) (seen_of v) (own_of v) }
     {
+        let mut looks = 0;
         for _ in rt.forever() {
-            if self.table.shared.load::<Look>(seat, SERVING) == ticket {
+            let found = self.table.shared.load::<Look>(seat, SERVING);
+            if found == ticket {
                 return;
             }
-            thread::yield_now();
+            self.rest_a_while(rt, found, &mut looks);
         }
         unreachable!()
     }
@@ -204,6 +211,24 @@ impl<V: Logged> Turn<V> {
         ensures grown { MatchBool added (Gains seat.old seat.new) (seat.new.own ≡ seat.old.own) }
     {
         self.hand_on(&mut seat.seat, value, added);
+        self.wake();
+    }
+
+    // Lets others go on, and after some looks sleeps while the served ticket is the one that was found.
+    fn rest_a_while(&self, rt: &impl Wait, found: u64, looks: &mut u32) {
+        if *looks < 64 {
+            *looks += 1;
+            thread::yield_now();
+        } else {
+            self.table.shared.park(rt, SERVING, low_half(found));
+        }
+    }
+
+    // Wakes those who sleep until the next ticket is served, where a ticket is out.
+    fn wake(&self) {
+        if self.table.shared.peek(TICKET) != self.table.shared.peek(SERVING) {
+            self.table.shared.wake_all(SERVING);
+        }
     }
 
     // Puts the value into the slot, counts its entry if there is one, and serves the next ticket.

@@ -1,11 +1,12 @@
 -- Tables that have the items of a list: the empty one, one with an item more or with another item, and their values.
-use Rattle.std.proofs.Common.{◌≡◌, ℕ, zero, suc, ◌+◌, ◌<◌, cond, IsTrue, List, [], ◌∷◌, ◌++◌, map, length, set, slice_get, Some, None, inl, inr, refl, sym, ap, ◌∙◌, arith}
+use Rattle.std.proofs.Common.{◌≡◌, ℕ, zero, suc, ◌+◌, ◌<◌, cond, IsTrue, List, [], ◌∷◌, ◌++◌, map, length, set, slice_get, Some, None, inl, inr, refl, sym, ap, ◌∙◌, subst, append_assoc, append-nil, arith}
 use Rattle.std.specs.Ordering.{nat_cmp, eq_by_cmp}
 use Rattle.std.specs.Cmp.{nat_cmp_total}
 use Rattle.std.specs.FinMap.{FinMap, empty, insert, values, find, from_sorted, is_sorted, get-empty, get-insert, get-from_sorted, entries-from_sorted, same_map, nat_cmp-IsAntisymmetric}
 use Rattle.std.specs.FinMap.Entries.{below_all}
 use Rattle.std.proofs.lemmas.Bool.{cases_order, and_from}
-use Rattle.ver_table.specs.Rows.{Lists}
+use Rattle.std.proofs.lemmas.List.{length_push}
+use Rattle.ver_table.specs.Rows.{Lists, numbered, set_all}
 use Rattle.ver_table.proofs.Places.{to_T, cmp_below, cmp_above, cmp_same}
 
 -- one slot further on both sides
@@ -45,16 +46,11 @@ module _ {X : Type 0} where
   pub Lists-same_table : (first second : FinMap nat_cmp X) (items : List X) → Lists first items → Lists second items → first ≡ second
   Lists-same_table first second items h k = same_map nat_cmp_total nat_cmp-IsAntisymmetric first second (λ slot. h.each slot ∙ sym (k.each slot))
 
-  -- the items with their places, from a first place on
-  abbrev numbered : ℕ → List X → List (ℕ × X)
-  numbered from [] = []
-  numbered from (x ∷ items) = (from, x) ∷ numbered (suc from) items
-
   below_numbered : (from : ℕ) (items : List X) (low : ℕ) → low < from → IsTrue (below_all nat_cmp low (numbered from items))
   below_numbered from [] low h = refl
   below_numbered from (x ∷ items) low h = rw (cmp_below low from h) (below_numbered (suc from) items low (omega arith))
 
-  numbered_sorted : (from : ℕ) (items : List X) → IsTrue (is_sorted nat_cmp (numbered from items))
+  pub numbered_sorted : (from : ℕ) (items : List X) → IsTrue (is_sorted nat_cmp (numbered from items))
   numbered_sorted from [] = refl
   numbered_sorted from (x ∷ items) = and_from _ _ (below_numbered (suc from) items from (omega arith)) (numbered_sorted (suc from) items)
 
@@ -71,7 +67,7 @@ module _ {X : Type 0} where
   numbered_items from [] = refl
   numbered_items from (x ∷ items) = ap (λ xs. x ∷ xs) (numbered_items (suc from) items)
 
-  Lists-numbered : (items : List X) → Lists (from_sorted (numbered 0 items)) items
+  pub Lists-numbered : (items : List X) → Lists (from_sorted (numbered 0 items)) items
   Lists-numbered items = record { each = λ slot. get-from_sorted nat_cmp (numbered 0 items) slot (to_T (numbered_sorted 0 items)) ∙ find_numbered 0 items slot slot (omega arith) }
 
   -- the values of the table, in the order of their slots, are the items
@@ -79,3 +75,18 @@ module _ {X : Type 0} where
   values-Lists table items h =
       let same = Lists-same_table table (from_sorted (numbered 0 items)) items h (Lists-numbered items) in
       rw (same, entries-from_sorted nat_cmp (numbered 0 items) (to_T (numbered_sorted 0 items))) (numbered_items 0 items)
+
+  -- one more item
+  pub numbered-push : (from : ℕ) (items : List X) (x : X) → numbered from (items ++ x ∷ []) ≡ numbered from items ++ (from + length items, x) ∷ []
+  numbered-push from [] x = let shift : from ≡ from + 0 = omega arith in ap (λ n. (n, x) ∷ []) shift
+  numbered-push from (y ∷ items) x =
+      let shift : suc from + length items ≡ from + suc (length items) = omega arith in
+      ap (λ ps. (from, y) ∷ ps) (numbered-push (suc from) items x ∙ ap (λ n. numbered (suc from) items ++ (n, x) ∷ []) shift)
+
+  -- more items behind those that a table lists
+  pub Lists-set_all : (more : List X) (table : FinMap nat_cmp X) (items : List X) (from : ℕ) → from ≡ length items → Lists table items → Lists (set_all table (numbered from more)) (items ++ more)
+  Lists-set_all [] table items from e h = subst (Lists table) (sym (append-nil items)) h
+  Lists-set_all (x ∷ more) table items from e h =
+      let next : suc from ≡ length (items ++ x ∷ []) = omega (arith, length_push items x) in
+      let one : Lists (insert table from x) (items ++ x ∷ []) = subst (λ n. Lists (insert table n x) (items ++ x ∷ [])) (sym e) (Lists-push table items x h) in
+      rw (← append_assoc items (x ∷ []) more) (Lists-set_all more (insert table from x) (items ++ x ∷ []) (suc from) next one)

@@ -21,7 +21,7 @@ cmp_above a b h = rw (le-ltb a b (omega arith), ne_eqb a b (omega arith)) refl
 pub cmp_same : (a b : ℕ) → a ≡ b → nat_cmp a b ≡ Equal
 cmp_same a b e = rw (le-ltb a b (omega arith), eq-eqb a b e) refl
 
-below_from_cmp : (a b : ℕ) → IsTrue (is_lt (nat_cmp a b)) → a < b
+pub below_from_cmp : (a b : ℕ) → IsTrue (is_lt (nat_cmp a b)) → a < b
 below_from_cmp a b h = elim (cases_order a b) [
   | inl e ↦ absurd (false≢true (rw (cmp_same a b e) at h))
   | inr (inl less) ↦ less
@@ -38,7 +38,7 @@ from_T false h = absurd h
 
 module _ {X : Type 0} where
   -- without the first pair
-  rest_in_order : (p : ℕ × X) (ps : List (ℕ × X)) → IsInOrder (p ∷ ps) → IsInOrder ps
+  pub rest_in_order : (p : ℕ × X) (ps : List (ℕ × X)) → IsInOrder (p ∷ ps) → IsInOrder ps
   rest_in_order p ps h = (and_parts (below_all nat_cmp p.0 ps) (is_sorted nat_cmp ps) h).1
 
   -- the second pair's slot is higher than the first's
@@ -93,7 +93,7 @@ module _ {X : Type 0} where
 
 module _ {X Y : Type 0} (f : X → ℕ × Y) where
   -- the slot of the pair that f makes of the element at a place
-  slot_of : (xs : List X) (k : ℕ) (d : X) → k < length xs → slot_at (map f xs) k ≡ (f (get_or xs k d)).0
+  pub slot_of : (xs : List X) (k : ℕ) (d : X) → k < length xs → slot_at (map f xs) k ≡ (f (get_or xs k d)).0
   slot_of [] k d in_range = absurd (omega arith)
   slot_of (x ∷ xs) zero d in_range = refl
   slot_of (x ∷ xs) (suc k) d in_range = slot_of xs k d (omega arith)

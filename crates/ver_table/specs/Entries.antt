@@ -1,9 +1,13 @@
 -- What a list of entries stands for.
-use Rattle.std.specs.Prelude.{◌≡◌, ◌⊎◌, ℕ, ◌+◌, ◌<◌, ◌≤◌, List, map, length, IsTrue, Result, Ok, Err, slice_index}
+use Rattle.std.specs.Prelude.{◌≡◌, ◌⊎◌, ℕ, ◌+◌, ◌<◌, ◌≤◌, List, [], ◌∷◌, map, length, IsTrue, Result, Ok, Err, slice_index}
 use Rattle.std.specs.Arc.{arc_value}
 use Rattle.std.specs.Ordering.{nat_cmp}
-use Rattle.std.specs.FinMap.{FinMap, from_sorted, is_sorted}
-use Rattle.ver_table.specs.declared.table.Entry.{Entry}
+use Rattle.std.specs.FinMap.{put, is_sorted}
+use Rattle.ver_table.specs.declared.entries.Entry.{Entry}
+
+-- the slot and its item
+abbrev pub pair_of : {T : Type 0} → Entry T → ℕ × T
+pair_of entry = (entry.slot, arc_value entry.item)
 
 -- the slots and their items
 abbrev pub pairs_of : {T : Type 0} → List (Entry T) → List (ℕ × T)
@@ -13,15 +17,10 @@ pairs_of entries = map (λ entry. (entry.slot, arc_value entry.item)) entries
 abbrev pub IsInOrder : {T : Type 0} → List (ℕ × T) → Type 0
 IsInOrder pairs = IsTrue (is_sorted nat_cmp pairs)
 
--- the map that has each entry's item at its slot
-abbrev pub map_of : {T : Type 0} → List (Entry T) → FinMap nat_cmp T
-map_of entries = from_sorted (pairs_of entries)
-
--- pages have 1 to 1024 slots, and the entries stand in order
-pub record IsTable {T : Type 0} (page : ℕ) (entries : List (Entry T)) : Type 0 where
-  pub some : 1 ≤ page
-  pub few : page ≤ 1024
-  pub ordered : IsInOrder (pairs_of entries)
+-- the pairs in order with each of these changes made: its item in the place of the one at its slot, or else added
+abbrev pub with_all : {T : Type 0} → List (ℕ × T) → List (ℕ × T) → List (ℕ × T)
+with_all pairs [] = pairs
+with_all pairs (change ∷ changes) = with_all (put nat_cmp change.0 change.1 pairs) changes
 
 -- the slot of the pair at a place
 abbrev pub slot_at : {T : Type 0} → List (ℕ × T) → ℕ → ℕ

@@ -7,16 +7,16 @@ use Rattle.turn_cell.proofs.Facts.{same_turn}
 use Rattle.turn_cell.proofs.Calls.{looks_once}
 use Rattle.turn_cell.proofs.turn.Turn.wait.Goals as goal
 
-pub load-requires : goal.load-requires
-load-requires g c = (
+pub load-found-requires : goal.load-found-requires
+load-found-requires g c = (
   same_turn _ _ _ (c.loop.invariant.0 ∙ c.requires.own) c.self.view_is,
   omega arith,
   looks_once g.V.Logged.base g.V.Logged.entries g.V.Logged.made_by _ _ _ _ c.loop.seat.me.0 c.loop.seat.me.1 c.args.ticket (subst (λ m. IsWaiting c.args.ticket m.0) (sym c.loop.invariant.2) c.requires.waits),
 )
 
-pub returns-then-load-ticket-clause-turn : goal.returns-then-load-ticket-clause-turn
-returns-then-load-ticket-clause-turn g c =
-    let found = (c.load.ensures.2 c.args.ticket (subst (λ m. IsWaiting c.args.ticket m.0) (sym c.loop.invariant.2) c.requires.waits)).1 (search rules) in (
+pub returns-then-found-ticket-clause-turn : goal.returns-then-found-ticket-clause-turn
+returns-then-found-ticket-clause-turn g c =
+    let found = (c.load-found.ensures.2 c.args.ticket (subst (λ m. IsWaiting c.args.ticket m.0) (sym c.loop.invariant.2) c.requires.waits)).1 (search rules) in (
       found.0,
       subst (λ m. HasBase (g.V.Logged.base found.0) m.0) c.loop.invariant.2 found.1,
       found.2 ∙ ap (λ m. (with_phase (InTurn c.args.ticket (g.V.Logged.entries found.0)) m.0, (0, Some found.0) ∷ m.1)) c.loop.invariant.2,
@@ -25,7 +25,7 @@ returns-then-load-ticket-clause-turn g c =
 
 pub loop-preserved : goal.loop-preserved
 loop-preserved g c = (
-  c.load.ensures.0 ∙ c.loop.invariant.0,
-  c.load.ensures.1 ∙ c.loop.invariant.1,
-  (c.load.ensures.2 c.args.ticket (subst (λ m. IsWaiting c.args.ticket m.0) (sym c.loop.invariant.2) c.requires.waits)).0 (search rules) ∙ c.loop.invariant.2,
+  c.load-found.ensures.0 ∙ c.loop.invariant.0,
+  c.load-found.ensures.1 ∙ c.loop.invariant.1,
+  (c.load-found.ensures.2 c.args.ticket (subst (λ m. IsWaiting c.args.ticket m.0) (sym c.loop.invariant.2) c.requires.waits)).0 (search rules) ∙ c.loop.invariant.2,
 )

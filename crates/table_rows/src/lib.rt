@@ -1,0 +1,5 @@
+//! Worked rows of tables.
+#![tactic(auto)]
+
+#[cfg(test)]
+mod rows;

@@ -1,0 +1,65 @@
+-- What a list of pages stands for. A sheet is the number of a page with the pairs of its entries.
+use Rattle.std.specs.Prelude.{◌≡◌, ◌≢◌, ℕ, ◌/◌, ◌<◌, ◌≤◌, List, [], ◌∷◌, ◌++◌, map, length, unwrap_or}
+use Rattle.std.specs.Arc.{arc_value}
+use Rattle.std.specs.Ordering.{nat_cmp}
+use Rattle.std.specs.FinMap.{FinMap, from_sorted, find, put}
+use Rattle.ver_table.specs.declared.pages.Page.{Page}
+use Rattle.ver_table.specs.Entries.{pairs_of, slot_at, IsInOrder}
+
+-- P holds of each element
+abbrev pub Each : {X : Type 0} → (X → Type 0) → List X → Type 0
+Each P [] = Unit {0}
+Each P (x ∷ xs) = P x × Each P xs
+
+-- the sheet of a page
+abbrev pub sheet_of : {T : Type 0} → Page T → ℕ × List (ℕ × T)
+sheet_of page = (page.number, pairs_of (arc_value page.entries).items)
+
+-- the sheets of pages
+abbrev pub sheets_of : {T : Type 0} → List (Page T) → List (ℕ × List (ℕ × T))
+sheets_of {T} pages = map (λ (page : Page T). (page.number, pairs_of (arc_value page.entries).items)) pages
+
+-- the pairs of all sheets, one after the other
+abbrev pub spread : {T : Type 0} → List (ℕ × List (ℕ × T)) → List (ℕ × T)
+spread [] = []
+spread (sheet ∷ sheets) = sheet.1 ++ spread sheets
+
+-- the pairs of the sheet with the number, none where there is no such sheet
+abbrev pub sheet_at : {T : Type 0} → List (ℕ × List (ℕ × T)) → ℕ → List (ℕ × T)
+sheet_at sheets number = unwrap_or (find nat_cmp number sheets) []
+
+-- the sheets with a pair put into the sheet of its slot
+abbrev pub revise : {T : Type 0} → ℕ → List (ℕ × List (ℕ × T)) → ℕ × T → List (ℕ × List (ℕ × T))
+revise size sheets pair = put nat_cmp (pair.0 / size) (put nat_cmp pair.0 pair.1 (sheet_at sheets (pair.0 / size))) sheets
+
+-- the same for pairs, one after the other
+abbrev pub revise_all : {T : Type 0} → ℕ → List (ℕ × List (ℕ × T)) → List (ℕ × T) → List (ℕ × List (ℕ × T))
+revise_all size sheets [] = sheets
+revise_all size sheets (pair ∷ pairs) = revise_all size (revise size sheets pair) pairs
+
+-- a sheet is not empty, its pairs are in order, and their slots have its number as their quotient
+pub record IsSheet {T : Type 0} (size : ℕ) (sheet : ℕ × List (ℕ × T)) : Type 0 where
+  pub some : 0 < length sheet.1
+  pub ordered : IsInOrder sheet.1
+  pub own : Each (λ pair. pair.0 / size ≡ sheet.0) sheet.1
+
+-- sheets in the order of their numbers
+pub record AreSheets {T : Type 0} (size : ℕ) (sheets : List (ℕ × List (ℕ × T))) : Type 0 where
+  pub rising : IsInOrder sheets
+  pub each : Each (IsSheet size) sheets
+
+-- the first pairs, this many, lie on the sheet with the number, and the one behind them, if there is one, does not
+pub record IsRun {T : Type 0} (size number : ℕ) (pairs : List (ℕ × T)) (count : ℕ) : Type 0 where
+  pub in_range : count ≤ length pairs
+  pub own : (k : ℕ) → k < count → slot_at pairs k / size ≡ number
+  pub next : count < length pairs → slot_at pairs count / size ≢ number
+
+-- the map that has each entry's item at its slot
+abbrev pub map_of : {T : Type 0} → List (Page T) → FinMap nat_cmp T
+map_of pages = from_sorted (spread (sheets_of pages))
+
+-- pages have 1 to 1024 slots, and stand in order
+pub record IsTable {T : Type 0} (size : ℕ) (pages : List (Page T)) : Type 0 where
+  pub some : 1 ≤ size
+  pub few : size ≤ 1024
+  pub sheets : AreSheets size (sheets_of pages)
