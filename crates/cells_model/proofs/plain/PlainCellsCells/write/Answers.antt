@@ -1,0 +1,10 @@
+use Rattle.std.proofs.Common.{sym, ap, ◌∙◌, List, length, take}
+use Rattle.netlist_schema.specs.Types.{Object}
+use Rattle.cells_model.proofs.States.{made_done, nothing_done}
+use Rattle.cells_model.proofs.plain.PlainCellsCells.write.Goals as goal
+
+pub returns-in-Ok-clause-ok : goal.returns-in-Ok-clause-ok
+returns-in-Ok-clause-ok c = made_done c.args.self.now _ c.self.inside.design _ c.self.inside.reads c.self.inside.written _ c.args.change (sym c.self.view_is) c.in-Ok.ensures.ok c.in_ok-add_written.ensures
+
+pub returns-in-Err-clause-err : goal.returns-in-Err-clause-err
+returns-in-Err-clause-err c = nothing_done c.args.self.now _ c.self.inside.design _ c.self.inside.reads c.self.inside.written c.add_written.new.list _ (sym c.self.view_is) c.in-Err.ensures.err (λ d. (c.in_ok-add_written.ensures d).prefix) (c.cut.ensures ∙ ap (λ (l : List Object). take (length l) c.add_written.new.list) c.as_slice-before.ensures)

@@ -1,0 +1,42 @@
+//! Adding cells.
+ghost use Rattle.std.specs.Prelude.{◌≡◌, ◌≤◌, IfOk, codes, length, map, not, sum_by};
+ghost use Rattle.std.specs.List.{list_any};
+ghost use Rattle.netlist_schema.specs.Design.{port_width};
+ghost use Rattle.edit_core.specs.Find.{is_same};
+ghost use Rattle.edit_core.specs.Rule.{first};
+ghost use Rattle.edit_spec.specs.AddCell.{has_twice, new_cell, new_port};
+ghost use Rattle.edit_spec.specs.Typed.{IsTypedOp};
+ghost use Rattle.eco_reads.specs.Done.{IsDoneOrFails};
+ghost use Rattle.eco_plans.specs.Add.{IsCellPlanned, no_new_cell};
+
+use cells_model::{CellChange, Cells};
+use eco_plans::add::plan_cell;
+use eco_reads::write::write_one;
+use edit_spec::{CellName, Op, PortDecl, Reply};
+use netlist_schema::{CellId, NoMemory, Row};
+use std::alloc::Global;
+
+/// Adds a cell.
+pub fn add_cell<C: Cells>(
+    alloc: Global,
+    cells: &mut C,
+    name: &CellName,
+    leaf: bool,
+    ports: &Row<PortDecl>,
+) -> Result<Reply, NoMemory>
+    requires { IsTypedOp (Op.AddCell name.now leaf ports.now) }
+    ensures { IsDoneOrFails result (C.state cells.old) (C.state cells.new) (Op.AddCell name.now leaf ports.now) }
+{
+    let Some(lib) = cells.lib_named(&name.lib) else {
+        return Ok(Reply::NoLib);
+    };
+    let free = cells.name_free(lib, &name.cell)?;
+    let count = cells.count(lib)?;
+    let body = match plan_cell(alloc, free, count, &name.cell, leaf, ports.as_slice())? {
+        Ok(body) => body,
+        Err(refusal) => return Ok(refusal),
+    };
+    let id = CellId { lib, slot: count };
+    write_one(alloc, cells, CellChange::Fresh { id, body }, None)?;
+    Ok(Reply::Done)
+}

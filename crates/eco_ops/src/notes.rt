@@ -1,0 +1,52 @@
+//! Operations on notes.
+ghost use Rattle.std.specs.Prelude.{◌≡◌, ◌<◌, ◌&&◌, IfOk, IfSome, length, nat_eq, position};
+ghost use Rattle.std.specs.Cmp.Lexicographic.{pointwise};
+ghost use Rattle.edit_core.specs.Find.{is_name};
+ghost use Rattle.edit_core.specs.Rule.{first};
+ghost use Rattle.edit_core.specs.Notes.{note_place};
+ghost use Rattle.edit_spec.specs.Typed.{IsTypedOp};
+ghost use Rattle.eco_reads.specs.Done.{IsDoneOrFails};
+ghost use Rattle.eco_reads.specs.Plan.{AreNotesPlanned};
+ghost use Rattle.eco_plans.specs.Notes.{no_note_dropped, no_note_set, note_dropped, note_set};
+
+use cells_model::Cells;
+use eco_plans::notes::{with_note, without_note};
+use eco_reads::walk::leads;
+use eco_reads::write::put_notes;
+use edit_spec::{Op, Reply};
+use netlist_schema::{Ident, NoMemory, Property, Row};
+use std::alloc::Global;
+
+/// Sets a note.
+pub fn set_note<C: Cells>(
+    alloc: Global,
+    cells: &mut C,
+    path: &Row<Ident>,
+    property: &Property,
+) -> Result<Reply, NoMemory>
+    requires { IsTypedOp (Op.SetNote path.now property.now) }
+    ensures { IsDoneOrFails result (C.state cells.old) (C.state cells.new) (Op.SetNote path.now property.now) }
+{
+    let Some(top) = cells.top_cell() else {
+        return Ok(Reply::NoTop);
+    };
+    let leads = leads(cells, top, path)?;
+    let planned = with_note(alloc, cells.notes()?, path, property, leads)?;
+    put_notes(alloc, cells, planned)
+}
+
+/// Removes a note.
+pub fn drop_note<C: Cells>(
+    alloc: Global,
+    cells: &mut C,
+    path: &Row<Ident>,
+    key: &Ident,
+) -> Result<Reply, NoMemory>
+    ensures { IsDoneOrFails result (C.state cells.old) (C.state cells.new) (Op.DropNote path.now key.now) }
+{
+    let Some(_top) = cells.top_cell() else {
+        return Ok(Reply::NoTop);
+    };
+    let planned = without_note(alloc, cells.notes()?, path, key)?;
+    put_notes(alloc, cells, planned)
+}

@@ -1,0 +1,98 @@
+//! Setting properties.
+ghost use Rattle.std.specs.Prelude.{◌≡◌, [], ◌∷◌, IfOk, IfSome};
+ghost use Rattle.std.specs.Option.{option_copied, option_map_or};
+ghost use Rattle.edit_core.specs.Rule.{first, no_inst};
+ghost use Rattle.edit_spec.specs.Inside.{no_net};
+ghost use Rattle.edit_spec.specs.SetProp.{set_property};
+ghost use Rattle.edit_spec.specs.Typed.{IsTypedOp};
+ghost use Rattle.cells_model.specs.Parts.{HasLimits};
+ghost use Rattle.eco_reads.specs.Done.{IsDoneOrFails};
+ghost use Rattle.eco_reads.specs.Plan.{IsPlanned};
+ghost use Rattle.eco_plans.specs.Props.{insts_set, nets_set};
+
+use cells_model::{CellChange, Cells};
+use eco_plans::props::{plan_inst_property, plan_net_property, with_own_property};
+use eco_reads::read::read_named;
+use eco_reads::write::{put_planned, write_one};
+use edit_spec::{CellName, Op, Reply, Target};
+use netlist_schema::{Ident, NoMemory, Property};
+use std::alloc::Global;
+
+/// Sets a property of a cell.
+fn set_own<C: Cells>(
+    alloc: Global,
+    cells: &mut C,
+    name: &CellName,
+    property: &Property,
+) -> Result<Reply, NoMemory>
+    requires { IsTypedOp (Op.SetProp name.now Target.Whole property.now) }
+    ensures { IsDoneOrFails result (C.state cells.old) (C.state cells.new) (Op.SetProp name.now Target.Whole property.now) }
+{
+    let id = match read_named(cells, name)? {
+        Ok(id) => id,
+        Err(refusal) => return Ok(refusal),
+    };
+    let made = with_own_property(alloc, cells.face(id)?, property)?;
+    let change = CellChange::Face {
+        id,
+        properties: made,
+    };
+    write_one(alloc, cells, change, None)?;
+    Ok(Reply::Done)
+}
+
+/// Sets a property of an instance.
+fn set_of_inst<C: Cells>(
+    alloc: Global,
+    cells: &mut C,
+    name: &CellName,
+    inst: &Ident,
+    property: &Property,
+) -> Result<Reply, NoMemory>
+    requires { IsTypedOp (Op.SetProp name.now (Target.Inst inst.now) property.now) }
+    ensures { IsDoneOrFails result (C.state cells.old) (C.state cells.new) (Op.SetProp name.now (Target.Inst inst.now) property.now) }
+{
+    let id = match read_named(cells, name)? {
+        Ok(id) => id,
+        Err(refusal) => return Ok(refusal),
+    };
+    let planned = plan_inst_property(alloc, cells.contents(id)?, inst, property)?;
+    put_planned(alloc, cells, id, planned, None)
+}
+
+/// Sets a property of a net.
+fn set_of_net<C: Cells>(
+    alloc: Global,
+    cells: &mut C,
+    name: &CellName,
+    net: &Ident,
+    property: &Property,
+) -> Result<Reply, NoMemory>
+    requires { IsTypedOp (Op.SetProp name.now (Target.Net net.now) property.now) }
+    ensures { IsDoneOrFails result (C.state cells.old) (C.state cells.new) (Op.SetProp name.now (Target.Net net.now) property.now) }
+{
+    let id = match read_named(cells, name)? {
+        Ok(id) => id,
+        Err(refusal) => return Ok(refusal),
+    };
+    let planned = plan_net_property(alloc, cells.contents(id)?, net, property)?;
+    put_planned(alloc, cells, id, planned, None)
+}
+
+/// Sets a property of a cell, or of one of its instances or nets.
+pub fn set_prop<C: Cells>(
+    alloc: Global,
+    cells: &mut C,
+    name: &CellName,
+    target: &Target,
+    property: &Property,
+) -> Result<Reply, NoMemory>
+    requires { IsTypedOp (Op.SetProp name.now target.now property.now) }
+    ensures { IsDoneOrFails result (C.state cells.old) (C.state cells.new) (Op.SetProp name.now target.now property.now) }
+{
+    match target {
+        Target::Whole => set_own(alloc, cells, name, property),
+        Target::Inst(inst) => set_of_inst(alloc, cells, name, inst, property),
+        Target::Net(net) => set_of_net(alloc, cells, name, net, property),
+    }
+}

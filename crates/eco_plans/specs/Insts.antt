@@ -1,0 +1,22 @@
+-- One more instance.
+use Rattle.std.specs.Prelude.{ℕ, Bool, not, List, [], ◌∷◌, Option, length}
+use Rattle.netlist_schema.specs.Design.{Design, insts_in, nets_in}
+use Rattle.netlist_schema.specs.Types.{CellId, Contents, Note}
+use Rattle.edit_core.specs.Paths.{goes_through}
+use Rattle.edit_core.specs.Rule.{is_leaf, refuse, too_many}
+use Rattle.edit_spec.specs.AddInst.{taken_inst, with_inst}
+use Rattle.edit_core.specs.declared.reply.Reply.{Reply}
+use Rattle.edit_core.specs.declared.reply.Reply.TheVariants.{IsCyclic, LaterLibrary}
+
+-- the refusals to add an instance to contents, where both cells are found
+abbrev pub no_new_inst : Option Contents → List ℕ → Bool → Bool → List (Option Reply)
+no_new_inst contents inst later cyclic =
+    is_leaf contents ∷ taken_inst contents inst ∷ refuse later LaterLibrary ∷ refuse cyclic IsCyclic ∷ too_many (length (insts_in contents)) 1048576 ∷ []
+
+-- the contents with one more
+abbrev pub more_insts : List ℕ → CellId → Option Contents → Contents
+more_insts inst of contents = record { insts = with_inst inst of (insts_in contents); nets = nets_in contents }
+
+-- the path of a note does not go through an instance of a cell
+abbrev pub is_other : Design → CellId → List ℕ → CellId → Note → Bool
+is_other d cell inst top note = not (goes_through d cell inst top note.path)

@@ -1,0 +1,6 @@
+pub mod Below
+pub mod Found
+pub mod Going
+pub mod Paths
+pub mod Places
+pub mod Reading

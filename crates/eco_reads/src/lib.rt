@@ -1,0 +1,10 @@
+//! What the single operations read, by names and along paths, and how they write.
+#![tactic(auto)]
+
+pub mod find;
+pub mod plan;
+pub mod read;
+pub mod walk;
+pub mod write;
+
+pub use plan::Plan;

@@ -1,0 +1,28 @@
+//! What an operation reads of the cells that it names.
+ghost use Rattle.std.specs.Prelude.{IfOk};
+ghost use Rattle.edit_core.specs.Reading.{IsForName};
+ghost use Rattle.netlist_schema.specs.Valid.{IsValid};
+ghost use Rattle.cells_model.specs.State.{ReadsOrFails};
+ghost use Rattle.eco_reads.specs.Plan.{IsNamed};
+
+use cells_model::Cells;
+use edit_spec::{CellName, Reply};
+use netlist_schema::{CellId, NoMemory};
+
+/// The cell with this name, or the refusal where the library or the cell is not there.
+pub fn read_named<C: Cells>(
+    cells: &mut C,
+    name: &CellName,
+) -> Result<Result<CellId, Reply>, NoMemory>
+    ensures found { IfOk result (IsNamed (C.state cells.old).design name.now) }
+    ensures valid { IsValid (C.state cells.old).design }
+    ensures reads { ReadsOrFails result (C.state cells.old) (C.state cells.new) (IsForName (C.state cells.old).design name.now) }
+{
+    let Some(lib) = cells.lib_named(&name.lib) else {
+        return Ok(Err(Reply::NoLib));
+    };
+    match cells.find(lib, &name.cell)? {
+        Some(id) => Ok(Ok(id)),
+        None => Ok(Err(Reply::NoCell)),
+    }
+}
