@@ -1,0 +1,3 @@
+mod BelowLemmas
+pub mod ListedLemmas
+mod MarkLemmas

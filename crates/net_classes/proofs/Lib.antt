@@ -1,0 +1,14 @@
+mod BitLemmas
+mod CompositionLemmas
+mod InsideLemmas
+mod JointLemmas
+mod KnownLemmas
+mod LeastBitLemmas
+mod LinkLemmas
+mod NestedLemmas
+mod OrderLemmas
+mod OwnLemmas
+mod PortClassLemmas
+mod RunLemmas
+mod TableLemmas
+mod TellLemmas

@@ -1,0 +1,9 @@
+pub mod Bits
+pub mod Facts
+pub mod Inside
+pub mod Joints
+pub mod Known
+pub mod LeastBits
+pub mod Links
+pub mod Own
+pub mod PortClasses

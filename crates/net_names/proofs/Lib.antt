@@ -1,0 +1,3 @@
+mod HandLemmas
+pub mod NameLemmas
+mod SearchLemmas

@@ -1,0 +1,106 @@
+//! The names of the nets of an occurrence.
+ghost use Rattle.std.specs.Prelude.{◌≡◌, ◌<◌, ℕ, Some, IfOk, IsSome, length, option_and_then, slice_get};
+ghost use Rattle.std.specs.List.{All};
+ghost use Rattle.flat_spec.specs.Paths.{nets_at};
+ghost use Rattle.net_classes.specs.Facts.{first_at};
+ghost use Rattle.net_names.specs.Names.{AreHanded, AreOwnNames, IsHandedOne, first_of, name_in};
+
+use cell_lookup::net_count;
+use net_classes::{Classes, Joint};
+use netlist_schema::{CellId, NoMemory, Shown};
+use std::alloc::Global;
+
+/// A net of an occurrence on the way from the top, by the number of steps that lead to it.
+#[derive(Clone, Copy, Debug, PartialEq, Eq)]
+pub struct Name {
+    pub depth: u32,
+    pub net: u32,
+}
+
+/// The name of a net: that of the first net that is connected with it inside. Takes no memory.
+pub fn name_of(names: &[Name], firsts: &[u32], net: u32) -> Option<Name>
+    ensures { result ≡ name_in names.now firsts.now net }
+{
+    let first = *firsts.get(net as usize)?;
+    names.get(first as usize).copied()
+}
+
+/// Each net by itself.
+fn own_names(alloc: Global, depth: u32, count: u32) -> Result<Vec<Name>, NoMemory>
+    ensures { IfOk result (λ names. AreOwnNames depth count names.items) }
+{
+    let mut names = Vec::new(alloc);
+    for net in 0..count {
+        names.push(Name { depth, net })?;
+    }
+    Ok(names)
+}
+
+/// Gives the first net inside the name of the net outside that the joint joins with it.
+fn hand_one(
+    classes: &Classes,
+    cell: CellId,
+    joint: &Joint,
+    outside: &[Name],
+    firsts: &[u32],
+    names: &mut Vec<Name>,
+)
+    ensures { IsHandedOne (first_of classes.now cell joint.now) (name_in outside.now firsts.now joint.now.net) names.old.items names.new.items }
+{
+    let Some(first) = classes.first_at(cell, joint.port, joint.bit) else {
+        return;
+    };
+    let Some(name) = name_of(outside, firsts, joint.net) else {
+        return;
+    };
+    if (first as usize) < names.len() {
+        names[first as usize] = name;
+    }
+}
+
+/// The names of the nets of the top: each first net inside by itself.
+pub fn top_names<S: Shown>(alloc: Global, design: &S, top: CellId) -> Result<Vec<Name>, NoMemory>
+    ensures { IfOk result (λ names. AreOwnNames 0 (length (nets_at (S.design design.now) top)) names.items) }
+{
+    own_names(alloc, 0, net_count(design, top))
+}
+
+/// The names of the nets of an instance's cell at this depth, where these joints of the parent are on the instance, and these are the
+/// names of the parent's nets and the first nets inside the parent: each first net has the name of a net of the parent that joins an
+/// own bit that is connected with it, and where there is none, its own.
+pub fn names_below<S: Shown>(
+    alloc: Global,
+    design: &S,
+    classes: &Classes,
+    cell: CellId,
+    depth: u32,
+    joints: &[Joint],
+    outside: &[Name],
+    firsts: &[u32],
+) -> Result<Vec<Name>, NoMemory>
+    requires { All (λ j. IsSome (name_in outside.now firsts.now j.net)) joints.now }
+    ensures { IfOk result (λ names. AreHanded (first_of classes.now cell) (name_in outside.now firsts.now) depth joints.now (length (nets_at (S.design design.now) cell)) names.items) }
+{
+    let mut names = own_names(alloc, depth, net_count(design, cell))?;
+    hand_down(classes, cell, joints, outside, firsts, &mut names);
+    Ok(names)
+}
+
+/// Gives each first net inside the name of a net outside that one of the joints joins with it.
+fn hand_down(
+    classes: &Classes,
+    cell: CellId,
+    joints: &[Joint],
+    outside: &[Name],
+    firsts: &[u32],
+    names: &mut Vec<Name>,
+)
+    requires { All (λ j. IsSome (name_in outside.now firsts.now j.net)) joints.now }
+    ensures long { length names.new.items ≡ length names.old.items }
+    ensures handed { (depth : ℕ) (count : ℕ) → AreOwnNames depth count names.old.items
+        → AreHanded (first_of classes.now cell) (name_in outside.now firsts.now) depth joints.now count names.new.items }
+{
+    for joint in joints {
+        hand_one(classes, cell, joint, outside, firsts, names);
+    }
+}

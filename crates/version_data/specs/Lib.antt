@@ -1,0 +1,4 @@
+pub mod Inside
+pub mod Shot
+pub mod Shelves
+pub mod Changes
