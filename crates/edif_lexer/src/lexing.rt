@@ -8,8 +8,8 @@ ghost use Rattle.spelling_spec.specs.declared.token.Token.{Token};
 ghost use Rattle.edif_lexer.specs.declared.errors.LexError.{LexError};
 
 use crate::errors::LexError;
-use crate::strings::decode;
 use crate::words::{is_word_byte, word_kind};
+use edif_strings::decode;
 use spelling_spec::{LexKind, Token, TokenKind};
 use std::alloc::Global;
 use std::marker::Model;

@@ -3,7 +3,6 @@
 
 mod errors;
 mod lexing;
-mod strings;
 mod words;
 
 pub use errors::LexError;

@@ -1,0 +1,16 @@
+mod BadLines
+mod Fronts
+mod OneReport
+pub mod OneScript
+mod OneSession
+pub mod OneStep
+mod Parallel
+mod Places
+mod ReadAlike
+mod ReadLines
+mod Retried
+mod Settled
+pub mod Spelled
+pub mod Stays
+mod Unique
+pub mod Words

@@ -1,0 +1,13 @@
+pub mod Example
+pub mod ExampleLines
+pub mod ExampleParallel
+pub mod ExampleRetry
+pub mod Headline
+pub mod Laws
+pub mod Lines
+pub mod Objects
+pub mod Pieces
+pub mod Report
+pub mod ScriptText
+pub mod Session
+pub mod Texts
