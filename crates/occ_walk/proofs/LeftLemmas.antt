@@ -1,0 +1,188 @@
+-- What is left of a walk when it gives an item, enters an occurrence, leaves one, or begins.
+use Rattle.std.proofs.Common.{◌≡◌, ◌<◌, ◌+◌, ◌-◌, ℕ, zero, suc, List, [], ◌∷◌, ◌++◌, length, take, drop, refl, sym, ap, subst, ◌∙◌, arith, append_assoc, append-nil, true, false, Option, Some, None, slice_get}
+use Rattle.std.specs.List.{enumerate_from, flat_map}
+use Rattle.std.proofs.lemmas.List.{drop_more, length_push, same_from_push, take_at}
+use Rattle.std.proofs.lemmas.Option.{get_or_from_slice_get, none-some, same_Some, slice_get_within}
+use Rattle.netlist_schema.specs.Design.{Design}
+use Rattle.netlist_schema.specs.Hierarchy.{insts_at}
+use Rattle.netlist_schema.specs.Types.{CellId, Inst}
+use Rattle.netlist_schema.specs.Valid.{IsValid}
+use Rattle.flat_spec.specs.Below.{items_under}
+use Rattle.flat_spec.specs.Flattening.{flattening}
+use Rattle.flat_spec.specs.Paths.{Reaches}
+use Rattle.flat_spec.specs.Types.{Item}
+use Rattle.flat_spec.proofs.BelowLemmas.{flattening_is_under_top, items_go_down}
+use Rattle.occ_walk.specs.Below.{IsFrameAt, IsFrameBelow}
+use Rattle.occ_walk.specs.Left.{HasGiven, below_from, left, left_above}
+use Rattle.occ_walk.specs.Starts.{IsAtStart}
+use Rattle.walk_items.specs.Left.{IsNext, own_left}
+use Rattle.walk_items.specs.Moves.{HasEntered, HasLeft, going_on}
+use Rattle.walk_items.specs.Stand.{AreAbove, IsFrame, MayStand, Stand, here_of, top_of}
+use Rattle.walk_items.specs.declared.place.Frame.{Frame}
+use Rattle.walk_items.specs.declared.place.Stage.{Stage}
+use Rattle.walk_items.specs.declared.place.Stage.TheVariants.{Whole, Done}
+use Rattle.walk_items.proofs.FrameLemmas.{lowest_added, lowest_of, none_above}
+use Rattle.occ_walk.proofs.BelowLemmas.{next_is_small}
+
+drop_at : {A : Type 0} (xs : List A) (k : ℕ) (x : A) → slice_get xs k ≡ Some x → drop k xs ≡ x ∷ drop (k + 1) xs
+drop_at xs k x e = drop_more xs k x (slice_get_within xs k x e) ∙ ap (λ v. v ∷ drop (k + 1) xs) (get_or_from_slice_get xs k x x e)
+
+past_of_none : {A : Type 0} (xs : List A) (k : ℕ) → slice_get xs k ≡ None → drop k xs ≡ []
+past_of_none [] zero e = refl
+past_of_none [] (suc k) e = refl
+past_of_none (x ∷ xs) zero e = absurd (none-some x (sym e))
+past_of_none (x ∷ xs) (suc k) e = past_of_none xs k e
+
+-- an instance opens into what is at and below its occurrence, and the others
+below_opened : (d : Design) → IsValid d → (path : List ℕ) (c : CellId) (i : ℕ) (inst : Inst) → slice_get (insts_at d c) i ≡ Some inst
+    → below_from d path c i
+    ≡ (own_left d (record { path = path ++ i ∷ []; cell = inst.of }) Whole ++ below_from d (path ++ i ∷ []) inst.of 0) ++ below_from d path c (i + 1)
+below_opened d valid path c i inst there =
+    ap (λ (v : List Inst). flat_map (λ (p : ℕ × Inst). items_under d (top_of d) (path ++ p.0 ∷ []) p.1.of) (enumerate_from i v)) (drop_at (insts_at d c) i inst there)
+    ∙ ap (λ v. v ++ below_from d path c (i + 1)) (items_go_down d (top_of d) (path ++ i ∷ []) inst.of valid.no_cycle)
+
+below_ended : (d : Design) (path : List ℕ) (c : CellId) (i : ℕ) → slice_get (insts_at d c) i ≡ None → below_from d path c i ≡ []
+below_ended d path c i none =
+    ap (λ (v : List Inst). flat_map (λ (p : ℕ × Inst). items_under d (top_of d) (path ++ p.0 ∷ []) p.1.of) (enumerate_from i v)) (past_of_none (insts_at d c) i none)
+
+-- what is below the lowest frame comes first
+pub above_pushed : (d : Design) (start path : List ℕ) (step : ℕ) (others : List Frame) (f : Frame) → AreAbove d start path others
+    → left_above d start (path ++ step ∷ []) (others ++ f ∷ []) ≡ below_from d (start ++ path) f.cell f.next ++ left_above d start path others
+above_pushed d start [] step [] f h =
+    ap (λ p. below_from d p f.cell f.next) (sym (append-nil start)) ∙ sym (append-nil (below_from d (start ++ []) f.cell f.next))
+above_pushed d start [] step (g ∷ others) f h = absurd h
+above_pushed d start (i ∷ path) step [] f h = absurd h
+above_pushed d start (i ∷ path) step (g ∷ others) f h =
+    let rest = left_above d (start ++ i ∷ []) path others in
+    let last = below_from d start g.cell g.next in
+    ap (λ v. v ++ last) (above_pushed d (start ++ i ∷ []) path step others f h.1)
+    ∙ append_assoc (below_from d ((start ++ i ∷ []) ++ path) f.cell f.next) rest last
+    ∙ ap (λ p. below_from d p f.cell f.next ++ (rest ++ last)) (append_assoc start (i ∷ []) path)
+
+none_left_above : (d : Design) (start path : List ℕ) → left_above d start path [] ≡ []
+none_left_above d start [] = refl
+none_left_above d start (i ∷ path) = refl
+
+-- an item is given
+pub given_one : (d : Design) (old : Stand) (item : Item) (stage : Stage) → MayStand d old
+    → IsNext d (here_of old) (own_left d (here_of old) old.stage) (Some (record { item = item; stage = stage }))
+    → MayStand d (record { above = old.above; here = old.here; stage = stage; path = old.path })
+    × HasGiven d old (record { above = old.above; here = old.here; stage = stage; path = old.path }) (Some item)
+given_one d old item stage stands next = (
+  record { above = stands.above; here = stands.here; stage = next.1 },
+  ap (λ v. v ++ (below_from d old.path old.here.cell old.here.next ++ left_above d [] old.path old.above)) next.0,
+)
+
+-- an occurrence is entered
+four : {A : Type 0} (a b c e : List A) → ((a ++ b) ++ c) ++ e ≡ a ++ (b ++ (c ++ e))
+four a b c e = append_assoc (a ++ b) c e ∙ append_assoc a b (c ++ e)
+
+pub entered : (d : Design) → IsValid d → (old : Stand) (frame : Frame) (new : Stand) → MayStand d old → own_left d (here_of old) old.stage ≡ []
+    → IsFrameBelow d old.path old.here.cell old.here.next frame → HasEntered old old.here.next (old.here.next + 1) frame new → MayStand d new × (left d new ≡ left d old)
+entered d valid old frame new stands done below moved =
+    let i : ℕ = old.here.next in
+    let path : List ℕ = old.path ++ i ∷ [] in
+    let to : Stand = record { above = old.above ++ going_on old.here (i + 1) ∷ []; here = frame; stage = Whole; path = path } in
+    let same : new ≡ to = λ t. record { above = moved.above t; here = moved.here t; stage = moved.stage t; path = moved.path t } in
+    let up : IsFrame d old.path (going_on old.here (i + 1)) = record { reached = stands.here.reached; names = stands.here.names } in
+    let may : MayStand d to = record { above = lowest_added d [] old.path i old.above (going_on old.here (i + 1)) stands.above up; here = below.is; stage = tt } in
+    let own = own_left d (record { path = path; cell = below.inst.of }) Whole in
+    let inner = below_from d path below.inst.of 0 in
+    let others = below_from d old.path old.here.cell (i + 1) in
+    let above = left_above d [] old.path old.above in
+    let was : left d old ≡ own ++ (inner ++ (others ++ above)) =
+    ap (λ v. v ++ (below_from d old.path old.here.cell i ++ above)) done
+    ∙ ap (λ v. v ++ above) (below_opened d valid old.path old.here.cell i below.inst below.there)
+    ∙ four own inner others above in
+    let is : left d to ≡ own ++ (inner ++ (others ++ above)) =
+    ap (λ v. own_left d (record { path = path; cell = frame.cell }) Whole ++ (below_from d path frame.cell frame.next ++ v)) (above_pushed d [] old.path i old.above (going_on old.here (i + 1)) stands.above)
+    ∙ ap (λ (c : CellId). own_left d (record { path = path; cell = c }) Whole ++ (below_from d path c frame.next ++ (others ++ above))) below.cell_is
+    ∙ ap (λ n. own ++ (below_from d path below.inst.of n ++ (others ++ above))) below.fresh in
+    (subst (MayStand d) (sym same) may, ap (left d) same ∙ is ∙ sym was)
+
+-- an occurrence is left
+last_split : (i : ℕ) (xs : List ℕ) → (p : List ℕ) × (s : ℕ) × (i ∷ xs ≡ p ++ s ∷ [])
+last_split i [] = ([], i, refl)
+last_split i (x ∷ xs) = let more = last_split x xs in (i ∷ more.0, more.1, ap (λ v. i ∷ v) more.2)
+
+not_none : {A : Type 0} (xs : List A) (x : A) → xs ++ x ∷ [] ≡ [] → ⊥
+not_none [] x e = absurd (omega (arith, ap length e))
+not_none (y ∷ xs) x e = absurd (omega (arith, ap length e))
+
+path_split : (d : Design) (path : List ℕ) (above others : List Frame) (f : Frame) → above ≡ others ++ f ∷ [] → AreAbove d [] path above
+    → (p : List ℕ) × (s : ℕ) × (path ≡ p ++ s ∷ [])
+path_split d [] above others f is h = absurd (not_none others f (sym is ∙ none_above d [] above h))
+path_split d (i ∷ path) above others f is h = last_split i path
+
+pub gone_back : (d : Design) (old new : Stand) → MayStand d old → own_left d (here_of old) old.stage ≡ []
+    → slice_get (insts_at d old.here.cell) old.here.next ≡ None → HasLeft old new true
+    → MayStand d new × (left d new ≡ left d old) × (own_left d (here_of new) new.stage ≡ [])
+gone_back d old new stands done none moved =
+    let at = path_split d old.path old.above new.above new.here moved.0 stands.above in
+    let p : List ℕ = at.0 in
+    let low = lowest_of d [] p at.1 old.above (subst (λ v. AreAbove d [] v old.above) at.2 stands.above) in
+    let parts = same_from_push low.others new.above low.lowest new.here (sym low.is ∙ moved.0) in
+    let above : AreAbove d [] p new.above = subst (AreAbove d [] p) parts.0 low.rest in
+    let here : IsFrame d p new.here = subst (IsFrame d p) parts.1 low.frame in
+    let count : length p ≡ length (p ++ at.1 ∷ []) - 1 = omega (arith, length_push p at.1) in
+    let path : new.path ≡ p =
+    moved.2 ∙ ap (λ v. take (length v - 1) v) at.2 ∙ take_at p (at.1 ∷ []) (length (p ++ at.1 ∷ []) - 1) count in
+    let to : Stand = record { above = new.above; here = new.here; stage = Done; path = p } in
+    let same : new ≡ to = λ t. record { above = new.above; here = new.here; stage = moved.1 t; path = path t } in
+    let may : MayStand d to = record { above = above; here = here; stage = tt } in
+    let was : left d old ≡ left d to =
+    ap (λ v. v ++ (below_from d old.path old.here.cell old.here.next ++ left_above d [] old.path old.above)) done
+    ∙ ap (λ v. v ++ left_above d [] old.path old.above) (below_ended d old.path old.here.cell old.here.next none)
+    ∙ ap (λ q. left_above d [] q old.above) at.2
+    ∙ ap (left_above d [] (p ++ at.1 ∷ [])) moved.0
+    ∙ above_pushed d [] p at.1 new.above new.here above in (
+      subst (MayStand d) (sym same) may,
+      ap (left d) same ∙ sym was,
+      ap (λ (s : Stand). own_left d (here_of s) s.stage) same,
+    )
+
+-- nothing is left at the top
+pub at_end : (d : Design) (old : Stand) → MayStand d old → own_left d (here_of old) old.stage ≡ [] → slice_get (insts_at d old.here.cell) old.here.next ≡ None
+    → old.above ≡ [] → left d old ≡ []
+at_end d old stands done none top =
+    ap (λ v. v ++ (below_from d old.path old.here.cell old.here.next ++ left_above d [] old.path old.above)) done
+    ∙ ap (λ v. v ++ left_above d [] old.path old.above) (below_ended d old.path old.here.cell old.here.next none)
+    ∙ ap (left_above d [] old.path) top
+    ∙ none_left_above d [] old.path
+
+-- the same, where the frame of the next occurrence is looked up
+module _ (d : Design) (valid : IsValid d) (old : Stand) (stands : MayStand d old) (done : own_left d (here_of old) old.stage ≡ []) (path : List ℕ) (path_is : path ≡ old.path)
+    (o : Option Frame) (at : IsFrameAt d path old.here.cell old.here.next o) where
+  looked_up : (v : Option Frame) → o ≡ v → IsFrameAt d old.path old.here.cell old.here.next v
+  looked_up v is = subst (λ p. IsFrameAt d p old.here.cell old.here.next v) path_is (subst (λ (w : Option Frame). IsFrameAt d path old.here.cell old.here.next w) is at)
+
+  pub next_fits : (frame : Frame) → o ≡ Some frame → old.here.next < 1048576
+  next_fits frame is = let below = looked_up (Some frame) is in next_is_small d valid old.here.cell old.here.next below.inst below.there
+
+  pub entered_at : (frame : Frame) → o ≡ Some frame → (new : Stand) → HasEntered old old.here.next (old.here.next + 1) frame new → MayStand d new × (left d new ≡ left d old)
+  entered_at frame is new moved = entered d valid old frame new stands done (looked_up (Some frame) is) moved
+
+  pub ended_at : o ≡ None → (new : Stand) → HasLeft old new false → left d new ≡ []
+  ended_at is new moved = ap (left d) moved.1 ∙ at_end d old stands done (looked_up None is) moved.0
+
+  pub back_at : o ≡ None → (new : Stand) → HasLeft old new true → MayStand d new × (left d new ≡ left d old) × (own_left d (here_of new) new.stage ≡ [])
+  back_at is new moved = gone_back d old new stands done (looked_up None is) moved
+
+-- before the first item of an occurrence all is left that is at and below it
+pub start_left : (d : Design) → IsValid d → (path : List ℕ) (s : Stand) → IsAtStart d path s → left d s ≡ items_under d (top_of d) path s.here.cell
+start_left d valid path s is =
+    let below = below_from d s.path s.here.cell s.here.next ++ left_above d [] s.path s.above in
+    ap (λ v. own_left d (here_of s) v ++ below) is.stage_is
+    ∙ ap (λ v. own_left d (here_of s) Whole ++ (below_from d s.path s.here.cell s.here.next ++ v)) is.above_is
+    ∙ ap (λ n. own_left d (here_of s) Whole ++ (below_from d s.path s.here.cell n ++ [])) is.fresh
+    ∙ ap (λ v. own_left d (here_of s) Whole ++ v) (append-nil (below_from d s.path s.here.cell 0))
+    ∙ sym (items_go_down d (top_of d) s.path s.here.cell valid.no_cycle)
+    ∙ ap (λ p. items_under d (top_of d) p s.here.cell) is.path_is
+
+pub all_left : (d : Design) → IsValid d → d.top ≡ Some (top_of d) → (s : Stand) → IsAtStart d [] s → left d s ≡ flattening d
+all_left d valid top s is =
+    let reached : Reaches d (top_of d).cell [] s.here.cell = subst (λ p. Reaches d (top_of d).cell p s.here.cell) is.path_is is.stands.here.reached in
+    let same : (top_of d).cell ≡ s.here.cell = same_Some (top_of d).cell s.here.cell reached in
+    start_left d valid [] s is
+    ∙ ap (items_under d (top_of d) []) (sym same)
+    ∙ sym (flattening_is_under_top d (top_of d) top)

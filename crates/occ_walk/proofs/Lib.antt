@@ -1,0 +1,4 @@
+mod AtLemmas
+mod BelowLemmas
+mod LeftLemmas
+mod StartLemmas

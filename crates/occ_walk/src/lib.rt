@@ -1,0 +1,9 @@
+//! The lazy walk over the occurrences of a design: one item at a time, with the names of nets handed down a stack.
+#![tactic(auto)]
+
+mod frames;
+mod start;
+mod steps;
+pub mod walk;
+
+pub use walk::{Walk, WalkError};

@@ -1,0 +1,7 @@
+pub mod EnterLemmas
+pub mod FrameLemmas
+pub mod GroundLemmas
+pub mod NetLemmas
+pub mod PinLemmas
+pub mod PortLemmas
+pub mod StageLemmas

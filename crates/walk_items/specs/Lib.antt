@@ -1,0 +1,4 @@
+pub mod Left
+pub mod Moves
+pub mod Ports
+pub mod Stand
