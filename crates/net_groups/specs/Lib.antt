@@ -1,0 +1,6 @@
+pub mod Bits
+pub mod Ends
+pub mod Grouped
+pub mod Heads
+pub mod Links
+pub mod Lists

@@ -1,0 +1,4 @@
+pub mod CrossingLemmas
+pub mod NoteReads
+pub mod OpLemmas
+pub mod SoundLemmas

@@ -1,0 +1,45 @@
+use Rattle.std.proofs.Common.{◌≡◌, Option, ◌+◌, sym, ap, subst, ◌∙◌, ℕ, List, length, length-take, take, drop, arith}
+use Rattle.std.specs.Option.{option_copied}
+use Rattle.edit_core.specs.Reading.{IsReached}
+use Rattle.cells_model.specs.State.{HasRead}
+use Rattle.eco_reads.proofs.Going.{HasGone, gone_more, gone_no_further, one_further, split_here}
+use Rattle.ungroup_op.specs.Crossing.{crossing, first_place, is_inst}
+use Rattle.ungroup_op.proofs.CrossingLemmas.{crossing_more, crossing_stop, place_here}
+use Rattle.ungroup_op.proofs.notes.crossing.Goals as goal
+
+pub returns-in_default-clause-reads : goal.returns-in_default-clause-reads
+returns-in_default-clause-reads g c =
+    let items = c.as_slice-step-items.result.now in
+    let k = c.loop-place.place in
+    let step = c.step-item.result in
+    let stop = gone_no_further (g.C.Cells.state c.args.cells.now) (g.C.Cells.state c.loop-place.cells) (g.C.Cells.state c.contents-in-loop-place.follows.lender-at-none) c.args.top c.loop-place.at (take k items) (drop (k + 1) items) step (option_copied c.in_ok-contents.field-0) c.loop-place.invariant.gone (rw c.in_ok-contents.was at c.contents-in-loop-place.follows.holds-at-none) c.in_ok-contents.ensures.found c.in_default.ensures in
+    subst (λ (path : List (List ℕ)). HasRead (g.C.Cells.state c.args.cells.now) (g.C.Cells.state c.contents-in-loop-place.follows.lender-at-none) (IsReached (g.C.Cells.state c.args.cells.now).design c.args.top path)) (split_here items k step c.loop-place-test.true c.step-item.is ∙ c.as_slice-step-items.ensures) stop.0
+
+pub returns-in_default-clause-found : goal.returns-in_default-clause-found
+returns-in_default-clause-found g c =
+    let items = c.as_slice-step-items.result.now in
+    let k = c.loop-place.place in
+    let step = c.step-item.result in
+    let d = (g.C.Cells.state c.args.cells.now).design in
+    let stop = gone_no_further (g.C.Cells.state c.args.cells.now) (g.C.Cells.state c.loop-place.cells) (g.C.Cells.state c.contents-in-loop-place.follows.lender-at-none) c.args.top c.loop-place.at (take k items) (drop (k + 1) items) step (option_copied c.in_ok-contents.field-0) c.loop-place.invariant.gone (rw c.in_ok-contents.was at c.contents-in-loop-place.follows.holds-at-none) c.in_ok-contents.ensures.found c.in_default.ensures in
+    place_here c.first_place-found.result c.loop-place.found (crossing d c.args.cell c.args.inst.now c.args.top (take k items)) c.is_inst.result (is_inst c.args.cell c.args.inst.now c.loop-place.at step) k items c.loop-place-test.true
+    c.first_place-found.ensures c.loop-place.invariant.found c.is_inst.ensures
+    ∙ sym (crossing_stop d c.args.cell c.args.inst.now c.args.top c.loop-place.at (take k items) (drop (k + 1) items) step c.loop-place.invariant.gone.end stop.1)
+    ∙ ap (crossing d c.args.cell c.args.inst.now c.args.top) (split_here items k step c.loop-place-test.true c.step-item.is ∙ c.as_slice-step-items.ensures)
+
+pub loop-place-preserved : goal.loop-place-preserved
+loop-place-preserved g c =
+    let items = c.as_slice-step-items.result.now in
+    let k = c.loop-place.place in
+    let step = c.step-item.result in
+    let d = (g.C.Cells.state c.args.cells.now).design in
+    let further = one_further items k step c.loop-place-test.true c.step-item.is in
+    record {
+      gone = subst (λ (path : List (List ℕ)). HasGone (g.C.Cells.state c.args.cells.now) (g.C.Cells.state c.contents-in-loop-place-2.follows.lender-at-none) c.args.top c.in-Some.of path) (sym further)
+          (gone_more (g.C.Cells.state c.args.cells.now) (g.C.Cells.state c.loop-place.cells) (g.C.Cells.state c.contents-in-loop-place.follows.lender-at-none) (g.C.Cells.state c.contents-in-loop-place-2.follows.lender-at-none) c.args.top c.loop-place.at c.in-Some.of (take k items) step (option_copied c.in_ok-contents.field-0) c.loop-place.invariant.gone (rw c.in_ok-contents.was at c.contents-in-loop-place.follows.holds-at-none) c.in_ok-contents.ensures.found c.in-Some.ensures (rw c.in_ok-_next.was at c.contents-in-loop-place-2.follows.holds-at-none));
+      found =
+          place_here c.first_place-found.result c.loop-place.found (crossing d c.args.cell c.args.inst.now c.args.top (take k items)) c.is_inst.result (is_inst c.args.cell c.args.inst.now c.loop-place.at step) k items c.loop-place-test.true
+          c.first_place-found.ensures c.loop-place.invariant.found c.is_inst.ensures
+          ∙ sym (crossing_more d c.args.cell c.args.inst.now c.args.top c.loop-place.at (take k items) step c.loop-place.invariant.gone.end)
+          ∙ ap (crossing d c.args.cell c.args.inst.now c.args.top) (sym further);
+    }

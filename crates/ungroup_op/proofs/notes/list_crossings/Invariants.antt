@@ -1,0 +1,12 @@
+use Rattle.std.proofs.Common.{◌≡◌, take}
+use Rattle.edit_core.specs.Reading.{IsReachedBy}
+use Rattle.cells_model.specs.State.{HasRead}
+use Rattle.ungroup_op.specs.Crossing.{crossings}
+use Rattle.ungroup_op.proofs.notes.list_crossings.Given as goal
+
+-- the places for the notes so far, and what their paths reach
+abbrev pub invariant-loop-note : goal.invariant-loop-note
+invariant-loop-note g l = record {
+  places : l.places.items ≡ crossings (g.C.Cells.state l.fn.cells).design l.cell l.inst l.top (take l.note-index l.note-items);
+  read : HasRead (g.C.Cells.state l.fn.cells) (g.C.Cells.state l.cells) (IsReachedBy (g.C.Cells.state l.fn.cells).design l.top (take l.note-index l.note-items));
+}

@@ -1,0 +1,150 @@
+//! The notes, and where their paths go through an instance.
+ghost use Rattle.std.specs.Prelude.{◌≡◌, ◌++◌, [], ◌∷◌, IfOk, MatchResult, None, OnOk, Some, map, option_map};
+ghost use Rattle.std.specs.Option.{option_copied};
+ghost use Rattle.netlist_schema.specs.Design.{insts_in};
+ghost use Rattle.netlist_schema.specs.declared.ids.Object.TheVariants.{Notes};
+ghost use Rattle.edit_core.specs.Find.{inst_named};
+ghost use Rattle.edit_core.specs.Reading.{IsForNotes, IsReached, IsReachedBy};
+ghost use Rattle.cells_model.specs.State.{HasRead, HasReadSome};
+ghost use Rattle.ungroup_op.specs.Crossing.{crossing, crossings, first_place, is_inst};
+ghost use Rattle.ungroup_op.specs.Read.{AreRead};
+
+use cells_model::Cells;
+use eco_reads::find::inst_place;
+use netlist_schema::{CellId, Contents, Copied, Ident, NoMemory, Note, Row};
+use std::alloc::Global;
+
+/// Notes, and for each the place of the step of its path that is an instance, if there is one.
+#[derive(Debug, Drop)]
+pub struct ReadNotes {
+    pub notes: Row<Note>,
+    pub places: Vec<Option<usize>>,
+}
+
+/// The cell of the instance with this name.
+pub fn cell_of_inst(contents: Option<&Contents>, name: &Ident) -> Option<CellId>
+    ensures { result ≡ option_map (λ inst. inst.of) (inst_named name.now (insts_in (option_copied contents.entry))) }
+{
+    let contents = contents?;
+    let place = inst_place(&contents.insts, name)?;
+    Some(contents.insts.as_slice()[place].of)
+}
+
+/// Whether a step is the instance of a cell.
+fn is_inst(cell: CellId, inst: &Ident, at: CellId, step: &Ident) -> bool
+    ensures { result ≡ is_inst cell inst.now at step.now }
+{
+    at.lib.0 == cell.lib.0 && at.slot == cell.slot && *step == *inst
+}
+
+/// The place that was found before, or else this one, where the step there is the instance.
+fn first_place(found: Option<usize>, is_here: bool, place: usize) -> Option<usize>
+    ensures { result ≡ first_place found is_here place }
+{
+    match found {
+        Some(before) => Some(before),
+        None => { if is_here { Some(place) } else { None } }
+    }
+}
+
+/// Reads what is inside the cells that a path reaches, and answers the place of the first step that is the instance of a cell.
+fn crossing<C: Cells>(
+    cells: &mut C,
+    cell: CellId,
+    inst: &Ident,
+    top: CellId,
+    path: &Row<Ident>,
+) -> Result<Option<usize>, NoMemory>
+    ensures found { IfOk result (λ found. found ≡ crossing (C.state cells.old).design cell inst.now top path.now) }
+    ensures reads { MatchResult result (λ _. HasRead (C.state cells.old) (C.state cells.new) (IsReached (C.state cells.old).design top path.now)) (λ _. HasReadSome (C.state cells.old) (C.state cells.new)) }
+{
+    let mut at = top;
+    let mut found = None;
+    let _top = cells.contents(top)?;
+    for (place, step) in path.as_slice().iter().enumerate() {
+        found = first_place(found, is_inst(cell, inst, at, step), place);
+        let Some(of) = cell_of_inst(cells.contents(at)?, step) else {
+            return Ok(found);
+        };
+        let _next = cells.contents(of)?;
+        at = of;
+    }
+    Ok(found)
+}
+
+/// Adds the place for a note.
+fn add_crossing<C: Cells>(
+    cells: &mut C,
+    cell: CellId,
+    inst: &Ident,
+    top: CellId,
+    note: &Note,
+    places: &mut Vec<Option<usize>>,
+) -> Result<(), NoMemory>
+    ensures places { OnOk result (places.new.items ≡ places.old.items ++ crossings (C.state cells.old).design cell inst.now top (note.now ∷ [])) }
+    ensures reads { MatchResult result (λ _. HasRead (C.state cells.old) (C.state cells.new) (IsReached (C.state cells.old).design top note.now.path)) (λ _. HasReadSome (C.state cells.old) (C.state cells.new)) }
+{
+    let found = crossing(cells, cell, inst, top, &note.path)?;
+    places.push(found)?;
+    Ok(())
+}
+
+/// Reads what is inside the cells that the paths of notes reach, and answers the place for each.
+fn list_crossings<C: Cells>(
+    alloc: Global,
+    cells: &mut C,
+    cell: CellId,
+    inst: &Ident,
+    top: CellId,
+    notes: &Row<Note>,
+) -> Result<Vec<Option<usize>>, NoMemory>
+    ensures places { IfOk result (λ places. places.items ≡ crossings (C.state cells.old).design cell inst.now top notes.now) }
+    ensures reads { MatchResult result (λ _. HasRead (C.state cells.old) (C.state cells.new) (IsReachedBy (C.state cells.old).design top notes.now)) (λ _. HasReadSome (C.state cells.old) (C.state cells.new)) }
+{
+    let mut places = Vec::new(alloc);
+    for note in notes.as_slice() {
+        let Ok(()) = add_crossing(cells, cell, inst, top, note, &mut places) else {
+            return Err(NoMemory);
+        };
+    }
+    Ok(places)
+}
+
+/// So many notes without a place.
+fn no_places(alloc: Global, notes: &Row<Note>) -> Result<Vec<Option<usize>>, NoMemory>
+    ensures { IfOk result (λ places. places.items ≡ map (λ _. None) notes.now) }
+{
+    let mut places = Vec::new(alloc);
+    for _note in notes.as_slice() {
+        places.push(None)?;
+    }
+    Ok(places)
+}
+
+/// A copy of the notes.
+fn copy_notes<C: Cells>(alloc: Global, cells: &mut C) -> Result<Row<Note>, NoMemory>
+    ensures value { IfOk result (λ notes. notes ≡ (C.state cells.old).design.notes) }
+    ensures reads { MatchResult result (λ _. HasRead (C.state cells.old) (C.state cells.new) (λ o. o ≡ Notes)) (λ _. HasReadSome (C.state cells.old) (C.state cells.new)) }
+{
+    cells.notes()?.copy(alloc)
+}
+
+/// Reads the notes, and what is inside the cells that their paths reach.
+pub fn read_notes<C: Cells>(
+    alloc: Global,
+    cells: &mut C,
+    cell: CellId,
+    inst: &Ident,
+) -> Result<ReadNotes, NoMemory>
+    ensures notes { IfOk result (AreRead (C.state cells.old).design cell inst.now) }
+    ensures reads { MatchResult result (λ _. HasRead (C.state cells.old) (C.state cells.new) (IsForNotes (C.state cells.old).design (Some cell) (C.state cells.old).design.top)) (λ _. HasReadSome (C.state cells.old) (C.state cells.new)) }
+{
+    let found = cells.top_cell();
+    let notes = copy_notes(alloc, cells)?;
+    let Some(top) = found else {
+        let places = no_places(alloc, &notes)?;
+        return Ok(ReadNotes { notes, places });
+    };
+    let places = list_crossings(alloc, cells, cell, inst, top, &notes)?;
+    Ok(ReadNotes { notes, places })
+}

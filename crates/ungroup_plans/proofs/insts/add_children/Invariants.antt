@@ -1,0 +1,10 @@
+use Rattle.std.proofs.Common.{◌<◌, ◌+◌, ◌^◌, ℕ, List, length}
+use Rattle.free_names.specs.Taken.{IsOf}
+use Rattle.ungroup_spec.specs.Dissolved.{inst_name, with_inst_name}
+use Rattle.ungroup_plans.proofs.Named.{AreNamedSoFar}
+use Rattle.ungroup_plans.proofs.insts.add_children.Given as goal
+
+abbrev pub invariant-loop-child : goal.invariant-loop-child
+invariant-loop-child l =
+    (names : List (List ℕ)) → IsOf l.initial.taken names → length names + length l.children < 2 ^ 62
+    → AreNamedSoFar inst_name with_inst_name l.inst l.taken names l.children l.child-index l.initial.made.items l.made.items

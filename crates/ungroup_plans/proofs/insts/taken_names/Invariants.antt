@@ -1,0 +1,6 @@
+use Rattle.std.proofs.Common.{map, take}
+use Rattle.free_names.specs.Taken.{IsOf}
+use Rattle.ungroup_plans.proofs.insts.taken_names.Given as goal
+
+abbrev pub invariant-loop-inst : goal.invariant-loop-inst
+invariant-loop-inst l = IsOf l.taken (map (λ inst. inst.name.id) (take l.inst-index l.insts))

@@ -1,0 +1,6 @@
+use Rattle.std.proofs.Common.{map, take}
+use Rattle.free_names.specs.Taken.{IsOf}
+use Rattle.ungroup_plans.proofs.nets.taken_names.Given as goal
+
+abbrev pub invariant-loop-net : goal.invariant-loop-net
+invariant-loop-net l = IsOf l.taken (map (λ net. net.name.id) (take l.net-index l.nets))

@@ -1,0 +1,81 @@
+//! The instances afterwards.
+ghost use Rattle.std.specs.Prelude.{◌≡◌, ◌<◌, ◌≤◌, ◌+◌, ◌++◌, ◌^◌, List, ℕ, IfOk, OnOk, Some, drop, length, map, slice_get, take};
+ghost use Rattle.free_names.specs.Taken.{IsOf};
+ghost use Rattle.netlist_schema.specs.Types.{Inst as InstType};
+ghost use Rattle.net_groups.specs.Heads.{site};
+ghost use Rattle.ungroup_spec.specs.Dissolved.{insts_after, inst_name, with_inst_name};
+ghost use Rattle.ungroup_spec.specs.Names.{named_up};
+
+use free_names::Taken;
+use netlist_schema::{Contents, Copied, Inst, Name, NoMemory, Row};
+use std::alloc::Global;
+
+/// The names of instances, taken.
+fn taken_names(alloc: Global, insts: &[Inst]) -> Result<Taken, NoMemory>
+    ensures { IfOk result (λ taken. IsOf taken (map (λ inst. inst.name.id) insts.now)) }
+{
+    let mut taken = Taken::new(alloc);
+    for inst in insts {
+        taken.take(&inst.name.id)?;
+    }
+    Ok(taken)
+}
+
+/// Adds equal instances.
+fn add_copies(alloc: Global, insts: &[Inst], made: &mut Vec<Inst>) -> Result<(), NoMemory>
+    ensures { OnOk result (made.new.items ≡ made.old.items ++ insts.now) }
+{
+    for inst in insts {
+        made.push(inst.copy(alloc)?)?;
+    }
+    Ok(())
+}
+
+/// Adds the instances under the names that they get where they move up out of an instance with this name.
+fn add_children(
+    alloc: Global,
+    taken: &mut Taken,
+    inst: &Name,
+    children: &[Inst],
+    made: &mut Vec<Inst>,
+) -> Result<(), NoMemory>
+    ensures { OnOk result ((names : List (List ℕ)) → IsOf taken.old names → length names + length children.now < 2 ^ 62
+        → made.new.items ≡ made.old.items ++ named_up inst_name with_inst_name names inst.now children.now) }
+{
+    for child in children {
+        let name = taken.name_up(inst, &child.name)?;
+        made.push(Inst {
+            name,
+            of: child.of,
+            designator: child.designator.copy(alloc)?,
+            properties: child.properties.copy(alloc)?,
+        })?;
+    }
+    Ok(())
+}
+
+/// The instances afterwards: the children stand in the place of the instance, under their new names.
+pub fn insts_after(
+    alloc: Global,
+    around: &Contents,
+    place: u32,
+    within: &Contents,
+) -> Result<Row<Inst>, NoMemory>
+    requires around { length around.now.insts ≤ 1048576 }
+    requires within { length within.now.insts ≤ 1048576 }
+    requires place { place < length around.now.insts }
+    ensures { IfOk result (λ made. (inst : InstType) → slice_get around.now.insts place ≡ Some inst → made ≡ insts_after (site around.now place inst within.now)) }
+{
+    let insts = around.insts.as_slice();
+    let place = place as usize;
+    let mut taken = taken_names(alloc, insts)?;
+    let front = &insts[..place];
+    let name = &insts[place].name;
+    let behind = &insts[place + 1..];
+    let children = within.insts.as_slice();
+    let mut made = Vec::new(alloc);
+    add_copies(alloc, front, &mut made)?;
+    add_children(alloc, &mut taken, name, children, &mut made)?;
+    add_copies(alloc, behind, &mut made)?;
+    Ok(Row::of(made))
+}

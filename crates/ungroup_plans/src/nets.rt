@@ -1,0 +1,63 @@
+//! The nets afterwards.
+ghost use Rattle.std.specs.Prelude.{◌≡◌, ◌<◌, ◌≤◌, ◌+◌, ◌++◌, ◌^◌, List, ℕ, IfOk, OnOk, length, map};
+ghost use Rattle.free_names.specs.Taken.{IsOf};
+ghost use Rattle.net_groups.specs.Grouped.{AreGrouped};
+ghost use Rattle.ungroup_spec.specs.Dissolved.{net_name, nets_after, with_net_name};
+ghost use Rattle.ungroup_spec.specs.Groups.{Site};
+ghost use Rattle.ungroup_spec.specs.Names.{named_up};
+
+use free_names::Taken;
+use net_groups::Grouped;
+use netlist_schema::{Copied, Name, Net, NoMemory, Row};
+use std::alloc::Global;
+
+/// The names of nets, taken.
+fn taken_names(alloc: Global, nets: &[Net]) -> Result<Taken, NoMemory>
+    ensures { IfOk result (λ taken. IsOf taken (map (λ net. net.name.id) nets.now)) }
+{
+    let mut taken = Taken::new(alloc);
+    for net in nets {
+        taken.take(&net.name.id)?;
+    }
+    Ok(taken)
+}
+
+/// Adds the nets under the names that they get where they move up out of an instance with this name.
+fn add_new(
+    alloc: Global,
+    taken: &mut Taken,
+    inst: &Name,
+    nets: &[Net],
+    made: &mut Vec<Net>,
+) -> Result<(), NoMemory>
+    ensures { OnOk result ((names : List (List ℕ)) → IsOf taken.old names → length names + length nets.now < 2 ^ 62
+        → made.new.items ≡ made.old.items ++ named_up net_name with_net_name names inst.now nets.now) }
+{
+    for net in nets {
+        let name = taken.name_up(inst, &net.name)?;
+        made.push(Net {
+            name,
+            ends: net.ends.copy(alloc)?,
+            properties: net.properties.copy(alloc)?,
+        })?;
+    }
+    Ok(())
+}
+
+/// The nets afterwards: those that stay, and then the new ones under their new names.
+pub fn nets_after(
+    alloc: Global,
+    around: &[Net],
+    inst: &Name,
+    grouped: Grouped,
+) -> Result<Row<Net>, NoMemory>
+    requires around { length around.now ≤ 1048576 }
+    requires loose { length grouped.loose ≤ 1048576 }
+    ensures { IfOk result (λ made. (s : Site) → s.around.nets ≡ around.now → s.inst.name ≡ inst.now → AreGrouped s grouped → made ≡ nets_after s) }
+{
+    let Grouped { kept, loose } = grouped;
+    let mut taken = taken_names(alloc, around)?;
+    let mut made = kept.into_vec();
+    add_new(alloc, &mut taken, inst, loose.as_slice(), &mut made)?;
+    Ok(Row::of(made))
+}

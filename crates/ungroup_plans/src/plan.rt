@@ -1,0 +1,56 @@
+//! What is planned for an instance that is dissolved.
+ghost use Rattle.std.specs.Prelude.{◌≡◌, IfOk, IfSome, length};
+ghost use Rattle.std.specs.Option.{option_copied};
+ghost use Rattle.net_groups.specs.Heads.{AreSound};
+ghost use Rattle.ungroup_plans.specs.Planned.{IsPlanned};
+
+use crate::contents::dissolved;
+use crate::notes::moved_notes;
+use eco_reads::find::inst_place;
+use edit_spec::Reply;
+use netlist_schema::{Contents, Ident, NoMemory, Note, Row};
+use std::alloc::Global;
+
+/// Contents and notes after an instance is dissolved.
+#[derive(Debug, Drop)]
+pub struct Ungrouped {
+    pub contents: Contents,
+    /// Given where the path of a note goes through the instance.
+    pub notes: Option<Row<Note>>,
+}
+
+/// The contents and the notes after the instance with a name is dissolved, or the first refusal. For each note stands the place of
+/// the step of its path that is the instance, if there is one.
+///
+/// It takes time in proportion to both contents, times a logarithm of the number of names, and where a note moves, to the notes.
+pub fn plan_ungroup(
+    alloc: Global,
+    around: Option<&Contents>,
+    inst: &Ident,
+    within: &Option<Contents>,
+    notes: &[Note],
+    places: &[Option<usize>],
+) -> Result<Result<Ungrouped, Reply>, NoMemory>
+    requires around { IfSome around (λ contents. AreSound contents.now) }
+    requires within { IfSome within.now AreSound }
+    requires long { length places.now ≡ length notes.now }
+    ensures { IfOk result (IsPlanned (option_copied around.entry) inst.now within.now notes.now places.now) }
+{
+    let Some(around) = around else {
+        return Ok(Err(Reply::NoInst));
+    };
+    let Some(place) = inst_place(&around.insts, inst) else {
+        return Ok(Err(Reply::NoInst));
+    };
+    let Some(within) = within else {
+        return Ok(Err(Reply::IsLeaf));
+    };
+    let contents = match dissolved(alloc, around, place as u32, within)? {
+        Ok(contents) => contents,
+        Err(refusal) => return Ok(Err(refusal)),
+    };
+    let inner = within.insts.as_slice();
+    let children = &contents.insts.as_slice()[place..place + inner.len()];
+    let notes = moved_notes(alloc, notes, places, inner, children)?;
+    Ok(Ok(Ungrouped { contents, notes }))
+}
