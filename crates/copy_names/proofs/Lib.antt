@@ -1,0 +1,5 @@
+pub mod Endings
+pub mod Stems
+pub mod Names
+pub mod SomeReads
+pub mod Naming
