@@ -1,0 +1,2 @@
+pub mod Txs
+pub mod Merging

@@ -1,0 +1,10 @@
+pub mod Layers
+pub mod Works
+pub mod Fresh
+pub mod Suiting
+pub mod Putting
+pub mod Drafting
+pub mod Making
+pub mod Copying
+pub mod Applying
+pub mod Placing
