@@ -1,0 +1,6 @@
+pub mod Own
+pub mod Held
+pub mod Turns
+pub mod Answered
+pub mod Opened
+pub mod Keeping
