@@ -1,0 +1,3 @@
+mod Joined
+mod Pins
+pub mod Texts

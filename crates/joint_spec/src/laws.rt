@@ -1,0 +1,13 @@
+//! What holds of the definitions. A law is what a function without parameters ensures; there is nothing to run.
+
+ghost use Rattle.joint_spec.specs.Laws.{EndedIsPrinted};
+
+use session_spec::laws::{session_stays, transcript_stays};
+
+/// Scripts that ended at different times of one legal history have one report.
+pub fn ended_is_printed()
+    ensures { EndedIsPrinted }
+{
+    session_stays();
+    transcript_stays();
+}

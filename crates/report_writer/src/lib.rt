@@ -1,0 +1,8 @@
+//! The report of a run of scripts, on its way to a sink.
+#![tactic(auto)]
+
+mod lines;
+pub mod report;
+
+pub use netdb_outside::WriteError;
+pub use report::write_report;

@@ -1,0 +1,5 @@
+pub mod Along
+pub mod Calls
+pub mod Laws
+pub mod Lines
+pub mod Whole
