@@ -1,9 +1,9 @@
 //! The effective properties of an occurrence.
-ghost use Rattle.std.specs.Prelude.{◌≡◌, ◌++◌, [], IfOk, None, filter, map, not};
+ghost use Rattle.std.specs.Prelude.{◌≡◌, ◌++◌, [], IfOk, None, filter, map, nat_eq, not};
 ghost use Rattle.std.specs.Cmp.Lexicographic.{pointwise};
 ghost use Rattle.std.specs.List.{last_or, list_any};
 ghost use Rattle.std.specs.Option.{option_map_or};
-ghost use Rattle.flat_spec.specs.Effective.{effective as properties_at, insts_along, merged, notes_for, replaced, same_key, same_name};
+ghost use Rattle.flat_spec.specs.Effective.{effective as properties_at, insts_along, merged, notes_for, replaced, same_key};
 ghost use Rattle.annot_view.specs.Lent.{lent, lent_names};
 
 use cell_lookup::inst_at;
@@ -64,7 +64,7 @@ fn base_properties<'a>(top: &'a TopHead, insts: &[&'a Inst]) -> &'a [Property]
 
 /// Whether the identifiers are those of the instances, one by one.
 fn are_names_of(names: &[Ident], insts: &[&Inst]) -> bool
-    ensures { result ≡ pointwise same_name names.now (lent_names insts.now) }
+    ensures { result ≡ pointwise (pointwise nat_eq) names.now (lent_names insts.now) }
 {
     names.len() == insts.len()
         && names

@@ -6,7 +6,7 @@ ghost use Rattle.netlist_schema.specs.Design.{insts_in, nets_in};
 ghost use Rattle.netlist_schema.specs.Names.{AreDistinct};
 ghost use Rattle.netlist_schema.specs.Types.{Port};
 ghost use Rattle.edit_spec.specs.Cut.{is_end, net_without_end, not_joined, without_end};
-ghost use Rattle.edit_spec.specs.Ends.{bad_bit, end_inst, end_named, has_end, no_end_inst, no_port, same_end};
+ghost use Rattle.edit_spec.specs.Ends.{bad_bit, end_inst, end_named, joins_end, no_end_inst, no_port};
 ghost use Rattle.edit_spec.specs.Join.{net_with_end, no_join, with_end};
 ghost use Rattle.edit_core.specs.Edit.{changed_at};
 ghost use Rattle.edit_core.specs.Find.{inst_place};

@@ -1,9 +1,8 @@
 -- Removing an end from its net.
-use Rattle.std.proofs.Common.{◌≡◌, ◌≢◌, ◌<◌, arith, ℕ, Bool, true, false, not, ◌||◌, ◌&&◌, ◌==◌, List, [], ◌∷◌, ◌++◌, length, map, get_or, slice_set, Option, Some, None, refl, sym, ap, subst, ◌∙◌}
+use Rattle.std.proofs.Common.{◌≡◌, ◌≢◌, ◌<◌, arith, ℕ, Bool, true, false, not, ◌||◌, List, [], ◌∷◌, ◌++◌, length, map, get_or, slice_set, Option, Some, None, refl, sym, ap, subst, ◌∙◌}
 use Rattle.std.specs.Prelude.{Ok, Result, cond, filter, is_none, position}
 use Rattle.std.specs.Option.{option_or}
 use Rattle.std.specs.List.{AllByRecursion, flat_map, list_any, position_from}
-use Rattle.std.proofs.lemmas.Bool.{eq-eqb, eqb-true}
 use Rattle.netlist_schema.specs.Names.{AreDistinct}
 use Rattle.netlist_schema.specs.Types.{Contents, End, Net, Port}
 use Rattle.edit_core.specs.Rule.{first, refuse}
@@ -12,7 +11,9 @@ use Rattle.edit_core.specs.declared.reply.Reply.{Reply}
 use Rattle.edit_core.specs.declared.reply.Reply.TheVariants.{NoInst, NotJoined}
 use Rattle.edit_core.proofs.Lists.{Apart, apart_of, each_left, each_right}
 use Rattle.edit_spec.specs.Cut.{is_end, net_without_end, not_joined, without_end}
-use Rattle.edit_spec.specs.Ends.{bad_bit, end_named, has_end, no_end_inst, no_port, same_end, same_place}
+use Rattle.flat_spec.specs.ConnectionTest.{same_end}
+use Rattle.flat_spec.proofs.TestLemmas.{same_end-true, same_end-refl}
+use Rattle.edit_spec.specs.Ends.{bad_bit, end_named, joins_end, no_end_inst, no_port}
 use Rattle.cells_model.proofs.Places.{first_is_position}
 use Rattle.eco_reads.specs.Plan.{IsPlanned}
 use Rattle.eco_reads.specs.declared.plan.Plan.{Plan}
@@ -20,37 +21,6 @@ use Rattle.eco_reads.specs.declared.plan.Plan.TheVariants.{Net as PlannedNet}
 use Rattle.eco_reads.proofs.Places.{put_within}
 use Rattle.eco_plans.specs.Ends.{no_cut}
 use Rattle.eco_plans.proofs.Joined.{both_none, found_at, not_found, one_place, one_refuses, place_of_rest}
-
--- ---- equal ends
-
-same_place_is : (a b : Option ℕ) → same_place a b ≡ true → a ≡ b
-same_place_is None None is = refl
-same_place_is None (Some b) is = cc
-same_place_is (Some a) None is = cc
-same_place_is (Some a) (Some b) is = ap Some (eqb-true a b is)
-
-and_left : (a b : Bool) → (a && b) ≡ true → a ≡ true
-and_left true b is = refl
-and_left false b is = is
-
-and_right : (a b : Bool) → (a && b) ≡ true → b ≡ true
-and_right true b is = is
-and_right false b is = cc
-
-same_end_is : (a b : End) → same_end a b ≡ true → a ≡ b
-same_end_is a b is =
-    let front = and_left (same_place a.inst b.inst && (a.port == b.port)) (a.bit == b.bit) is in
-    let insts = same_place_is a.inst b.inst (and_left (same_place a.inst b.inst) (a.port == b.port) front) in
-    let ports = eqb-true a.port b.port (and_right (same_place a.inst b.inst) (a.port == b.port) front) in
-    let bits = eqb-true a.bit b.bit (and_right (same_place a.inst b.inst && (a.port == b.port)) (a.bit == b.bit) is) in
-    λ i. record { inst = insts i; port = ports i; bit = bits i }
-
-same_place-refl : (o : Option ℕ) → same_place o o ≡ true
-same_place-refl None = refl
-same_place-refl (Some n) = eq-eqb n n refl
-
-same_end-refl : (e : End) → same_end e e ≡ true
-same_end-refl e = rw (same_place-refl e.inst, eq-eqb e.port e.port refl, eq-eqb e.bit e.bit refl) refl
 
 -- ---- ends that are other ones
 
@@ -71,7 +41,7 @@ kept_one x rest false never = refl
 others_kept : (e : End) (ends : List End) → AllByRecursion (λ y. e ≢ y) ends → filter (λ o. not (is_end (Some e) o)) ends ≡ ends
 others_kept e [] all = refl
 others_kept e (x ∷ ends) all =
-    kept_one x (filter (λ o. not (is_end (Some e) o)) ends) (same_end x e) (λ same. all.0 (sym (same_end_is x e same)))
+    kept_one x (filter (λ o. not (is_end (Some e) o)) ends) (same_end x e) (λ same. all.0 (sym (same_end-true x e same)))
     ∙ ap (λ (rest : List End). x ∷ rest) (others_kept e ends all.1)
 
 net_kept : (e : End) (net : Net) → AllByRecursion (λ y. e ≢ y) net.ends → net_without_end (Some e) net ≡ net
@@ -94,29 +64,29 @@ apart_after [] ys e apart has = cc
 apart_after (x ∷ xs) ys e apart has = by_test (same_end e x) refl has (apart_after xs ys e apart.1)
   where
     by_test : (b : Bool) → same_end e x ≡ b → (b || list_any (same_end e) xs) ≡ true → (list_any (same_end e) xs ≡ true → AllByRecursion (λ y. e ≢ y) ys) → AllByRecursion (λ y. e ≢ y) ys
-    by_test true is _ later = subst (λ (z : End). AllByRecursion (λ y. z ≢ y) ys) (sym (same_end_is e x is)) (each_right (λ y. x ≢ y) xs ys apart.0)
+    by_test true is _ later = subst (λ (z : End). AllByRecursion (λ y. z ≢ y) ys) (sym (same_end-true e x is)) (each_right (λ y. x ≢ y) xs ys apart.0)
     by_test false is rest later = later rest
 
-cut_at : (e : End) (nets : List Net) (k : ℕ) (d : Net) → Apart (flat nets) → position_from (has_end e) 0 nets ≡ Some k → map (net_without_end (Some e)) nets ≡ slice_set nets k (net_without_end (Some e) (get_or nets k d))
+cut_at : (e : End) (nets : List Net) (k : ℕ) (d : Net) → Apart (flat nets) → position_from (joins_end e) 0 nets ≡ Some k → map (net_without_end (Some e)) nets ≡ slice_set nets k (net_without_end (Some e) (get_or nets k d))
 cut_at e [] k d apart is = cc
 cut_at e (net ∷ nets) k d apart is =
-    one_place (has_end e net) (position_from (has_end e) 0 nets) k (sym (place_of_rest (has_end e) net nets) ∙ is) (λ j. map (net_without_end (Some e)) (net ∷ nets) ≡ slice_set (net ∷ nets) j (net_without_end (Some e) (get_or (net ∷ nets) j d)))
+    one_place (joins_end e net) (position_from (joins_end e) 0 nets) k (sym (place_of_rest (joins_end e) net nets) ∙ is) (λ j. map (net_without_end (Some e)) (net ∷ nets) ≡ slice_set (net ∷ nets) j (net_without_end (Some e) (get_or (net ∷ nets) j d)))
     (λ yes. ap (λ (rest : List Net). net_without_end (Some e) net ∷ rest) (nets_kept e nets (apart_after net.ends (flat nets) e apart yes)))
     (λ no j rest. λ i. net_kept e net (not_had e net.ends no) i ∷ cut_at e nets j d (apart_right net.ends (flat nets) apart) rest i)
 
 -- ---- an end in contents
 
-pub end_cut : (c : Contents) (at : End) (place : ℕ) (d made : Net) → AreDistinct (flat_map (λ net. net.ends) c.nets) → position (has_end at) c.nets ≡ Some place → place < length c.nets → made ≡ net_without_end (Some at) (get_or c.nets place d) → IsPlanned (Some c) (not_joined (Some c) (Some at)) (record c { nets = without_end (Some at) c.nets }) (Ok (PlannedNet place made))
+pub end_cut : (c : Contents) (at : End) (place : ℕ) (d made : Net) → AreDistinct (flat_map (λ net. net.ends) c.nets) → position (joins_end at) c.nets ≡ Some place → place < length c.nets → made ≡ net_without_end (Some at) (get_or c.nets place d) → IsPlanned (Some c) (not_joined (Some c) (Some at)) (record c { nets = without_end (Some at) c.nets }) (Ok (PlannedNet place made))
 end_cut c at place d made once is within same = (
   refl,
   omega arith,
-  ap (λ (o : Option Net). refuse (is_none o) NotJoined) (found_at (has_end at) c.nets place d is),
+  ap (λ (o : Option Net). refuse (is_none o) NotJoined) (found_at (joins_end at) c.nets place d is),
   ap (λ (ns : List Net). let made_now : Contents = record { insts = c.insts; nets = ns } in made_now)
-      (put_within c.nets place made within ∙ ap (slice_set c.nets place) same ∙ sym (cut_at at c.nets place d (apart_of (flat c.nets) once) (first_is_position (has_end at) c.nets ∙ is))),
+      (put_within c.nets place made within ∙ ap (slice_set c.nets place) same ∙ sym (cut_at at c.nets place d (apart_of (flat c.nets) once) (first_is_position (joins_end at) c.nets ∙ is))),
 )
 
-pub not_joined_here : (c : Contents) (at : End) → position (has_end at) c.nets ≡ None → not_joined (Some c) (Some at) ≡ Some NotJoined
-not_joined_here c at none = ap (λ (o : Option Net). refuse (is_none o) NotJoined) (not_found (has_end at) c.nets none)
+pub not_joined_here : (c : Contents) (at : End) → position (joins_end at) c.nets ≡ None → not_joined (Some c) (Some at) ≡ Some NotJoined
+not_joined_here c at none = ap (λ (o : Option Net). refuse (is_none o) NotJoined) (not_found (joins_end at) c.nets none)
 
 -- ---- the refusals of the operation
 

@@ -11,7 +11,7 @@ use Rattle.edit_core.specs.Rule.{first, refuse, too_many}
 use Rattle.edit_core.specs.declared.reply.EndName.{EndName}
 use Rattle.edit_core.specs.declared.reply.Reply.{Reply}
 use Rattle.edit_core.specs.declared.reply.Reply.TheVariants.{AlreadyJoined, NoInst, NoNet, TooMany}
-use Rattle.edit_spec.specs.Ends.{bad_bit, end_named, ends_in, has_end, no_end_inst, no_port}
+use Rattle.edit_spec.specs.Ends.{bad_bit, end_named, ends_in, joins_end, no_end_inst, no_port}
 use Rattle.edit_spec.specs.Inside.{no_net}
 use Rattle.edit_spec.specs.Join.{already_joined, net_with_end, no_join, with_end}
 use Rattle.cells_model.proofs.Patches.{changed_at_place}
@@ -68,20 +68,20 @@ not_found test xs none = not_there test xs (first_is_position test xs ∙ none)
 
 -- ---- an end in contents
 
-pub end_joined : (c : Contents) (at : End) (joined : ℕ) (d : Net) → position (has_end at) c.nets ≡ Some joined → first (no_more_end c at) ≡ Some (AlreadyJoined (get_or c.nets joined d).name.id)
+pub end_joined : (c : Contents) (at : End) (joined : ℕ) (d : Net) → position (joins_end at) c.nets ≡ Some joined → first (no_more_end c at) ≡ Some (AlreadyJoined (get_or c.nets joined d).name.id)
 end_joined c at joined d is =
-    ap (λ (o : Option Net). option_or (option_map (λ net. AlreadyJoined net.name.id) o) (first (too_many (length (ends_in (Some c))) 4194304 ∷ []))) (found_at (has_end at) c.nets joined d is)
+    ap (λ (o : Option Net). option_or (option_map (λ net. AlreadyJoined net.name.id) o) (first (too_many (length (ends_in (Some c))) 4194304 ∷ []))) (found_at (joins_end at) c.nets joined d is)
 
-more_front : (c : Contents) (at : End) → position (has_end at) c.nets ≡ None → first (no_more_end c at) ≡ first (too_many (length (ends_in (Some c))) 4194304 ∷ [])
+more_front : (c : Contents) (at : End) → position (joins_end at) c.nets ≡ None → first (no_more_end c at) ≡ first (too_many (length (ends_in (Some c))) 4194304 ∷ [])
 more_front c at none =
-    ap (λ (o : Option Net). option_or (option_map (λ net. AlreadyJoined net.name.id) o) (first (too_many (length (ends_in (Some c))) 4194304 ∷ []))) (not_found (has_end at) c.nets none)
+    ap (λ (o : Option Net). option_or (option_map (λ net. AlreadyJoined net.name.id) o) (first (too_many (length (ends_in (Some c))) 4194304 ∷ []))) (not_found (joins_end at) c.nets none)
 
-pub too_many_ends : (c : Contents) (at : End) → position (has_end at) c.nets ≡ None → 4194304 ≤ length (flat_map (λ net. net.ends) c.nets) → first (no_more_end c at) ≡ Some (TooMany 4194304)
+pub too_many_ends : (c : Contents) (at : End) → position (joins_end at) c.nets ≡ None → 4194304 ≤ length (flat_map (λ net. net.ends) c.nets) → first (no_more_end c at) ≡ Some (TooMany 4194304)
 too_many_ends c at none many =
     let full = le-leb 4194304 (length (flat_map (λ (net : Net). net.ends) c.nets)) many in
     more_front c at none ∙ ap (λ (b : Bool). option_or (refuse b (TooMany 4194304)) None) full
 
-pub end_planned : (c : Contents) (at : End) (place : ℕ) (d made : Net) → position (has_end at) c.nets ≡ None → length (flat_map (λ net. net.ends) c.nets) < 4194304 → place < length c.nets → made ≡ net_with_end (Some at) (get_or c.nets place d) → IsPlanned (Some c) (first (no_more_end c at)) (record c { nets = changed_at (net_with_end (Some at)) place c.nets }) (Ok (PlannedNet place made))
+pub end_planned : (c : Contents) (at : End) (place : ℕ) (d made : Net) → position (joins_end at) c.nets ≡ None → length (flat_map (λ net. net.ends) c.nets) < 4194304 → place < length c.nets → made ≡ net_with_end (Some at) (get_or c.nets place d) → IsPlanned (Some c) (first (no_more_end c at)) (record c { nets = changed_at (net_with_end (Some at)) place c.nets }) (Ok (PlannedNet place made))
 end_planned c at place d made none few within same =
     let room = lt-leb 4194304 (length (flat_map (λ (net : Net). net.ends) c.nets)) few in (
       refl,

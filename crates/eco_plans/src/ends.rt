@@ -6,7 +6,8 @@ ghost use Rattle.netlist_schema.specs.Design.{insts_in, nets_in};
 ghost use Rattle.netlist_schema.specs.Names.{AreDistinct};
 ghost use Rattle.netlist_schema.specs.Types.{Port};
 ghost use Rattle.edit_spec.specs.Cut.{is_end, net_without_end, not_joined, without_end};
-ghost use Rattle.edit_spec.specs.Ends.{bad_bit, end_inst, end_named, has_end, no_end_inst, no_port, same_end};
+ghost use Rattle.edit_spec.specs.Ends.{bad_bit, end_inst, end_named, joins_end, no_end_inst, no_port};
+ghost use Rattle.flat_spec.specs.ConnectionTest.{same_end};
 ghost use Rattle.edit_spec.specs.Join.{net_with_end, no_join, with_end};
 ghost use Rattle.edit_core.specs.Edit.{changed_at};
 ghost use Rattle.edit_core.specs.Find.{inst_place};
@@ -66,17 +67,11 @@ pub fn port_of(face: Option<Face<'_>>, name: &Ident) -> Option<PortAt>
 pub fn is_same_end(a: &End, b: &End) -> bool
     ensures { result ≡ same_end a.now b.now }
 {
-    a.port == b.port
-        && a.bit == b.bit
-        && match (a.inst, b.inst) {
-            (None, None) => true,
-            (Some(a), Some(b)) => a == b,
-            _ => false,
-        }
+    a == b
 }
 
 pub fn has_end(net: &Net, end: &End) -> bool
-    ensures { result ≡ has_end end.now net.now }
+    ensures { result ≡ joins_end end.now net.now }
 {
     net.ends
         .as_slice()
@@ -85,14 +80,14 @@ pub fn has_end(net: &Net, end: &End) -> bool
 }
 
 pub fn net_position(nets: &Row<Net>, end: &End) -> Option<usize>
-    ensures { result ≡ position (has_end end.now) nets.now }
+    ensures { result ≡ position (joins_end end.now) nets.now }
 {
     nets.as_slice().iter().position(|net| has_end(net, end))
 }
 
 /// The place of the first net that has an end.
 pub fn net_of_end(nets: &Row<Net>, end: &End) -> Option<usize>
-    ensures value { result ≡ position (has_end end.now) nets.now }
+    ensures value { result ≡ position (joins_end end.now) nets.now }
     ensures within { IfSome result (λ place. place < length nets.now) }
 {
     net_position(nets, end)

@@ -10,7 +10,8 @@ use Rattle.edit_core.specs.declared.reply.CellName.{CellName}
 use Rattle.edit_core.specs.declared.reply.EndName.{EndName}
 use Rattle.edit_core.specs.declared.reply.Reply.{Reply}
 use Rattle.edit_core.specs.declared.reply.Reply.TheVariants.{Done, NotJoined}
-use Rattle.edit_spec.specs.Ends.{same_end, no_end_inst, no_port, bad_bit, end_named, net_of_end}
+use Rattle.flat_spec.specs.ConnectionTest.{same_end}
+use Rattle.edit_spec.specs.Ends.{no_end_inst, no_port, bad_bit, end_named, net_of_end}
 use Rattle.edit_spec.specs.Inside.{set_nets}
 
 abbrev pub not_joined : Option Contents → Option End → Option Reply

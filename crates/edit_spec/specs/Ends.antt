@@ -1,8 +1,9 @@
 -- The ends of nets, as operations name and find them.
-use Rattle.std.specs.List.{flat_map, list_any}
-use Rattle.std.specs.Prelude.{◌==◌, ◌&&◌, ℕ, Bool, true, false, nat_le, List, Option, Some, None, is_none, find, option_map, option_and_then}
+use Rattle.std.specs.List.{flat_map}
+use Rattle.std.specs.Prelude.{ℕ, Bool, nat_le, List, Option, Some, None, is_none, find, option_map, option_and_then}
 use Rattle.netlist_schema.specs.Design.{insts_in, nets_in, port_width}
 use Rattle.netlist_schema.specs.Types.{Contents, End, Net, Port}
+use Rattle.flat_spec.specs.ConnectionTest.{has_end}
 use Rattle.edit_core.specs.Find.{inst_place, port_place, port_named}
 use Rattle.edit_core.specs.Rule.{refuse, no_inst}
 use Rattle.edit_core.specs.declared.reply.EndName.{EndName}
@@ -11,18 +12,6 @@ use Rattle.edit_core.specs.declared.reply.Reply.TheVariants.{NoPort, BadBit}
 
 abbrev pub ends_in : Option Contents → List End
 ends_in contents = flat_map (λ net. net.ends) (nets_in contents)
-
-abbrev pub same_place : Option ℕ → Option ℕ → Bool
-same_place None None = true
-same_place (Some a) (Some b) = a == b
-same_place a b = false
-
-abbrev pub same_end : End → End → Bool
-same_end a b = same_place a.inst b.inst && (a.port == b.port) && (a.bit == b.bit)
-
--- the net that has an end
-abbrev pub has_end : End → Net → Bool
-has_end end net = list_any (same_end end) net.ends
 
 -- for an end: no instance is named, or it is there
 abbrev pub no_end_inst : Option Contents → Option (List ℕ) → Option Reply
@@ -46,5 +35,9 @@ abbrev pub end_named : Option Contents → Option (List Port) → EndName → Op
 end_named contents ports end =
     option_map (λ port. record { inst = end_inst contents end.inst; port = port; bit = end.bit }) (option_and_then (port_place end.port) ports)
 
+-- the net that has the end
+abbrev pub joins_end : End → Net → Bool
+joins_end end net = has_end net.ends end
+
 abbrev pub net_of_end : Option Contents → Option End → Option Net
-net_of_end contents end = option_and_then (λ e. find (has_end e) (nets_in contents)) end
+net_of_end contents end = option_and_then (λ e. find (joins_end e) (nets_in contents)) end

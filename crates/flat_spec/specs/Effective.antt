@@ -21,17 +21,13 @@ abbrev pub base_properties : Design → TopHead → List ℕ → List Property
 base_properties d top path =
     option_map_or (λ inst. inst.properties) (last_or None (insts_along d top.cell path)) top.properties
 
--- two identifiers are equal byte for byte
-abbrev pub same_name : List ℕ → List ℕ → Bool
-same_name = pointwise nat_eq
-
--- the properties of the notes whose path has these identifiers, in order
+-- the properties of the notes whose path has these identifiers, byte for byte, in order
 abbrev pub notes_for : List (List ℕ) → List Note → List Property
-notes_for names notes = map (λ note. note.property) (filter (λ note. pointwise same_name note.path names) notes)
+notes_for names notes = map (λ note. note.property) (filter (λ note. pointwise (pointwise nat_eq) note.path names) notes)
 
--- two properties have equal keys
+-- two properties have keys that are equal byte for byte
 abbrev pub same_key : Property → Property → Bool
-same_key p q = same_name p.key.id q.key.id
+same_key p q = pointwise nat_eq p.key.id q.key.id
 
 -- the property among the notes that has its key, where there is one, else the property itself
 abbrev pub replaced : List Property → Property → Property

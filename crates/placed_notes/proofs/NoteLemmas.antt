@@ -11,7 +11,7 @@ use Rattle.std.proofs.lemmas.Option.{slice_get-get_or}
 use Rattle.netlist_schema.specs.Design.{Design}
 use Rattle.netlist_schema.specs.Types.{CellId, Note}
 use Rattle.netlist_schema.specs.Valid.{IsValid}
-use Rattle.flat_spec.specs.Effective.{names_along, notes_for, same_name}
+use Rattle.flat_spec.specs.Effective.{names_along, notes_for}
 use Rattle.flat_spec.specs.Paths.{Reaches}
 use Rattle.flat_spec.proofs.TestLemmas.{same_path}
 use Rattle.placed_notes.specs.Placed.{ArePlaced, IsAdded, places_in, properties_at}
@@ -21,24 +21,24 @@ use Rattle.placed_notes.specs.declared.steps.Steps.{Steps}
 use Rattle.placed_notes.proofs.WayLemmas.{one_way}
 
 -- lists of identifiers that pass the test are equal, and equal ones pass
-names_same : (a b : List (List ℕ)) → pointwise same_name a b ≡ true → a ≡ b
+names_same : (a b : List (List ℕ)) → pointwise (pointwise nat_eq) a b ≡ true → a ≡ b
 names_same [] [] t = refl
 names_same [] (y ∷ b) t = absurd (cc t)
 names_same (x ∷ a) [] t = absurd (cc t)
 names_same (x ∷ a) (y ∷ b) t =
-    let parts = and_parts (same_name x y) (pointwise same_name a b) t in
+    let parts = and_parts (pointwise nat_eq x y) (pointwise (pointwise nat_eq) a b) t in
     let head = (same_path x y).0 parts.0 in
     let tail = names_same a b parts.1 in
     λ i. head i ∷ tail i
 
-names_pass : (a : List (List ℕ)) → pointwise same_name a a ≡ true
+names_pass : (a : List (List ℕ)) → pointwise (pointwise nat_eq) a a ≡ true
 names_pass [] = refl
-names_pass (x ∷ a) = and_from (same_name x x) (pointwise same_name a a) ((same_path x x).1 refl) (names_pass a)
+names_pass (x ∷ a) = and_from (pointwise nat_eq x x) (pointwise (pointwise nat_eq) a a) ((same_path x x).1 refl) (names_pass a)
 
-one_passes : (names : List (List ℕ)) (note : Note) (b : Bool) → pointwise same_name note.path names ≡ b → notes_for names (note ∷ []) ≡ cond b (note.property ∷ []) []
+one_passes : (names : List (List ℕ)) (note : Note) (b : Bool) → pointwise (pointwise nat_eq) note.path names ≡ b → notes_for names (note ∷ []) ≡ cond b (note.property ∷ []) []
 one_passes names note b is = go b is
   where
-    go : (b : Bool) → pointwise same_name note.path names ≡ b → map (λ (v : Note). v.property) (cond (pointwise same_name note.path names) (note ∷ []) []) ≡ cond b (note.property ∷ []) []
+    go : (b : Bool) → pointwise (pointwise nat_eq) note.path names ≡ b → map (λ (v : Note). v.property) (cond (pointwise (pointwise nat_eq) note.path names) (note ∷ []) []) ≡ cond b (note.property ∷ []) []
     go true is = ap (λ t. map (λ (v : Note). v.property) (cond t (note ∷ []) [])) is
     go false is = ap (λ t. map (λ (v : Note). v.property) (cond t (note ∷ []) [])) is
 
@@ -48,8 +48,8 @@ notes_more : (names : List (List ℕ)) (notes : List Note) (i : ℕ) (note : Not
 notes_more names notes i note within is =
     let more : take (i + 1) notes ≡ take i notes ++ note ∷ [] = take_more notes i note within ∙ ap (λ v. take i notes ++ v ∷ []) (sym is) in
     ap (notes_for names) more
-    ∙ ap (map (λ (v : Note). v.property)) (filter-append (λ (v : Note). pointwise same_name v.path names) (take i notes) (note ∷ []))
-    ∙ map-append (λ (v : Note). v.property) (filter (λ (v : Note). pointwise same_name v.path names) (take i notes)) (filter (λ (v : Note). pointwise same_name v.path names) (note ∷ []))
+    ∙ ap (map (λ (v : Note). v.property)) (filter-append (λ (v : Note). pointwise (pointwise nat_eq) v.path names) (take i notes) (note ∷ []))
+    ∙ map-append (λ (v : Note). v.property) (filter (λ (v : Note). pointwise (pointwise nat_eq) v.path names) (take i notes)) (filter (λ (v : Note). pointwise (pointwise nat_eq) v.path names) (note ∷ []))
 
 -- the first so many notes are in the table
 abbrev pub AreSoFar : Design → CellId → ℕ → PlacedNotes → Type 0
@@ -71,7 +71,7 @@ placed_more d valid top i note way old new within is leads added so_far s c at =
     go true test =
         let same : s.steps.items ≡ way.steps.items = (same_path s.steps.items way.steps.items).0 test in
         let path : names_along d top s.steps.items ≡ note.path = ap (names_along d top) same ∙ leads.named in
-        let passes : pointwise same_name note.path (names_along d top s.steps.items) ≡ true = ap (pointwise same_name note.path) path ∙ names_pass note.path in
+        let passes : pointwise (pointwise nat_eq) note.path (names_along d top s.steps.items) ≡ true = ap (pointwise (pointwise nat_eq) note.path) path ∙ names_pass note.path in
         ap (properties_at d.notes) (added.here s same)
         ∙ filter_map-append (λ place. option_map (λ (v : Note). v.property) (slice_get d.notes place)) (places_in old s) (i ∷ [])
         ∙ ap (λ v. v ++ properties_at d.notes (i ∷ [])) (so_far s c at)
@@ -79,8 +79,8 @@ placed_more d valid top i note way old new within is leads added so_far s c at =
         ∙ sym (notes_more (names_along d top s.steps.items) d.notes i note within is)
     go false test =
         let apart : s.steps.items ≡ way.steps.items → ⊥ = λ e. cc (sym test ∙ (same_path s.steps.items way.steps.items).1 e) in
-        let fails : pointwise same_name note.path (names_along d top s.steps.items) ≡ false =
-        false_from_ne_true (pointwise same_name note.path (names_along d top s.steps.items)) (λ t.
+        let fails : pointwise (pointwise nat_eq) note.path (names_along d top s.steps.items) ≡ false =
+        false_from_ne_true (pointwise (pointwise nat_eq) note.path (names_along d top s.steps.items)) (λ t.
         apart (one_way d valid top c leads.end s.steps.items way.steps.items at leads.reached (sym (names_same note.path (names_along d top s.steps.items) t) ∙ sym leads.named))) in
         ap (properties_at d.notes) (added.others s apart)
         ∙ so_far s c at

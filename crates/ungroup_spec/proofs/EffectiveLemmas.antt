@@ -1,6 +1,6 @@
 -- Occurrences below the top keep their effective properties.
 use Rattle.std.proofs.Common.{◌≡◌, ℕ, List, [], ◌∷◌, Bool, true, false, cond, map, filter, refl, sym, ap, subst, ◌∙◌, inl, inr, Option, Some, None, slice_get}
-use Rattle.std.specs.Prelude.{IfSome, filter_map, option_map}
+use Rattle.std.specs.Prelude.{IfSome, filter_map, nat_eq, option_map}
 use Rattle.std.specs.Cmp.Lexicographic.{pointwise}
 use Rattle.std.specs.List.{All, cons_option, last_or}
 use Rattle.std.specs.Option.{option_map_or}
@@ -9,7 +9,7 @@ use Rattle.netlist_schema.specs.Design.{Design}
 use Rattle.netlist_schema.specs.Hierarchy.{insts_at}
 use Rattle.netlist_schema.specs.Types.{CellId, Inst, Note, Property}
 use Rattle.netlist_schema.specs.Valid.{IsNoteBelow}
-use Rattle.flat_spec.specs.Effective.{base_properties, insts_along, merged, names_along, notes_for, same_name}
+use Rattle.flat_spec.specs.Effective.{base_properties, insts_along, merged, names_along, notes_for}
 use Rattle.flat_spec.proofs.ListLemmas.{Member}
 use Rattle.flat_spec.proofs.TestLemmas.{same_path}
 use Rattle.ungroup_spec.specs.KeepsNets.{after, Bearing, bearing_of, EffectiveStays, IsUngroup}
@@ -26,19 +26,19 @@ use Rattle.ungroup_spec.proofs.ValidLemmas.{one-path, was}
 use Rattle.ungroup_spec.proofs.Ways.{Way}
 
 -- the test whether two paths of identifiers are equal
-names-true : (a b : List (List ℕ)) → pointwise same_name a b ≡ true → a ≡ b
+names-true : (a b : List (List ℕ)) → pointwise (pointwise nat_eq) a b ≡ true → a ≡ b
 names-true [] [] e = refl
 names-true [] (y ∷ b) e = absurd (false≢true e)
 names-true (x ∷ a) [] e = absurd (false≢true e)
 names-true (x ∷ a) (y ∷ b) e =
-    let parts = and_parts (same_name x y) (pointwise same_name a b) e in
+    let parts = and_parts (pointwise nat_eq x y) (pointwise (pointwise nat_eq) a b) e in
     let head = (same_path x y).0 parts.0 in
     let tail = names-true a b parts.1 in
     λ i. head i ∷ tail i
 
-names-refl : (a : List (List ℕ)) → pointwise same_name a a ≡ true
+names-refl : (a : List (List ℕ)) → pointwise (pointwise nat_eq) a a ≡ true
 names-refl [] = refl
-names-refl (x ∷ a) = and_from (same_name x x) (pointwise same_name a a) ((same_path x x).1 refl) (names-refl a)
+names-refl (x ∷ a) = and_from (pointwise nat_eq x x) (pointwise (pointwise nat_eq) a a) ((same_path x x).1 refl) (names-refl a)
 
 module _ (d : Design) (q : Dissolving) (is : IsUngroup d q) where
   -- a path with an image leads somewhere
@@ -69,30 +69,30 @@ module _ (d : Design) (q : Dissolving) (is : IsUngroup d q) where
   module _ (top : CellId) (path moved : List ℕ) (at : path_after d q top path ≡ Some moved) where
     -- a note that becomes another is for the occurrence exactly where that is for its image
     note-for : (note new : Note) → IsNoteBelow d top note → moved_note d q.cell q.site top note ≡ Some new
-        → pointwise same_name new.path (names_along (after d q) top moved) ≡ pointwise same_name note.path (names_along d top path)
-    note-for note new below e = go (pointwise same_name note.path (names_along d top path)) refl
+        → pointwise (pointwise nat_eq) new.path (names_along (after d q) top moved) ≡ pointwise (pointwise nat_eq) note.path (names_along d top path)
+    note-for note new below e = go (pointwise (pointwise nat_eq) note.path (names_along d top path)) refl
       where
-        go : (b : Bool) → pointwise same_name note.path (names_along d top path) ≡ b
-            → pointwise same_name new.path (names_along (after d q) top moved) ≡ pointwise same_name note.path (names_along d top path)
+        go : (b : Bool) → pointwise (pointwise nat_eq) note.path (names_along d top path) ≡ b
+            → pointwise (pointwise nat_eq) new.path (names_along (after d q) top moved) ≡ pointwise (pointwise nat_eq) note.path (names_along d top path)
         go true is_b =
             let old = names-true note.path (names_along d top path) is_b in
             let both : ◌≡◌ {A = Option (List (List ℕ))} (Some new.path) (Some (names_along (after d q) top moved)) =
             sym (was d q is top note new e).path ∙ ap (moved_path d q.cell q.site top) old ∙ names_moved d q is path top moved at in
             let same : new.path ≡ names_along (after d q) top moved = cc both in
-            subst (λ v. pointwise same_name v (names_along (after d q) top moved) ≡ true) (sym same) (names-refl (names_along (after d q) top moved)) ∙ sym is_b
+            subst (λ v. pointwise (pointwise nat_eq) v (names_along (after d q) top moved) ≡ true) (sym same) (names-refl (names_along (after d q) top moved)) ∙ sym is_b
         go false is_b =
-            is-false (pointwise same_name new.path (names_along (after d q) top moved)) (λ t.
+            is-false (pointwise (pointwise nat_eq) new.path (names_along (after d q) top moved)) (λ t.
             let same = names-true new.path (names_along (after d q) top moved) t in
             let way = image-way path top moved at in
             let one = one-path d q is top note.path (names_along d top path) new.path below.resolves (way-resolves d path top way.0 way.1) (was d q is top note new e).path
             (names_moved d q is path top moved at ∙ ap (λ v. Some v) (sym same)) in
-            false≢true (sym is_b ∙ subst (λ v. pointwise same_name note.path v ≡ true) one (names-refl note.path)))
+            false≢true (sym is_b ∙ subst (λ v. pointwise (pointwise nat_eq) note.path v ≡ true) one (names-refl note.path)))
             ∙ sym is_b
 
     -- and one that goes is not for it
-    note-gone : (note : Note) → moved_note d q.cell q.site top note ≡ None → pointwise same_name note.path (names_along d top path) ≡ false
+    note-gone : (note : Note) → moved_note d q.cell q.site top note ≡ None → pointwise (pointwise nat_eq) note.path (names_along d top path) ≡ false
     note-gone note e =
-        is-false (pointwise same_name note.path (names_along d top path)) (λ t.
+        is-false (pointwise (pointwise nat_eq) note.path (names_along d top path)) (λ t.
         let same = names-true note.path (names_along d top path) t in
         let there = ap (moved_path d q.cell q.site top) same ∙ names_moved d q is path top moved at in
         cc (sym e ∙ ap (option_map (λ p. record note { path = p })) there))
@@ -115,11 +115,11 @@ module _ (d : Design) (q : Dissolving) (is : IsUngroup d q) where
             → notes_for (names_along (after d q) top moved) (filter_map (moved_note d q.cell q.site top) notes) ≡ notes_for (names_along d top path) notes
             → notes_for (names_along (after d q) top moved) (cons_option o (filter_map (moved_note d q.cell q.site top) notes)) ≡ notes_for (names_along d top path) (note ∷ notes)
         go None e rest =
-            rest ∙ ap (λ b. map (λ (n : Note). n.property) (cond b (note ∷ filter (λ (n : Note). pointwise same_name n.path (names_along d top path)) notes) (filter (λ (n : Note). pointwise same_name n.path (names_along d top path)) notes))) (sym (note-gone note e))
+            rest ∙ ap (λ b. map (λ (n : Note). n.property) (cond b (note ∷ filter (λ (n : Note). pointwise (pointwise nat_eq) n.path (names_along d top path)) notes) (filter (λ (n : Note). pointwise (pointwise nat_eq) n.path (names_along d top path)) notes))) (sym (note-gone note e))
         go (Some new) e rest =
-            keep (pointwise same_name new.path (names_along (after d q) top moved)) (pointwise same_name note.path (names_along d top path)) new note
-            (filter (λ (n : Note). pointwise same_name n.path (names_along (after d q) top moved)) (filter_map (moved_note d q.cell q.site top) notes))
-            (filter (λ (n : Note). pointwise same_name n.path (names_along d top path)) notes)
+            keep (pointwise (pointwise nat_eq) new.path (names_along (after d q) top moved)) (pointwise (pointwise nat_eq) note.path (names_along d top path)) new note
+            (filter (λ (n : Note). pointwise (pointwise nat_eq) n.path (names_along (after d q) top moved)) (filter_map (moved_note d q.cell q.site top) notes))
+            (filter (λ (n : Note). pointwise (pointwise nat_eq) n.path (names_along d top path)) notes)
             (note-for note new (below note (inl refl)) e) (was d q is top note new e).property rest
 
 base-by : (o : Option Inst) (properties : List Property)
