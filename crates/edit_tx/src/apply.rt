@@ -10,6 +10,7 @@ use netlist_schema::NoMemory;
 use path_copies::unique_path;
 use std::alloc::Global;
 use ungroup_op::ungroup;
+use uniquify_op::uniquify;
 
 /// Runs an operation: the reply and the design are those of its definition; the objects read grow by what it needs, and the
 /// objects written by what it writes, both as sets. A reply that refuses changes nothing but the objects read. The one error
@@ -24,8 +25,6 @@ pub fn apply_op<C: Cells>(alloc: Global, cells: &mut C, op: &Op) -> Result<Reply
 }
 
 /// Runs an operation that copies or dissolves cells.
-///
-/// It refuses `Uniquify` for want of memory as yet.
 fn wide_op<C: Cells>(alloc: Global, cells: &mut C, op: &Op) -> Result<Reply, NoMemory>
     requires { ¬ IsSingle op.now }
     ensures { MatchResult result (IsDone (C.state cells.old) (C.state cells.new) op.now) (λ _. C.state cells.new ≡ C.state cells.old) }
@@ -33,7 +32,7 @@ fn wide_op<C: Cells>(alloc: Global, cells: &mut C, op: &Op) -> Result<Reply, NoM
     match op {
         Op::Ungroup { cell, inst } => ungroup(alloc, cells, cell, inst),
         Op::UniquePath { path } => unique_path(alloc, cells, path),
-        Op::Uniquify => Err(NoMemory),
+        Op::Uniquify => uniquify(alloc, cells),
         _ => unreachable!(),
     }
 }

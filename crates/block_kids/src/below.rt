@@ -1,0 +1,123 @@
+//! All that is below a top is read.
+ghost use Rattle.std.specs.Prelude.{◌≡◌, MatchResult, OnOk};
+ghost use Rattle.std.specs.Option.{option_copied};
+ghost use Rattle.netlist_schema.specs.Design.{insts_in};
+ghost use Rattle.netlist_schema.specs.Hierarchy.{insts_at};
+ghost use Rattle.cells_model.specs.Parts.{IsInside};
+ghost use Rattle.cells_model.specs.State.{HasRead, HasReadSome};
+ghost use Rattle.eco_reads.specs.Walk.{GoesOn, IsListed, IsPlaced};
+ghost use Rattle.block_reads.specs.ForBlocks.{IsForBlock};
+ghost use Rattle.block_kids.specs.Below.{IsForAllBelow};
+
+use block_reads::read_block;
+use cells_model::Cells;
+use netlist_schema::{CellId, Contents, Inst, NoMemory, Row};
+use std::alloc::Global;
+use std::collections::BTreeSet;
+
+/// Puts a cell on the list, where it was not seen yet.
+fn add_cell(
+    seen: &mut BTreeSet<CellId>,
+    order: &mut Vec<CellId>,
+    id: CellId,
+) -> Result<(), NoMemory>
+    requires { IsListed seen.old.keys order.old.items }
+    ensures listed { OnOk result (IsListed seen.new.keys order.new.items) }
+    ensures grows { OnOk result (GoesOn order.old.items order.new.items (λ x. x ≡ id)) }
+{
+    match seen.insert(id) {
+        Ok(true) => {
+            order.push(id)?;
+            Ok(())
+        }
+        Ok(false) => Ok(()),
+        Err(_) => Err(NoMemory),
+    }
+}
+
+/// Puts the cells of the instances on the list, where they were not seen yet.
+fn add_insts(
+    insts: &Row<Inst>,
+    seen: &mut BTreeSet<CellId>,
+    order: &mut Vec<CellId>,
+) -> Result<(), NoMemory>
+    requires { IsListed seen.old.keys order.old.items }
+    ensures listed { OnOk result (IsListed seen.new.keys order.new.items) }
+    ensures grows { OnOk result (GoesOn order.old.items order.new.items (IsPlaced insts.now)) }
+{
+    for inst in insts.as_slice() {
+        add_cell(seen, order, inst.of)?;
+    }
+    Ok(())
+}
+
+/// The same with the instances of contents.
+#[tactic(auto, using(eco_reads::proofs::Below::goes_nowhere))]
+fn add_inside(
+    contents: Option<&Contents>,
+    seen: &mut BTreeSet<CellId>,
+    order: &mut Vec<CellId>,
+) -> Result<(), NoMemory>
+    requires { IsListed seen.old.keys order.old.items }
+    ensures listed { OnOk result (IsListed seen.new.keys order.new.items) }
+    ensures grows { OnOk result (GoesOn order.old.items order.new.items (IsPlaced (insts_in (option_copied contents.entry)))) }
+{
+    match contents {
+        Some(inside) => add_insts(&inside.insts, seen, order),
+        None => Ok(()),
+    }
+}
+
+/// Looks into a cell, and puts the cells of its instances on the list, where they were not seen yet.
+#[tactic(auto, using(crate::proofs::Entering::goes_inside, eco_reads::proofs::Reading::read_some))]
+fn look<C: Cells>(
+    cells: &mut C,
+    seen: &mut BTreeSet<CellId>,
+    order: &mut Vec<CellId>,
+    id: CellId,
+) -> Result<(), NoMemory>
+    requires { IsListed seen.old.keys order.old.items }
+    ensures listed { OnOk result (IsListed seen.new.keys order.new.items) }
+    ensures grows { OnOk result (GoesOn order.old.items order.new.items (IsPlaced (insts_at (C.state cells.old).design id))) }
+    ensures reads { MatchResult result (λ _. HasRead (C.state cells.old) (C.state cells.new) (IsInside id)) (λ _. HasReadSome (C.state cells.old) (C.state cells.new)) }
+{
+    add_inside(cells.contents(id)?, seen, order)
+}
+
+/// Reads a cell below the top, and puts the cells of its instances on the list, where they were not seen yet.
+fn enter<C: Cells>(
+    cells: &mut C,
+    seen: &mut BTreeSet<CellId>,
+    order: &mut Vec<CellId>,
+    id: CellId,
+) -> Result<(), NoMemory>
+    requires { IsListed seen.old.keys order.old.items }
+    ensures listed { OnOk result (IsListed seen.new.keys order.new.items) }
+    ensures grows { OnOk result (GoesOn order.old.items order.new.items (IsPlaced (insts_at (C.state cells.old).design id))) }
+    ensures reads { MatchResult result (λ _. HasRead (C.state cells.old) (C.state cells.new) (IsForBlock (C.state cells.old).design id)) (λ _. HasReadSome (C.state cells.old) (C.state cells.new)) }
+{
+    let _block = read_block(cells, id)?;
+    look(cells, seen, order, id)
+}
+
+/// Reads what is inside the top, and each cell below it once: inside and out, and the directory of its library where it is a
+/// block. The list of cells that were seen is gone through from its front; it takes one step for each of them.
+pub fn read_below<C: Cells>(alloc: Global, cells: &mut C, top: CellId) -> Result<(), NoMemory>
+    ensures { MatchResult result (λ _. HasRead (C.state cells.old) (C.state cells.new) (IsForAllBelow (C.state cells.old).design top)) (λ _. HasReadSome (C.state cells.old) (C.state cells.new)) }
+{
+    let mut seen = BTreeSet::new(alloc);
+    let mut order = Vec::new(alloc);
+    look(cells, &mut seen, &mut order, top)?;
+    let mut next = 0usize;
+    for _ in 0..u64::MAX {
+        if next >= order.len() {
+            return Ok(());
+        }
+        let id = order[next];
+        let Ok(()) = enter(cells, &mut seen, &mut order, id) else {
+            return Err(NoMemory);
+        };
+        next += 1;
+    }
+    Err(NoMemory)
+}

@@ -1,0 +1,78 @@
+-- Places in lists that go on.
+use Rattle.std.proofs.Common.{◌≡◌, ◌<◌, ◌≤◌, ◌+◌, ℕ, zero, suc, Bool, true, false, cond, List, [], ◌∷◌, ◌++◌, length, drop, Option, Some, None, refl, sym, ap, ◌∙◌, arith, add-one}
+use Rattle.std.specs.Prelude.{filter, slice_get, unwrap_or}
+use Rattle.std.specs.Option.{option_map_or}
+use Rattle.flat_spec.specs.Occurrences.{Occurrence}
+use Rattle.cell_copies.specs.declared.spot.Step.{Step}
+use Rattle.uniquify_op.specs.Frames.{row_at}
+use Rattle.uniquify_op.specs.Walks.{path_at}
+
+pub got_front : {X : Type 0} (xs ys : List X) (i : ℕ) → i < length xs → slice_get (xs ++ ys) i ≡ slice_get xs i
+got_front [] ys i less = absurd (omega (arith, less))
+got_front (x ∷ xs) ys zero less = refl
+got_front (x ∷ xs) ys (suc i) less = got_front xs ys i (omega (arith, less))
+
+pub got_last : {X : Type 0} (xs : List X) (x : X) (i : ℕ) → i ≡ length xs → slice_get (xs ++ x ∷ []) i ≡ Some x
+got_last [] x zero is = refl
+got_last [] x (suc i) is = absurd (omega (arith, is))
+got_last (y ∷ xs) x zero is = absurd (omega (arith, is))
+got_last (y ∷ xs) x (suc i) is = got_last xs x i (omega (arith, is))
+
+pub got_past : {X : Type 0} (xs : List X) (i : ℕ) → length xs ≤ i → slice_get xs i ≡ None
+got_past [] i past = refl
+got_past (x ∷ xs) zero past = absurd (omega (arith, past))
+got_past (x ∷ xs) (suc i) past = got_past xs i (omega (arith, past))
+
+pub got_there : {X : Type 0} (xs : List X) (i : ℕ) → i < length xs → (x : X) × (slice_get xs i ≡ Some x)
+got_there [] i less = absurd (omega (arith, less))
+got_there (x ∷ xs) zero less = (x, refl)
+got_there (x ∷ xs) (suc i) less = got_there xs i (omega (arith, less))
+
+pub drop_at : {X : Type 0} (xs : List X) (i : ℕ) (x : X) → slice_get xs i ≡ Some x → drop i xs ≡ x ∷ drop (i + 1) xs
+drop_at {X} xs i x at = by xs i at ∙ ap (λ n. x ∷ drop n xs) (sym (add-one i))
+  where
+    by : (xs : List X) (i : ℕ) → slice_get xs i ≡ Some x → drop i xs ≡ x ∷ drop (suc i) xs
+    by [] i at = cc
+    by (y ∷ ys) zero at = let same : y ≡ x = cc in ap (λ z. z ∷ ys) same
+    by (y ∷ ys) (suc i) at = by ys i at
+
+pub drop_past : {X : Type 0} (xs : List X) (i : ℕ) → slice_get xs i ≡ None → drop i xs ≡ []
+drop_past [] zero none = refl
+drop_past [] (suc i) none = refl
+drop_past (x ∷ xs) zero none = cc
+drop_past (x ∷ xs) (suc i) none = drop_past xs i none
+
+pub row_at_more : (rows more : List (List Step)) (place : ℕ) → place < length rows → row_at (rows ++ more) place ≡ row_at rows place
+row_at_more rows more place less = ap (λ (o : Option (List Step)). unwrap_or o []) (got_front rows more place less)
+
+pub row_at_last : (rows : List (List Step)) (row : List Step) (place : ℕ) → place ≡ length rows → row_at (rows ++ row ∷ []) place ≡ row
+row_at_last rows row place is = ap (λ (o : Option (List Step)). unwrap_or o []) (got_last rows row place is)
+
+pub row_at_past : (rows : List (List Step)) (place : ℕ) → length rows ≤ place → row_at rows place ≡ []
+row_at_past rows place past = ap (λ (o : Option (List Step)). unwrap_or o []) (got_past rows place past)
+
+pub path_at_more : (os more : List Occurrence) (number : ℕ) → number < length os → path_at (os ++ more) number ≡ path_at os number
+path_at_more os more number less = ap (λ (o : Option Occurrence). option_map_or (λ x. x.path) o []) (got_front os more number less)
+
+pub path_at_is : (os : List Occurrence) (number : ℕ) (o : Occurrence) → slice_get os number ≡ Some o → path_at os number ≡ o.path
+path_at_is os number o at = ap (λ (x : Option Occurrence). option_map_or (λ y. y.path) x []) at
+
+-- what is left by a filter passes it
+pub filter_passes : {X : Type 0} (test : X → Bool) (xs : List X) (i : ℕ) (x : X) → slice_get (filter test xs) i ≡ Some x → test x ≡ true
+filter_passes test [] i x at = cc
+filter_passes {X} test (y ∷ ys) i x at = by (test y) refl i at (λ j there. filter_passes test ys j x there)
+  where
+    by : (b : Bool) → test y ≡ b → (j : ℕ) → slice_get (cond b (y ∷ filter test ys) (filter test ys)) j ≡ Some x → ((k : ℕ) → slice_get (filter test ys) k ≡ Some x → test x ≡ true) → test x ≡ true
+    by true is zero there rest = let same : y ≡ x = cc in sym (ap test same) ∙ is
+    by true is (suc j) there rest = rest j there
+    by false is j there rest = rest j there
+
+-- what block_at finds
+pub block_found : (rows : List (List Step)) (row place : ℕ) (blocks : List Step) (step : Step) → slice_get rows row ≡ Some blocks → slice_get blocks place ≡ Some step → slice_get (row_at rows row) place ≡ Some step
+block_found rows row place blocks step there at = ap (λ (o : Option (List Step)). slice_get (unwrap_or o []) place) there ∙ at
+
+pub block_past : (rows : List (List Step)) (row place : ℕ) (blocks : List Step) → slice_get rows row ≡ Some blocks → length blocks ≤ place → slice_get (row_at rows row) place ≡ None
+block_past rows row place blocks there past = ap (λ (o : Option (List Step)). slice_get (unwrap_or o []) place) there ∙ got_past blocks place past
+
+pub row_past : (rows : List (List Step)) (row place : ℕ) → length rows ≤ row → slice_get (row_at rows row) place ≡ None
+row_past rows row place past = ap (λ (l : List Step). slice_get l place) (row_at_past rows row past)

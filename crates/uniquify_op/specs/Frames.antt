@@ -1,0 +1,18 @@
+-- Occurrences whose blocks are gone through.
+use Rattle.std.specs.Prelude.{◌≡◌, ◌+◌, ◌++◌, ℕ, List, [], ◌∷◌, Some, None, slice_get, unwrap_or}
+use Rattle.cell_copies.specs.declared.spot.Step.{Step}
+use Rattle.uniquify_op.specs.declared.frame.Frame.{Frame}
+use Rattle.uniquify_op.specs.declared.frame.Next.{Next}
+use Rattle.uniquify_op.specs.declared.frame.Next.TheVariants.{End, Back, Block}
+
+-- the row at a place, which has no blocks where there is none
+abbrev pub row_at : List (List Step) → ℕ → List Step
+row_at rows place = unwrap_or (slice_get rows place) []
+
+-- the next block of the last occurrence was taken; or there was none, and the occurrence was put aside; or there was no
+-- occurrence
+abbrev pub IsTaken : List (List Step) → List Frame → List Frame → Next → Type 0
+IsTaken rows old new End = old ≡ []
+IsTaken rows old new Back = (frame : Frame) × (old ≡ new ++ frame ∷ []) × (slice_get (row_at rows frame.row) frame.taken ≡ None)
+IsTaken rows old new (Block above step) = (frame : Frame) × (rest : List Frame) × (old ≡ rest ++ frame ∷ []) × (new ≡ rest ++ record frame { taken = frame.taken + 1 } ∷ [])
+    × (above ≡ frame.number) × (slice_get (row_at rows frame.row) frame.taken ≡ Some step)

@@ -1,0 +1,4 @@
+pub mod Frames
+pub mod Marks
+pub mod Visited
+pub mod Walks
