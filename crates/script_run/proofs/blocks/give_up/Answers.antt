@@ -1,0 +1,1 @@
+use Rattle.script_run.proofs.blocks.give_up.Goals as goal

@@ -1,0 +1,1 @@
+use Rattle.script_run.proofs.lines.show.Goals as goal

@@ -1,0 +1,1 @@
+use Rattle.script_run.proofs.places.free_line.Goals as goal

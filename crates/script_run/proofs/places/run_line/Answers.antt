@@ -1,0 +1,1 @@
+use Rattle.script_run.proofs.places.run_line.Goals as goal

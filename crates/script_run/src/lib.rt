@@ -1,0 +1,10 @@
+//! One script, run as one caller of a shared database.
+#![tactic(auto)]
+
+mod blocks;
+mod held;
+mod lines;
+mod places;
+pub mod run;
+
+pub use run::{Transcript, run_script};
