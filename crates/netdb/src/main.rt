@@ -1,7 +1,7 @@
 //! The program `netdb`: its words, files and output are the system's.
 #![tactic(auto)]
 
-use netdb_cli::{EdifFault, Status, fault_text, run_netdb};
+use netdb_cli::{Status, run_netdb, status_text};
 use netdb_outside::{FreeGate, HostFiles, HostOut};
 use std::alloc::Global;
 use std::process::ExitCode;
@@ -9,8 +9,6 @@ use std::rt::Files;
 use std::sync::Wait;
 use std::thread::Threads;
 use std::{env, io};
-
-const USAGE: &str = "netdb: usage: write F, flat F [limit N], csv F, run F S.., gen N";
 
 /// The words after the program's name.
 fn words(rt: &HostRuntime) -> io::Result<Vec<String>> {
@@ -32,37 +30,23 @@ fn refused(error: &io::Error) -> Status {
     }
 }
 
-/// Prints what a status says of a file.
-fn print_of(rt: &HostRuntime, words: &[String], word: u32, says: &str) -> io::Result<()> {
+/// Prints the line of a status, where it has one: what is said of it, and before that the name of the file that it is about.
+fn print_line(rt: &HostRuntime, words: &[String], status: &Status) -> io::Result<()> {
+    let Ok(text) = status_text(rt.alloc(), status) else {
+        return eprintln!(rt; "netdb: no memory");
+    };
+    let says = String::from_utf8_lossy(rt.alloc(), text.as_slice())?;
+    if says.is_empty() {
+        return Ok(());
+    }
+    let Some(word) = status.word() else {
+        return eprintln!(rt; "netdb: {says}");
+    };
     let name = match words.get(word as usize) {
         Some(name) => name.as_str(),
         None => "",
     };
     eprintln!(rt; "netdb: {name}: {says}")
-}
-
-/// Prints what is wrong with a design file.
-fn print_fault(rt: &HostRuntime, words: &[String], fault: &EdifFault) -> io::Result<()> {
-    let Ok(text) = fault_text(rt.alloc(), fault) else {
-        return eprintln!(rt; "netdb: no memory");
-    };
-    let says = String::from_utf8_lossy(rt.alloc(), text.as_slice())?;
-    print_of(rt, words, 1, says.as_str())
-}
-
-/// Prints the line of a status.
-fn print_line(rt: &HostRuntime, words: &[String], status: &Status) -> io::Result<()> {
-    match status {
-        Status::Ok => Ok(()),
-        Status::Usage => eprintln!(rt; "{USAGE}"),
-        Status::Missing { word } => print_of(rt, words, *word, "missing"),
-        Status::ReadFault { word } => print_of(rt, words, *word, "read fault"),
-        Status::WriteFault => eprintln!(rt; "netdb: write fault"),
-        Status::BadEdif { fault } => print_fault(rt, words, fault),
-        Status::TooLarge { word } => print_of(rt, words, *word, "too large"),
-        Status::NoTop => eprintln!(rt; "netdb: no top"),
-        Status::NoMemory => eprintln!(rt; "netdb: no memory"),
-    }
 }
 
 /// Runs the words of a command.

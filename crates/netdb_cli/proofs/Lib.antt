@@ -1,5 +1,4 @@
-pub mod BytesLemmas
-pub mod LexLemmas
-pub mod RunLemmas
-pub mod TextLemmas
+pub mod DueLemmas
+pub mod InputLemmas
+pub mod OutputLemmas
 pub mod WordLemmas

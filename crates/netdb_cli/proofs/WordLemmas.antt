@@ -1,77 +1,137 @@
 -- Words that are a command.
-use Rattle.std.proofs.Common.{◌≡◌, ◌≤◌, ◌<◌, List, [], ◌∷◌, Some, None, map, length, get_or, codes, refl, ap, sym, ◌∙◌, arith, String, string_bytes, Global}
+use Rattle.std.proofs.Common.{◌≡◌, ◌≤◌, ◌<◌, ◌^◌, List, [], ◌∷◌, Some, None, length, get_or, codes, ap, sym, ◌∙◌, subst, arith, ◌⊎◌, inl, inr}
 use Rattle.std.proofs.lemmas.Fmt.{decimal_injective, parse-decimal}
 use Rattle.std.specs.Prelude.{Ok, Result}
 use Rattle.std.specs.Str.Parse.{ParsesUnsigned}
 use Rattle.std.specs.Fmt.{decimal}
 use Prim.Native.Nat.{ℕ}
-use Rattle.netdb_cli.specs.Command.{Asks, IsCommand, IsLimit}
-use Rattle.netdb_cli.specs.declared.command.Wanted.{Wanted}
-use Rattle.netdb_cli.specs.declared.command.Wanted.TheVariants.{Text, Items}
+use Rattle.netdb_cli.specs.Command.{Asks, IsCommand, IsCrew, IsGood, IsLimit, Request, Show, Run}
+use Rattle.netdb_cli.specs.declared.command.Wanted.TheVariants.{Text, Items, Pins}
 
--- a list of two words, and one of four, by their places
-pub two_words : (words : List (String Global)) (a b : String Global) → 2 ≤ length words → length words < 3 → a ≡ get_or words 0 a → b ≡ get_or words 1 b → map string_bytes words ≡ string_bytes a ∷ string_bytes b ∷ []
-two_words [] a b h k p q = absurd (omega arith)
-two_words (x ∷ []) a b h k p q = absurd (omega arith)
-two_words (x ∷ y ∷ []) a b h k p q = let first : a ≡ x = p in let second : b ≡ y = q in cc
-two_words (x ∷ y ∷ z ∷ words) a b h k p q = absurd (omega arith)
+-- the first letter of the first word, the second word, and those behind it
+abbrev letter : List (List ℕ) → ℕ
+letter words = get_or (get_or words 0 []) 0 0
 
-pub four_words : (words : List (String Global)) (a b c d : String Global) → 4 ≤ length words → length words < 5
-    → a ≡ get_or words 0 a → b ≡ get_or words 1 b → c ≡ get_or words 2 c → d ≡ get_or words 3 d
-    → map string_bytes words ≡ string_bytes a ∷ string_bytes b ∷ string_bytes c ∷ string_bytes d ∷ []
-four_words [] a b c d h k p q r s = absurd (omega arith)
-four_words (x ∷ []) a b c d h k p q r s = absurd (omega arith)
-four_words (x ∷ y ∷ []) a b c d h k p q r s = absurd (omega arith)
-four_words (x ∷ y ∷ z ∷ []) a b c d h k p q r s = absurd (omega arith)
-four_words (x ∷ y ∷ z ∷ v ∷ []) a b c d h k p q r s = let first : a ≡ x = p in let second : b ≡ y = q in let third : c ≡ z = r in let fourth : d ≡ v = s in cc
-four_words (x ∷ y ∷ z ∷ v ∷ u ∷ words) a b c d h k p q r s = absurd (omega arith)
+abbrev second : List (List ℕ) → List ℕ
+second words = get_or words 1 []
 
--- a command has two words or four
-pub few_words : (words : List (List ℕ)) → IsCommand words → (length words ≡ 2 → ⊥) → (length words ≡ 4 → ⊥) → ⊥
-few_words words command two four = go command.1 command.2
+abbrev behind_two : List (List ℕ) → List (List ℕ)
+behind_two [] = []
+behind_two (a ∷ []) = []
+behind_two (a ∷ b ∷ words) = words
+
+same_number : (m n : ℕ) → m < 2 ^ 64 → n < 2 ^ 64 → decimal m ≡ decimal n → m ≡ n
+same_number m n small other same = decimal_injective m n small other same
+
+-- the words ask for one thing
+pub asked_once : (words : List (List ℕ)) (a b : Request) → Asks words a → Asks words b → a ≡ b
+asked_once words (Show name Text) (Show other Text) h k = ap (λ (n : List ℕ). Show n Text) (ap second (sym h ∙ k))
+asked_once words (Show name Text) (Show other (Items None)) h k = let l : 119 ≡ 102 = ap letter (sym h ∙ k) in absurd (omega (arith, l))
+asked_once words (Show name Text) (Show other (Items (Some n))) h k = let l : 119 ≡ 102 = ap letter (sym h ∙ k.1) in absurd (omega (arith, l))
+asked_once words (Show name Text) (Show other Pins) h k = let l : 119 ≡ 99 = ap letter (sym h ∙ k) in absurd (omega (arith, l))
+asked_once words (Show name Text) (Run other others) h k = let l : 119 ≡ 114 = ap letter (sym h ∙ k.1) in absurd (omega (arith, l))
+asked_once words (Show name (Items None)) (Show other Text) h k = let l : 102 ≡ 119 = ap letter (sym h ∙ k) in absurd (omega (arith, l))
+asked_once words (Show name (Items None)) (Show other (Items None)) h k = ap (λ (n : List ℕ). Show n (Items None)) (ap second (sym h ∙ k))
+asked_once words (Show name (Items None)) (Show other (Items (Some n))) h k = let l : 2 ≡ 4 = ap length (sym h ∙ k.1) in absurd (omega (arith, l))
+asked_once words (Show name (Items None)) (Show other Pins) h k = let l : 102 ≡ 99 = ap letter (sym h ∙ k) in absurd (omega (arith, l))
+asked_once words (Show name (Items None)) (Run other others) h k = let l : 102 ≡ 114 = ap letter (sym h ∙ k.1) in absurd (omega (arith, l))
+asked_once words (Show name (Items (Some m))) (Show other Text) h k = let l : 102 ≡ 119 = ap letter (sym h.1 ∙ k) in absurd (omega (arith, l))
+asked_once words (Show name (Items (Some m))) (Show other (Items None)) h k = let l : 4 ≡ 2 = ap length (sym h.1 ∙ k) in absurd (omega (arith, l))
+asked_once words (Show name (Items (Some m))) (Show other (Items (Some n))) h k =
+    let same : name ≡ other = ap second (sym h.1 ∙ k.1) in
+    let number : m ≡ n = same_number m n (omega (arith, h.0.1)) (omega (arith, k.0.1)) (ap (λ ws. get_or ws 3 []) (sym h.1 ∙ k.1)) in
+    ap (λ (x : List ℕ × ℕ). Show x.0 (Items (Some x.1))) (λ i. (same i, number i))
+asked_once words (Show name (Items (Some m))) (Show other Pins) h k = let l : 102 ≡ 99 = ap letter (sym h.1 ∙ k) in absurd (omega (arith, l))
+asked_once words (Show name (Items (Some m))) (Run other others) h k = let l : 102 ≡ 114 = ap letter (sym h.1 ∙ k.1) in absurd (omega (arith, l))
+asked_once words (Show name Pins) (Show other Text) h k = let l : 99 ≡ 119 = ap letter (sym h ∙ k) in absurd (omega (arith, l))
+asked_once words (Show name Pins) (Show other (Items None)) h k = let l : 99 ≡ 102 = ap letter (sym h ∙ k) in absurd (omega (arith, l))
+asked_once words (Show name Pins) (Show other (Items (Some n))) h k = let l : 99 ≡ 102 = ap letter (sym h ∙ k.1) in absurd (omega (arith, l))
+asked_once words (Show name Pins) (Show other Pins) h k = ap (λ (n : List ℕ). Show n Pins) (ap second (sym h ∙ k))
+asked_once words (Show name Pins) (Run other others) h k = let l : 99 ≡ 114 = ap letter (sym h ∙ k.1) in absurd (omega (arith, l))
+asked_once words (Run name scripts) (Show other Text) h k = let l : 114 ≡ 119 = ap letter (sym h.1 ∙ k) in absurd (omega (arith, l))
+asked_once words (Run name scripts) (Show other (Items None)) h k = let l : 114 ≡ 102 = ap letter (sym h.1 ∙ k) in absurd (omega (arith, l))
+asked_once words (Run name scripts) (Show other (Items (Some n))) h k = let l : 114 ≡ 102 = ap letter (sym h.1 ∙ k.1) in absurd (omega (arith, l))
+asked_once words (Run name scripts) (Show other Pins) h k = let l : 114 ≡ 99 = ap letter (sym h.1 ∙ k) in absurd (omega (arith, l))
+asked_once words (Run name scripts) (Run other others) h k =
+    let same : name ≡ other = ap second (sym h.1 ∙ k.1) in
+    let rest : scripts ≡ others = ap behind_two (sym h.1 ∙ k.1) in
+    ap (λ (x : List ℕ × List (List ℕ)). Run x.0 x.1) (λ i. (same i, rest i))
+
+-- numbers are as they may be
+pub asked_good : (words : List (List ℕ)) (request : Request) → Asks words request → IsGood request
+asked_good words (Show name wanted) h = tt
+asked_good words (Run name scripts) h = h.0
+
+-- no word, or one, is no command
+pub no_words : IsCommand [] → ⊥
+no_words command = go command.0 command.1
   where
-    go : (wanted : Wanted) → Asks words command.0 wanted → ⊥
-    go Text h = two (ap length h)
-    go (Items None) h = two (ap length h)
-    go (Items (Some limit)) h = four (ap length h.1)
+    go : (request : Request) → Asks [] request → ⊥
+    go (Show name Text) h = let l : 0 ≡ 2 = ap length h in absurd (omega (arith, l))
+    go (Show name (Items None)) h = let l : 0 ≡ 2 = ap length h in absurd (omega (arith, l))
+    go (Show name (Items (Some limit))) h = let l : 0 ≡ 4 = ap length h.1 in absurd (omega (arith, l))
+    go (Show name Pins) h = let l : 0 ≡ 2 = ap length h in absurd (omega (arith, l))
+    go (Run name scripts) h = absurd (cc (h.1))
+
+pub one_word : (word : List ℕ) → IsCommand (word ∷ []) → ⊥
+one_word word command = go command.0 command.1
+  where
+    go : (request : Request) → Asks (word ∷ []) request → ⊥
+    go (Show name Text) h = let l : 1 ≡ 2 = ap length h in absurd (omega (arith, l))
+    go (Show name (Items None)) h = let l : 1 ≡ 2 = ap length h in absurd (omega (arith, l))
+    go (Show name (Items (Some limit))) h = let l : 1 ≡ 4 = ap length h.1 in absurd (omega (arith, l))
+    go (Show name Pins) h = let l : 1 ≡ 2 = ap length h in absurd (omega (arith, l))
+    go (Run name scripts) h = absurd (cc (h.1))
+
+-- what is behind `run` and a name
+pub asked_run : (name : List ℕ) (rest : List (List ℕ)) → IsCommand (codes "run" ∷ name ∷ rest) → IsCrew rest
+asked_run name rest command = go command.0 command.1
+  where
+    go : (request : Request) → Asks (codes "run" ∷ name ∷ rest) request → IsCrew rest
+    go (Show other Text) h = let l : 114 ≡ 119 = ap letter h in absurd (omega (arith, l))
+    go (Show other (Items None)) h = let l : 114 ≡ 102 = ap letter h in absurd (omega (arith, l))
+    go (Show other (Items (Some limit))) h = let l : 114 ≡ 102 = ap letter h.1 in absurd (omega (arith, l))
+    go (Show other Pins) h = let l : 114 ≡ 99 = ap letter h in absurd (omega (arith, l))
+    go (Run other scripts) h = let same : rest ≡ scripts = ap behind_two h.1 in subst IsCrew (sym same) h.0
+
+-- what is behind `flat` and a name
+pub asked_flat : (name : List ℕ) (rest : List (List ℕ)) → IsCommand (codes "flat" ∷ name ∷ rest)
+    → (rest ≡ []) ⊎ ((n : ℕ) × IsLimit n × (rest ≡ codes "limit" ∷ decimal n ∷ []))
+asked_flat name rest command = go command.0 command.1
+  where
+    go : (request : Request) → Asks (codes "flat" ∷ name ∷ rest) request → (rest ≡ []) ⊎ ((n : ℕ) × IsLimit n × (rest ≡ codes "limit" ∷ decimal n ∷ []))
+    go (Show other Text) h = let l : 102 ≡ 119 = ap letter h in absurd (omega (arith, l))
+    go (Show other (Items None)) h = inl (ap behind_two h)
+    go (Show other (Items (Some limit))) h = inr (limit, h.0, ap behind_two h.1)
+    go (Show other Pins) h = let l : 102 ≡ 99 = ap letter h in absurd (omega (arith, l))
+    go (Run other scripts) h = let l : 102 ≡ 114 = ap letter h.1 in absurd (omega (arith, l))
+
+-- more words than two
+pub asked_long : (first name third : List ℕ) (rest : List (List ℕ)) → IsCommand (first ∷ name ∷ third ∷ rest) → (first ≡ codes "run") ⊎ (first ≡ codes "flat")
+asked_long first name third rest command = go command.0 command.1
+  where
+    go : (request : Request) → Asks (first ∷ name ∷ third ∷ rest) request → (first ≡ codes "run") ⊎ (first ≡ codes "flat")
+    go (Show other Text) h = absurd (cc (ap behind_two h))
+    go (Show other (Items None)) h = absurd (cc (ap behind_two h))
+    go (Show other (Items (Some limit))) h = inr (ap (λ ws. get_or ws 0 []) h.1)
+    go (Show other Pins) h = absurd (cc (ap behind_two h))
+    go (Run other scripts) h = inl (ap (λ ws. get_or ws 0 []) h.1)
 
 -- two words that are no command
-pub no_short : (first name : List ℕ) → (first ≡ codes "write" → ⊥) → (first ≡ codes "flat" → ⊥) → IsCommand (first ∷ name ∷ []) → ⊥
-no_short first name write flat command = go command.1 command.2
+pub no_short : (first other : List ℕ) → (first ≡ codes "run" → ⊥) → (first ≡ codes "flat" → ⊥) → (first ≡ codes "write" → ⊥) → (first ≡ codes "csv" → ⊥) → IsCommand (first ∷ other ∷ []) → ⊥
+no_short first other run flat write csv command = go command.0 command.1
   where
-    go : (wanted : Wanted) → Asks (first ∷ name ∷ []) command.0 wanted → ⊥
-    go Text h = write (ap (λ ws. get_or ws 0 []) h)
-    go (Items None) h = flat (ap (λ ws. get_or ws 0 []) h)
-    go (Items (Some limit)) h = let lengths : 2 ≡ 4 = ap length h.1 in absurd (omega (arith, lengths))
-
--- four words that are no command
-pub no_long : (first name third fourth : List ℕ) → (first ≡ codes "flat" → third ≡ codes "limit" → (n : ℕ) → IsLimit n → fourth ≡ decimal n → ⊥)
-    → IsCommand (first ∷ name ∷ third ∷ fourth ∷ []) → ⊥
-no_long first name third fourth none command = go command.1 command.2
-  where
-    go : (wanted : Wanted) → Asks (first ∷ name ∷ third ∷ fourth ∷ []) command.0 wanted → ⊥
-    go Text h = let lengths : 4 ≡ 2 = ap length h in absurd (omega (arith, lengths))
-    go (Items None) h = let lengths : 4 ≡ 2 = ap length h in absurd (omega (arith, lengths))
-    go (Items (Some limit)) h = none (ap (λ ws. get_or ws 0 []) h.1) (ap (λ ws. get_or ws 2 []) h.1) limit h.0 (ap (λ ws. get_or ws 3 []) h.1)
-
--- the words ask for one thing of one file
-pub asked_once : (words : List (List ℕ)) (name other : List ℕ) (wanted want : Wanted) → Asks words name wanted → Asks words other want → (name ≡ other) × (wanted ≡ want)
-asked_once words name other Text Text h k = let same : codes "write" ∷ name ∷ [] ≡ codes "write" ∷ other ∷ [] = sym h ∙ k in (cc, refl)
-asked_once words name other Text (Items None) h k = let lengths : 5 ≡ 4 = sym (ap (λ ws. length (get_or ws 0 [])) h) ∙ ap (λ ws. length (get_or ws 0 [])) k in absurd (omega (arith, lengths))
-asked_once words name other Text (Items (Some m)) h k = let lengths : 2 ≡ 4 = sym (ap length h) ∙ ap length k.1 in absurd (omega (arith, lengths))
-asked_once words name other (Items None) Text h k = let lengths : 4 ≡ 5 = sym (ap (λ ws. length (get_or ws 0 [])) h) ∙ ap (λ ws. length (get_or ws 0 [])) k in absurd (omega (arith, lengths))
-asked_once words name other (Items None) (Items None) h k = let same : codes "flat" ∷ name ∷ [] ≡ codes "flat" ∷ other ∷ [] = sym h ∙ k in (cc, refl)
-asked_once words name other (Items None) (Items (Some m)) h k = let lengths : 2 ≡ 4 = sym (ap length h) ∙ ap length k.1 in absurd (omega (arith, lengths))
-asked_once words name other (Items (Some n)) Text h k = let lengths : 4 ≡ 2 = sym (ap length h.1) ∙ ap length k in absurd (omega (arith, lengths))
-asked_once words name other (Items (Some n)) (Items None) h k = let lengths : 4 ≡ 2 = sym (ap length h.1) ∙ ap length k in absurd (omega (arith, lengths))
-asked_once words name other (Items (Some n)) (Items (Some m)) h k =
-    let same : codes "flat" ∷ name ∷ codes "limit" ∷ decimal n ∷ [] ≡ codes "flat" ∷ other ∷ codes "limit" ∷ decimal m ∷ [] = sym h.1 ∙ k.1 in
-    let digits : decimal n ≡ decimal m = cc in
-    let small = h.0.1 in
-    let other_small = k.0.1 in
-    let number : n ≡ m = decimal_injective n m (omega (arith, small)) (omega (arith, other_small)) digits in
-    (cc, ap (λ k. Items (Some k)) number)
+    go : (request : Request) → Asks (first ∷ other ∷ []) request → ⊥
+    go (Show name Text) h = write (ap (λ ws. get_or ws 0 []) h)
+    go (Show name (Items None)) h = flat (ap (λ ws. get_or ws 0 []) h)
+    go (Show name (Items (Some limit))) h = flat (ap (λ ws. get_or ws 0 []) h.1)
+    go (Show name Pins) h = csv (ap (λ ws. get_or ws 0 []) h)
+    go (Run name scripts) h = run (ap (λ ws. get_or ws 0 []) h.1)
 
 -- a word of digits is read as its number
-pub read_limit : {E : Type 0} (word : List ℕ) (n : ℕ) (r : Result ℕ E) → IsLimit n → word ≡ decimal n → ParsesUnsigned 32 10 word r → r ≡ Ok n
-read_limit word n r limit is read = let small = limit.1 in parse-decimal 32 n word r small (omega (arith, small)) is read
+pub read_number : {E : Type 0} (word : List ℕ) (n : ℕ) (r : Result ℕ E) → n < 2 ^ 32 → word ≡ decimal n → ParsesUnsigned 32 10 word r → r ≡ Ok n
+read_number word n r small is read = parse-decimal 32 n word r small (omega (arith, small)) is read
+
+-- a word is one number
+pub same_number_of : (word : List ℕ) (m n : ℕ) → m < 2 ^ 32 → word ≡ decimal m → n < 2 ^ 32 → word ≡ decimal n → m ≡ n
+same_number_of word m n small is other also = same_number m n (omega (arith, small)) (omega (arith, other)) (sym is ∙ also)

@@ -1,7 +1,11 @@
 pub mod Command
-pub mod FaultText
-pub mod Files
+pub mod Due
+pub mod Laws
 pub mod Outcome
 pub mod Output
+pub mod Refusals
 pub mod StatusNumber
+pub mod StatusText
 pub mod Steps
+pub mod Told
+pub mod Walks

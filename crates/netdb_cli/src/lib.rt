@@ -2,12 +2,14 @@
 #![tactic(auto)]
 
 mod command;
-mod flat;
-mod reading;
+mod inputs;
+pub mod laws;
+mod outputs;
 mod run;
 pub mod status;
 pub mod texts;
 
+pub use design_file::{EdifFault, fault_text};
 pub use run::run_netdb;
-pub use status::{EdifFault, Status};
-pub use texts::fault_text;
+pub use status::Status;
+pub use texts::status_text;

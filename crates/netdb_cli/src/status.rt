@@ -1,30 +1,7 @@
 //! What a call of the program answers.
 ghost use Rattle.std.specs.Prelude.{◌≡◌};
 
-use edif_lexer::LexKind;
-use edif_spec::MeaningFault;
-use spelling_spec::TreeKind;
-
-/// What is wrong with a design file. A place counts the bytes before it.
-#[derive(Debug, PartialEq, Eq, Drop)]
-pub enum EdifFault {
-    /// The first lexical fault of the file.
-    Lex {
-        /// What it is.
-        kind: LexKind,
-        /// Where it stands.
-        place: u64,
-    },
-    /// The first fault of the tokens, where no lexical fault stands in the file.
-    Tree {
-        /// What it is.
-        kind: TreeKind,
-        /// Where it stands.
-        place: u64,
-    },
-    /// A fault that stands in the tree of the file.
-    Meaning(MeaningFault),
-}
+use design_file::EdifFault;
 
 /// The status of a call. `word` is the position of a file's name among the words, from 0.
 #[derive(Debug, PartialEq, Eq, Drop)]
@@ -41,16 +18,21 @@ pub enum Status {
     WriteFault,
     /// The design file has no meaning.
     BadEdif { fault: EdifFault },
+    /// The script's file has a bad line: this is the first, from 1.
+    BadScript { word: u32, line: u64 },
     /// The file has more bytes than its limit.
     TooLarge { word: u32 },
     /// A flattening is wanted, and the design has no top.
     NoTop,
+    /// Some script ended since the log was full. The whole report was written.
+    LogFull,
     /// An allocation was refused.
     NoMemory,
 }
 
 impl Status {
     ghost use Rattle.netdb_cli.specs.StatusNumber.{number_of};
+    ghost use Rattle.netdb_cli.specs.StatusText.{word_of};
 
     /// The number with which the program ends.
     pub fn number(&self) -> u8
@@ -63,9 +45,30 @@ impl Status {
             Status::ReadFault { .. } => 4,
             Status::WriteFault => 5,
             Status::BadEdif { .. } => 6,
+            Status::BadScript { .. } => 7,
             Status::TooLarge { .. } => 8,
             Status::NoTop => 9,
+            Status::LogFull => 10,
             Status::NoMemory => 11,
+        }
+    }
+
+    /// The position among the words of the name of the file that the status is about, where it is about one.
+    pub fn word(&self) -> Option<u32>
+        ensures { result ≡ word_of self.now }
+    {
+        match self {
+            Status::Missing { word } => Some(*word),
+            Status::ReadFault { word } => Some(*word),
+            Status::BadEdif { .. } => Some(1),
+            Status::BadScript { word, .. } => Some(*word),
+            Status::TooLarge { word } => Some(*word),
+            Status::Ok => None,
+            Status::Usage => None,
+            Status::WriteFault => None,
+            Status::NoTop => None,
+            Status::LogFull => None,
+            Status::NoMemory => None,
         }
     }
 }

@@ -1,7 +1,8 @@
 //! Words, a file and what comes of them.
+use crate::given::{text, words};
 use crate::texts::{
-    COUNTER, COUNTER_FRONT, COUNTER_ITEMS, COUNTER_TEXT, EMPTY, HEAD, INVERTER, INVERTER_TEXT, LIB,
-    NAMES_TEXT, NOTED, NOTED_ITEMS, THROUGH, THROUGH_ITEMS,
+    COUNTER, COUNTER_FRONT, COUNTER_ITEMS, COUNTER_PINS, COUNTER_TEXT, EMPTY, HEAD, INVERTER,
+    INVERTER_TEXT, LIB, NAMES_TEXT, NOTED, NOTED_ITEMS, THROUGH, THROUGH_ITEMS,
 };
 use netdb_cli::{Status, fault_text, run_netdb};
 use netdb_outside::{FreeGate, MemFiles, MemSink, NamedFile, names_differ};
@@ -27,19 +28,6 @@ struct Want<'a> {
     number: u8,
     fault: &'a str,
     written: &'a str,
-}
-
-fn text(alloc: Global, bytes: &str) -> Result<Text, AllocError> {
-    Ok(Text::of(bytes.as_bytes().to_vec(alloc)?))
-}
-
-/// The words of a command.
-fn words(alloc: Global, words: &[&str]) -> Result<Vec<String>, AllocError> {
-    let mut made = Vec::new(alloc);
-    for word in words {
-        made.push(String::from_str(alloc, word)?)?;
-    }
-    Ok(made)
 }
 
 /// The text of a status's fault, of no bytes where it has none.
@@ -259,7 +247,7 @@ fn spelling_and_nesting_are_judged(rt: HostRuntime) -> Result<(), Fail> {
 
 #[test]
 fn designs_are_flattened(rt: HostRuntime) -> Result<(), Fail> {
-    let cases: [(&str, &[&str], u8, &str); 8] = [
+    let cases: [(&str, &[&str], u8, &str); 9] = [
         (THROUGH, &["flat", "F"], 0, THROUGH_ITEMS),
         (NOTED, &["flat", "F"], 0, NOTED_ITEMS),
         (COUNTER, &["flat", "F"], 0, COUNTER_ITEMS),
@@ -273,6 +261,7 @@ fn designs_are_flattened(rt: HostRuntime) -> Result<(), Fail> {
         ),
         (COUNTER, &["flat", "F", "limit", "4294967296"], 2, ""),
         (COUNTER, &["flat", "F", "limit", "02"], 2, ""),
+        (COUNTER, &["csv", "F"], 0, COUNTER_PINS),
     ];
     for (file, words, number, text) in cases {
         let want = Want {
@@ -315,7 +304,7 @@ fn missed<R: Threads + Wait + Sync + Abort>(
 fn refusals_have_their_causes(rt: HostRuntime) -> Result<(), Fail> {
     let alloc = rt.alloc();
     let empty = format!(in alloc; "{HEAD})")?;
-    let refusals: [Refusal; 9] = [
+    let refusals: [Refusal; 10] = [
         (&[], &[], None, Status::Usage, ""),
         (&["write"], &[], None, Status::Usage, ""),
         (&["flat", "F", "limit", "0"], &[], None, Status::Usage, ""),
@@ -331,6 +320,7 @@ fn refusals_have_their_causes(rt: HostRuntime) -> Result<(), Fail> {
         ),
         (&WRITE, &[], Some(10), Status::WriteFault, "(edif e\n ("),
         (&["flat", "F"], &[], None, Status::NoTop, ""),
+        (&["csv", "F"], &[], None, Status::NoTop, ""),
     ];
     assert_eq!(rt; missed(&rt, alloc, &empty, &refusals)?.as_str(), "");
     let fault: [Refusal; 1] = [(&WRITE, &[], Some(10), Status::WriteFault, "(edif coun")];

@@ -1,0 +1,130 @@
+-- What was written, and what its counts say.
+use Rattle.std.proofs.Common.{◌≡◌, ◌≤◌, ◌+◌, Bool, true, false, ◌||◌, List, [], ◌∷◌, ◌⊎◌, inl, inr, map, Option, None, Some, refl, ap, sym, ◌∙◌, subst, arith}
+use Prim.Native.Nat.{ℕ}
+use Rattle.std.specs.Prelude.{◌↔◌, IsTrue}
+use Rattle.std.specs.List.{list_any}
+use Rattle.netlist_schema.specs.Design.{Design}
+use Rattle.netdb_outside.specs.Outside.{Shelf, Appends, AppendsFront, Rose}
+use Rattle.session_spec.specs.Headline.{CanWalk, HasWalk, SomeWalks}
+use Rattle.session_spec.specs.ScriptText.{Parts, steps_of}
+use Rattle.session_spec.specs.declared.script.ScriptLine.{ScriptLine}
+use Rattle.session_spec.specs.declared.script.Step.{Step}
+use Rattle.session_spec.specs.declared.script.Step.TheVariants.{Walk}
+use Rattle.run_scripts.specs.Run.{all_steps}
+use Rattle.netdb_cli.specs.Command.{Request, Show, Run}
+use Rattle.netdb_cli.specs.Outcome.{CountsReading, CountsWriting, Gives, OutputGives, ReadGives, RunGives, TextGives}
+use Rattle.netdb_cli.specs.Output.{output, HasTop, LacksTop}
+use Rattle.netdb_cli.specs.Refusals.{RefusesDesign, RefusesFile, RefusesScript, RefusesScripts}
+use Rattle.netdb_cli.specs.Walks.{is_walk}
+use Rattle.netdb_cli.specs.declared.command.Wanted.{Wanted}
+use Rattle.netdb_cli.specs.declared.command.Wanted.TheVariants.{Text, Items, Pins}
+use Rattle.netdb_cli.specs.declared.status.Status.{Status}
+use Rattle.netdb_cli.specs.declared.status.Status.TheVariants as status
+
+-- a text of a design that has all that is wanted
+pub served : (wanted : Wanted) (d : Design) (old new : Option (List ℕ)) (result : Status) → HasTop wanted d → TextGives (output wanted d) old new result → OutputGives wanted d old new result
+served wanted d old new status.Ok top h = (top, h)
+served wanted d old new status.Usage top h = absurd h
+served wanted d old new (status.Missing word) top h = absurd h
+served wanted d old new (status.ReadFault word) top h = absurd h
+served wanted d old new status.WriteFault top h = (top, h)
+served wanted d old new (status.BadEdif fault) top h = absurd h
+served wanted d old new (status.BadScript word line) top h = absurd h
+served wanted d old new (status.TooLarge word) top h = absurd h
+served wanted d old new status.NoTop top h = absurd h
+served wanted d old new status.LogFull top h = absurd h
+served wanted d old new status.NoMemory top h = (top, h)
+
+-- what was written is no fault in reading
+pub text_is_no_fault : (text : List ℕ) (old new : Option (List ℕ)) (word : ℕ) (result : Status) → TextGives text old new result → result ≡ status.ReadFault word → ⊥
+text_is_no_fault text old new word result h is = subst (λ (s : Status). TextGives text old new s) is h
+
+pub output_is_no_fault : (wanted : Wanted) (d : Design) (old new : Option (List ℕ)) (word : ℕ) (result : Status) → OutputGives wanted d old new result → result ≡ status.ReadFault word → ⊥
+output_is_no_fault wanted d old new word result h is = (subst (λ (s : Status). OutputGives wanted d old new s) is h).1
+
+pub run_is_no_fault : (d : Design) (scripts : List (List Step)) (old new : Option (List ℕ)) (word : ℕ) (result : Status) → RunGives d scripts old new result → result ≡ status.ReadFault word → ⊥
+run_is_no_fault d scripts old new word result h is = subst (λ (s : Status). RunGives d scripts old new s) is h
+
+-- a refusal is no fault in writing
+pub design_is_no_fault : (told : Option Shelf) (name : List ℕ) (result : Status) → RefusesDesign told name result → result ≡ status.WriteFault → ⊥
+design_is_no_fault told name result h is = subst (λ (s : Status). RefusesDesign told name s) is h
+
+pub scripts_are_no_fault : (told : Option Shelf) (names : List (List ℕ)) (at : ℕ) (result : Status) → RefusesScripts told names at result → result ≡ status.WriteFault → ⊥
+scripts_are_no_fault told [] at result h is = h
+scripts_are_no_fault told (name ∷ names) at result (inl h) is = subst (λ (s : Status). RefusesScript told name at s) is h
+scripts_are_no_fault told (name ∷ names) at result (inr h) is = scripts_are_no_fault told names (at + 1) result h.2 is
+
+-- what a command gives is not that its words are none
+scripts_are_words : (told : Option Shelf) (names : List (List ℕ)) (at : ℕ) → RefusesScripts told names at status.Usage → ⊥
+scripts_are_words told [] at h = h
+scripts_are_words told (name ∷ names) at (inl h) = h
+scripts_are_words told (name ∷ names) at (inr h) = scripts_are_words told names (at + 1) h.2
+
+read_is_words : (d : Design) (names : List (List ℕ)) (told : Option Shelf) (old new : Option (List ℕ)) → ReadGives d names told old new status.Usage → ⊥
+read_is_words d names told old new (inl h) = scripts_are_words told names 2 h.0
+read_is_words d names told old new (inr h) = h.3
+
+are_words : (request : Request) (told : Option Shelf) (old new : Option (List ℕ)) → Gives request told old new status.Usage → ⊥
+are_words (Show name wanted) told old new (inl h) = h.0
+are_words (Show name wanted) told old new (inr h) = h.3.1
+are_words (Run name names) told old new (inl h) = h.0
+are_words (Run name names) told old new (inr h) = read_is_words h.0 names told old new h.2
+
+pub never_usage : (request : Request) (told : Option Shelf) (old new : Option (List ℕ)) (result : Status) → Gives request told old new result → result ≡ status.Usage → ⊥
+never_usage request told old new result h is = are_words request told old new (subst (λ (s : Status). Gives request told old new s) is h)
+
+-- nothing was written, and no fault counted
+pub nothing_counted : (count : ℕ) (result : Status) → (result ≡ status.WriteFault → ⊥) → CountsWriting count count result
+nothing_counted count result none = record { fault = λ is. absurd (none is); never_falls = omega arith }
+
+-- ---- scripts that walk
+
+-- a line walks, as a test
+abbrev walks_line : ScriptLine → Bool
+walks_line line = is_walk line.step
+
+-- a step passes the test, or one behind it
+step_walks : (step : Step) (b : Bool) (rest : List Step) → (b ≡ true → HasWalk rest) → (is_walk step || b) ≡ true → HasWalk (step ∷ rest)
+step_walks (Walk limit) b rest f h = inl tt
+step_walks step b rest f h = inr (f h)
+
+walks_step : (step : Step) (b : Bool) (rest : List Step) → (HasWalk rest → b ≡ true) → HasWalk (step ∷ rest) → (is_walk step || b) ≡ true
+walks_step (Walk limit) b rest f h = refl
+walks_step step b rest f (inl h) = absurd h
+walks_step step b rest f (inr h) = f h
+
+line_walks : (lines : List ScriptLine) → list_any walks_line lines ≡ true → HasWalk (steps_of lines)
+line_walks [] h = absurd (cc h)
+line_walks (line ∷ lines) h = step_walks line.step (list_any walks_line lines) (steps_of lines) (λ k. line_walks lines k) h
+
+walks_a_line : (lines : List ScriptLine) → HasWalk (steps_of lines) → list_any walks_line lines ≡ true
+walks_a_line [] h = absurd h
+walks_a_line (line ∷ lines) h = walks_step line.step (list_any walks_line lines) (steps_of lines) (λ k. walks_a_line lines k) h
+
+-- a script walks, as a test
+abbrev walks_script : Parts → Bool
+walks_script script = list_any walks_line script.lines
+
+one_of : (a b : Bool) → (a || b) ≡ true → (a ≡ true) ⊎ (b ≡ true)
+one_of true b h = inl refl
+one_of false b h = inr h
+
+or_right : (a b : Bool) → b ≡ true → (a || b) ≡ true
+or_right true b h = refl
+or_right false b h = h
+
+script_walks : (scripts : List Parts) → list_any walks_script scripts ≡ true → SomeWalks (all_steps scripts)
+script_walks [] h = absurd (cc h)
+script_walks (script ∷ scripts) h = elim (one_of (walks_script script) (list_any walks_script scripts) h) [
+  | inl is ↦ inl (line_walks script.lines is)
+  | inr is ↦ inr (script_walks scripts is)
+]
+
+walks_a_script : (scripts : List Parts) → SomeWalks (all_steps scripts) → list_any walks_script scripts ≡ true
+walks_a_script [] h = absurd h
+walks_a_script (script ∷ scripts) (inl h) = ap (λ b. b || list_any walks_script scripts) (walks_a_line script.lines h)
+walks_a_script (script ∷ scripts) (inr h) = or_right (walks_script script) (list_any walks_script scripts) (walks_a_script scripts h)
+
+-- some script passes the test, exactly where some walks
+pub some_walks_is : (scripts : List Parts) (b : Bool) → b ≡ list_any walks_script scripts → IsTrue b ↔ SomeWalks (all_steps scripts)
+some_walks_is scripts b is = (λ h. script_walks scripts (sym is ∙ h), λ h. is ∙ walks_a_script scripts h)

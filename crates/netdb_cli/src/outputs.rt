@@ -1,0 +1,151 @@
+//! What is written of a design and of a run.
+ghost use Rattle.std.specs.Prelude.{◌≡◌, ◌≤◌, ◌↔◌, IsTrue, length};
+ghost use Rattle.std.specs.List.{list_any};
+ghost use Rattle.edif_spec.specs.Arranged.{canonical_text};
+ghost use Rattle.session_spec.specs.Headline.{CanWalk, SomeWalks};
+ghost use Rattle.run_scripts.specs.Run.{all_steps};
+ghost use Rattle.netdb_cli.specs.Outcome.{CountsWriting, OutputGives, RunGives, TextGives};
+ghost use Rattle.netdb_cli.specs.Walks.{is_walk};
+
+use crate::command::Wanted;
+use crate::status::Status;
+use edif_writer::write_design;
+use flat_out::{FlatError, write_flat, write_pin_table};
+use netdb_outside::{Gate, Sink, WriteError};
+use netlist_schema::{Design, Shown};
+use run_scripts::{RunEnd, write_run};
+use session_spec::{Script, Step};
+use std::alloc::Global;
+use std::sync::Wait;
+use std::thread::Threads;
+
+/// Writes the canonical text of a design.
+fn write_text<K: Sink>(alloc: Global, design: &Design, out: &mut K) -> Status
+    ensures gives { TextGives (canonical_text design.now) (K.written out.old) (K.written out.new) result }
+    ensures counts { CountsWriting (K.faults out.old) (K.faults out.new) result }
+{
+    match write_design(alloc, design, out) {
+        Ok(()) => Status::Ok,
+        Err(WriteError::WriteFault) => Status::WriteFault,
+        Err(WriteError::NoMemory) => Status::NoMemory,
+    }
+}
+
+/// The same limit in 64 bits.
+fn wide(limit: Option<u32>) -> Option<u64>
+    ensures { result ≡ limit }
+{
+    match limit {
+        Some(limit) => Some(u64::from(limit)),
+        None => None,
+    }
+}
+
+/// Writes the items of the flattening of a design, at most so many where there is a limit.
+fn write_items<K: Sink>(alloc: Global, design: &Design, limit: Option<u32>, out: &mut K) -> Status
+    ensures gives { OutputGives (Wanted.Items limit) design.now (K.written out.old) (K.written out.new) result }
+    ensures counts { CountsWriting (K.faults out.old) (K.faults out.new) result }
+{
+    match write_flat(alloc, design, wide(limit), out) {
+        Ok(()) => Status::Ok,
+        Err(FlatError::NoTop) => Status::NoTop,
+        Err(FlatError::WriteFault) => Status::WriteFault,
+        Err(FlatError::NoMemory) => Status::NoMemory,
+    }
+}
+
+/// Writes the pin table of a design.
+fn write_pins<K: Sink>(alloc: Global, design: &Design, out: &mut K) -> Status
+    ensures gives { OutputGives Wanted.Pins design.now (K.written out.old) (K.written out.new) result }
+    ensures counts { CountsWriting (K.faults out.old) (K.faults out.new) result }
+{
+    match write_pin_table(alloc, design, out) {
+        Ok(()) => Status::Ok,
+        Err(FlatError::NoTop) => Status::NoTop,
+        Err(FlatError::WriteFault) => Status::WriteFault,
+        Err(FlatError::NoMemory) => Status::NoMemory,
+    }
+}
+
+/// Writes what is wanted of a design.
+pub fn write_output<K: Sink>(alloc: Global, design: &Design, wanted: Wanted, out: &mut K) -> Status
+    ensures gives { OutputGives wanted design.now (K.written out.old) (K.written out.new) result }
+    ensures counts { CountsWriting (K.faults out.old) (K.faults out.new) result }
+{
+    match wanted {
+        Wanted::Text => write_text(alloc, design, out),
+        Wanted::Items { limit } => write_items(alloc, design, limit, out),
+        Wanted::Pins => write_pins(alloc, design, out),
+    }
+}
+
+/// Whether a step walks.
+fn is_walking(step: &Step) -> bool
+    ensures { result ≡ is_walk step.now }
+{
+    matches!(step, Step::Walk { .. })
+}
+
+/// Whether a script walks.
+fn walks(script: &Script) -> bool
+    ensures { result ≡ list_any (λ line. is_walk line.step) script.now.lines }
+{
+    script.lines().iter().any(|line| is_walking(&line.step))
+}
+
+/// Whether one of scripts walks.
+fn one_walks(scripts: &[Script]) -> bool
+    ensures { result ≡ list_any (λ script. list_any (λ line. is_walk line.step) script.lines) scripts.now }
+{
+    scripts.iter().any(|script| walks(script))
+}
+
+/// Whether some script walks.
+fn some_walks(scripts: &[Script]) -> bool
+    ensures { IsTrue result ↔ SomeWalks (all_steps scripts.now) }
+{
+    one_walks(scripts)
+}
+
+/// Runs scripts on a design, and writes the report.
+fn report<R: Threads + Wait + Sync, K: Sink, G: Gate + Sync>(
+    rt: &R,
+    alloc: Global,
+    design: Design,
+    scripts: &[Script],
+    gate: &G,
+    out: &mut K,
+) -> Status
+    requires many { (1 ≤ length scripts.now) × (length scripts.now ≤ 64) }
+    requires walks { CanWalk design (all_steps scripts.now) }
+    ensures gives { RunGives design (all_steps scripts.now) (K.written out.old) (K.written out.new) result }
+    ensures counts { CountsWriting (K.faults out.old) (K.faults out.new) result }
+{
+    match write_run(rt, alloc, design, scripts, gate, out) {
+        Ok(RunEnd::Whole) => Status::Ok,
+        Ok(RunEnd::LogFull) => Status::LogFull,
+        Err(WriteError::WriteFault) => Status::WriteFault,
+        Err(WriteError::NoMemory) => Status::NoMemory,
+    }
+}
+
+/// Runs scripts on a design and writes the report, unless one of them walks and the design has no top.
+pub fn write_report<R: Threads + Wait + Sync, K: Sink, G: Gate + Sync>(
+    rt: &R,
+    alloc: Global,
+    design: Design,
+    scripts: &[Script],
+    gate: &G,
+    out: &mut K,
+) -> Status
+    requires { (1 ≤ length scripts.now) × (length scripts.now ≤ 64) }
+    ensures gives { RunGives design (all_steps scripts.now) (K.written out.old) (K.written out.new) result }
+    ensures counts { CountsWriting (K.faults out.old) (K.faults out.new) result }
+{
+    if some_walks(scripts) {
+        if design.top().is_none() {
+            return Status::NoTop;
+        }
+    }
+    report(rt, alloc, design, scripts, gate, out)
+}
