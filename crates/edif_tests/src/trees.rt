@@ -1,6 +1,6 @@
 //! Texts, and the trees of their tokens.
 use crate::lexing::{HEAD, tokens_of};
-use edif_tree::{Shape, Tree, TreeError, read_tree};
+use edif_tree::{Shape, Tree, TreeError, TreeMaker, read_tree};
 use spelling_spec::TreeKind;
 use std::alloc::Global;
 use std::test::Fail;
@@ -37,17 +37,39 @@ pub fn tree_of(alloc: Global, text: &str) -> Result<Result<Tree, TreeError>, Fai
     Ok(read_tree(alloc, &tokens, end))
 }
 
+/// The same by a maker that is fed the tokens one at a time.
+fn made_of(alloc: Global, text: &str) -> Result<Result<Tree, TreeError>, Fail> {
+    let (tokens, end) = tokens_of(alloc, text.as_bytes(), b"")
+        .ok()
+        .ok_or("no tokens")?;
+    let mut maker = TreeMaker::new(alloc);
+    for token in tokens {
+        let mut piece = Vec::new(alloc);
+        piece.push(token)?;
+        if maker.feed(piece).is_err() {
+            break;
+        }
+    }
+    Ok(maker.finish(end))
+}
+
+/// Whether this is the first tree fault of a text, however its tokens come.
+fn has_fault(alloc: Global, text: &str, kind: TreeKind, place: u64) -> Result<bool, Fail> {
+    let fault = Some(TreeError::At { kind, place });
+    Ok(tree_of(alloc, text)?.err() == fault && made_of(alloc, text)?.err() == fault)
+}
+
 /// The texts that do not have the fault that is wanted.
 fn missed(alloc: Global) -> Result<String, Fail> {
     let mut missed = String::new(alloc);
     for (rest, kind, place) in FAULTS {
         let text = format!(in alloc; "{HEAD}{rest}")?;
-        if tree_of(alloc, &text)?.err() != Some(TreeError::At { kind, place }) {
+        if !has_fault(alloc, &text, kind, place)? {
             missed.push_str(rest)?;
         }
     }
     for (text, kind, place) in BEGINNINGS {
-        if tree_of(alloc, text)?.err() != Some(TreeError::At { kind, place }) {
+        if !has_fault(alloc, text, kind, place)? {
             missed.push_str(text)?;
         }
     }
@@ -69,7 +91,7 @@ fn nested(alloc: Global, levels: usize) -> Result<String, Fail> {
 
 /// The place of the root of a text's tree, and the number of its arguments.
 fn root_of(alloc: Global, text: &str) -> Result<(u64, usize), Fail> {
-    let tree = tree_of(alloc, text)?.ok().ok_or("no tree")?;
+    let tree = made_of(alloc, text)?.ok().ok_or("no tree")?;
     let root = tree.root();
     match tree.shape(root) {
         Shape::Form(arguments) => Ok((tree.place(root), arguments.len())),

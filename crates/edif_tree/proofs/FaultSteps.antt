@@ -6,9 +6,7 @@ use Rattle.spelling_spec.specs.declared.token.Token.{Token}
 use Rattle.spelling_spec.specs.declared.token.TokenKind.{TokenKind}
 use Rattle.spelling_spec.specs.declared.token.TokenKind.TheVariants.{LeftParen, RightParen, Word, Integer, String}
 use Rattle.spelling_spec.specs.declared.tree_fault.TreeKind.TheVariants.{NotForm, ExtraClose, TooDeep, Trailing, Unended}
-use Rattle.edif_tree.specs.Making.{IsToken, token_of, fault_from}
-use Rattle.edif_tree.specs.declared.node.NodeKind.{NodeKind}
-use Rattle.edif_tree.specs.declared.node.NodeKind.TheVariants as kinds
+use Rattle.edif_tree.specs.Making.{IsLeaf, fault_from}
 
 -- the faults of what follows one more token
 pub next_fault : (ts : List Token) (token : Token) (F : List Token → ℕ → Option TreeFault) → ((rest : List Token) (end : ℕ) → tree_fault (ts ++ rest) end ≡ F rest end)
@@ -20,13 +18,14 @@ unfolding tree_fault fault_within
 left_next zero place rest end l = refl
 left_next (suc outer) place rest end l = cond-true (ltb (suc outer) 256) (fault_within (suc (suc outer)) rest end) (fault_at TooDeep place) (lt-ltb (suc outer) 256 l)
 
-pub token_next : (opened place : ℕ) (kind : NodeKind) (rest : List Token) (end : ℕ) → IsToken kind → 0 < opened → fault_from opened (token_at (token_of kind) place ∷ rest) end ≡ fault_from opened rest end
+pub token_next : (opened place : ℕ) (kind : TokenKind) (rest : List Token) (end : ℕ) → IsLeaf kind → 0 < opened → fault_from opened (token_at kind place ∷ rest) end ≡ fault_from opened rest end
 unfolding fault_within
 token_next zero place kind rest end h l = absurd (omega arith)
-token_next (suc outer) place (kinds.Form first last) rest end h l = absurd h
-token_next (suc outer) place (kinds.Word x) rest end h l = refl
-token_next (suc outer) place (kinds.Integer x) rest end h l = refl
-token_next (suc outer) place (kinds.String x) rest end h l = refl
+token_next (suc outer) place LeftParen rest end h l = absurd h
+token_next (suc outer) place RightParen rest end h l = absurd h
+token_next (suc outer) place (Word x) rest end h l = refl
+token_next (suc outer) place (Integer x) rest end h l = refl
+token_next (suc outer) place (String x) rest end h l = refl
 
 pub right_next : (outer place : ℕ) (rest : List Token) (end : ℕ) → fault_from (suc outer) (token_at RightParen place ∷ rest) end ≡ fault_within outer rest end
 unfolding fault_within

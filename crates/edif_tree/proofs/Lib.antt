@@ -1,4 +1,5 @@
 pub mod FaultSteps
+pub mod MakerLemmas
 pub mod MakingLemmas
 pub mod NodeLemmas
 pub mod OneTree

@@ -6,14 +6,13 @@ use Rattle.std.proofs.lemmas.List.{take_rest}
 use Rattle.spelling_spec.specs.Tree.{Placed, Trees, Form', Word', Integer', String', End, More}
 use Rattle.spelling_spec.specs.TreeFaults.{token_at, Lists, ListsAll, tree_fault}
 use Rattle.spelling_spec.specs.declared.token.Token.{Token}
-use Rattle.spelling_spec.specs.declared.token.TokenKind.TheVariants.{LeftParen, RightParen}
-use Rattle.edif_tree.specs.Nodes.{FormOf, Row, row_of, IsAt, AreAt}
-use Rattle.edif_tree.specs.Making.{IsToken, token_of, Level, InForms, fault_from, HasRead, CanCome}
+use Rattle.spelling_spec.specs.declared.token.TokenKind.{TokenKind}
+use Rattle.spelling_spec.specs.declared.token.TokenKind.TheVariants.{LeftParen, RightParen, Word, Integer, String}
+use Rattle.edif_tree.specs.Nodes.{FormOf, Row, IsAt, AreAt}
+use Rattle.edif_tree.specs.Making.{IsLeaf, leaf_of, Level, InForms, fault_from, HasRead, CanCome}
 use Rattle.edif_tree.specs.declared.node.NodeId.{NodeId}
-use Rattle.edif_tree.specs.declared.node.NodeKind.{NodeKind}
-use Rattle.edif_tree.specs.declared.node.NodeKind.TheVariants as kinds
-use Rattle.edif_tree.specs.declared.tree_maker.OpenForm.{OpenForm}
-use Rattle.edif_tree.specs.declared.tree_maker.TreeMaker.{TreeMaker}
+use Rattle.edif_tree.specs.declared.making.OpenForm.{OpenForm}
+use Rattle.edif_tree.specs.declared.making.Making.{Making}
 use Rattle.edif_tree.proofs.FaultSteps.{next_fault, left_next, token_next, right_next}
 
 -- rows stay at their places
@@ -148,7 +147,7 @@ none_loose forms loose id can f l =
     let one = ap length l in omega arith
 
 -- a `(` was read
-pub read_left : (old new : TreeMaker) (place : ℕ) (ts : List Token) → CanCome LeftParen old → new.nodes ≡ old.nodes
+pub read_left : (old new : Making) (place : ℕ) (ts : List Token) → CanCome LeftParen old → new.nodes ≡ old.nodes
     → new.forms.items ≡ old.forms.items ++ record { place = place; start = length old.loose.items } ∷ [] → new.loose.items ≡ old.loose.items
     → HasRead old ts → HasRead new (ts ++ token_at LeftParen place ∷ [])
 read_left old new place ts can rows forms loose h = ⊎_elim
@@ -169,25 +168,26 @@ read_left old new place ts can rows forms loose h = ⊎_elim
     h
 
 -- a token of the innermost form was read
-token_lists : (place : ℕ) (kind : NodeKind) → IsToken kind → (t : Placed) × Lists (token_at (token_of kind) place ∷ []) t × ((rows : List Row) (id : NodeId) → slice_get rows id.0 ≡ Some (row_of [] (record { place = place; kind = kind })) → IsAt rows id t)
-token_lists place (kinds.Form first end) h = absurd h
-token_lists place (kinds.Word x) h = (Word' place x, refl, (λ rows id e. e))
-token_lists place (kinds.Integer x) h = (Integer' place x, refl, (λ rows id e. e))
-token_lists place (kinds.String x) h = (String' place x, refl, (λ rows id e. e))
+token_lists : (place : ℕ) (kind : TokenKind) → IsLeaf kind → (t : Placed) × Lists (token_at kind place ∷ []) t × ((rows : List Row) (id : NodeId) → slice_get rows id.0 ≡ Some (record { place = place; shape = leaf_of kind }) → IsAt rows id t)
+token_lists place LeftParen h = absurd h
+token_lists place RightParen h = absurd h
+token_lists place (Word x) h = (Word' place x, refl, (λ rows id e. e))
+token_lists place (Integer x) h = (Integer' place x, refl, (λ rows id e. e))
+token_lists place (String x) h = (String' place x, refl, (λ rows id e. e))
 
 token_added : (levels : List Level) (rows : List Row) (forms : List OpenForm) (loose : List NodeId) (read : List Token) (id : NodeId) (t : Placed) (b : List Token) → 0 < length forms → InForms rows levels forms loose read → IsAt rows id t → Lists b t
     → (after : List Level) × InForms rows after forms (loose ++ id ∷ []) (read ++ b) × (length after ≡ length levels) × (0 < length levels)
 token_added [] rows forms loose read id t b l h at k = (let none = ap length h.0 in absurd (omega arith))
 token_added (level ∷ levels) rows forms loose read id t b l h at k = (record { place = level.place; arguments = with_last level.arguments t } ∷ levels, added level levels rows forms loose read id t b h at k, refl, omega arith)
 
-pub read_token : (old new : TreeMaker) (place : ℕ) (kind : NodeKind) (id : NodeId) (ts : List Token) → IsToken kind → 0 < length old.forms.items → id.0 ≡ length old.nodes
-    → new.nodes ≡ old.nodes ++ row_of [] (record { place = place; kind = kind }) ∷ [] → new.forms.items ≡ old.forms.items → new.loose.items ≡ old.loose.items ++ id ∷ []
-    → HasRead old ts → HasRead new (ts ++ token_at (token_of kind) place ∷ [])
+pub read_token : (old new : Making) (place : ℕ) (kind : TokenKind) (id : NodeId) (ts : List Token) → IsLeaf kind → 0 < length old.forms.items → id.0 ≡ length old.nodes
+    → new.nodes ≡ old.nodes ++ record { place = place; shape = leaf_of kind } ∷ [] → new.forms.items ≡ old.forms.items → new.loose.items ≡ old.loose.items ++ id ∷ []
+    → HasRead old ts → HasRead new (ts ++ token_at kind place ∷ [])
 read_token old new place kind id ts token some at rows forms loose h = ⊎_elim
     (λ o.
-    let row : Row = row_of [] (record { place = place; kind = kind }) in
+    let row : Row = record { place = place; shape = leaf_of kind } in
     let t = token_lists place kind token in
-    let tok : Token = token_at (token_of kind) place in
+    let tok : Token = token_at kind place in
     let more = forms_stay o.levels old.nodes (row ∷ []) old.forms.items old.loose.items ts o.forms in
     let next = token_added o.levels (old.nodes ++ row ∷ []) old.forms.items old.loose.items ts id t.0 (tok ∷ []) some more (t.2 (old.nodes ++ row ∷ []) id (row_last old.nodes row id.0 at)) t.1 in
     let R : List Row → Type 0 = λ r. InForms r next.0 new.forms.items new.loose.items (ts ++ tok ∷ []) in
@@ -229,7 +229,7 @@ closed_read : (read before inner : List Token) (place end : ℕ) → read ≡ be
 closed_read read before inner place end e = ap (λ v. v ++ token_at RightParen end ∷ []) e ∙ append_assoc before (token_at LeftParen place ∷ inner) (token_at RightParen end ∷ [])
 
 -- the maker after a `)`
-closed : (level : Level) (levels : List Level) (old new : TreeMaker) (id : NodeId) (end : ℕ) (ts : List Token) (h : InForms old.nodes (level ∷ levels) old.forms.items old.loose.items ts) → id.0 ≡ length old.nodes
+closed : (level : Level) (levels : List Level) (old new : Making) (id : NodeId) (end : ℕ) (ts : List Token) (h : InForms old.nodes (level ∷ levels) old.forms.items old.loose.items ts) → id.0 ≡ length old.nodes
     → new.nodes ≡ old.nodes ++ record { place = level.place; shape = FormOf h.inside } ∷ [] → new.forms.items ≡ h.outer → new.loose.items ≡ h.others ++ id ∷ []
     → ((rest : List Token) (e : ℕ) → tree_fault (ts ++ rest) e ≡ fault_from (suc (length levels)) rest e) → HasRead new (ts ++ token_at RightParen end ∷ [])
 closed level [] old new id end ts h at rows forms loose faults =
@@ -267,7 +267,7 @@ closed level (above ∷ levels) old new id end ts h at rows forms loose faults =
       faults = λ rest e. next_fault ts tok (fault_from (suc (suc (length levels)))) faults rest e ∙ right_next (suc (length levels)) end rest e;
     })
 
-closed_from : (levels : List Level) (old new : TreeMaker) (front : List OpenForm) (form : OpenForm) (id : NodeId) (end : ℕ) (ts : List Token) → InForms old.nodes levels old.forms.items old.loose.items ts → old.forms.items ≡ front ++ form ∷ [] → id.0 ≡ length old.nodes
+closed_from : (levels : List Level) (old new : Making) (front : List OpenForm) (form : OpenForm) (id : NodeId) (end : ℕ) (ts : List Token) → InForms old.nodes levels old.forms.items old.loose.items ts → old.forms.items ≡ front ++ form ∷ [] → id.0 ≡ length old.nodes
     → new.nodes ≡ old.nodes ++ record { place = form.place; shape = FormOf (drop form.start old.loose.items) } ∷ [] → new.forms.items ≡ front → new.loose.items ≡ take form.start old.loose.items ++ id ∷ []
     → ((rest : List Token) (e : ℕ) → tree_fault (ts ++ rest) e ≡ fault_from (length levels) rest e) → HasRead new (ts ++ token_at RightParen end ∷ [])
 closed_from [] old new front form id end ts h e at rows forms loose faults = absurd (last_not_empty front old.forms.items form h.0 e)
@@ -278,7 +278,7 @@ closed_from (level ∷ levels) old new front form id end ts h e at rows forms lo
     ap (λ p. let r : Row = record { place = p; shape = FormOf (drop form.start old.loose.items) } in r) (sym parts.1) ∙ ap (λ l. let r : Row = record { place = level.place; shape = FormOf l } in r) parts.4 in
     closed level levels old new id end ts h at (rows ∙ ap (λ r. old.nodes ++ r ∷ []) same) (forms ∙ sym parts.0) (loose ∙ ap (λ l. l ++ id ∷ []) parts.3) faults
 
-pub read_right : (old new : TreeMaker) (front : List OpenForm) (form : OpenForm) (id : NodeId) (end : ℕ) (ts : List Token) → old.forms.items ≡ front ++ form ∷ [] → id.0 ≡ length old.nodes
+pub read_right : (old new : Making) (front : List OpenForm) (form : OpenForm) (id : NodeId) (end : ℕ) (ts : List Token) → old.forms.items ≡ front ++ form ∷ [] → id.0 ≡ length old.nodes
     → new.nodes ≡ old.nodes ++ record { place = form.place; shape = FormOf (drop form.start old.loose.items) } ∷ [] → new.forms.items ≡ front → new.loose.items ≡ take form.start old.loose.items ++ id ∷ []
     → HasRead old ts → HasRead new (ts ++ token_at RightParen end ∷ [])
 read_right old new front form id end ts e at rows forms loose h = ⊎_elim
@@ -295,7 +295,7 @@ start_within (level ∷ levels) rows forms front form loose read h e =
     let whole = ap length h.nodes in
     omega (arith, length-append h.others h.inside)
 
-pub can_cut : (maker : TreeMaker) (front : List OpenForm) (form : OpenForm) (ts : List Token) → HasRead maker ts → maker.forms.items ≡ front ++ form ∷ [] → form.start ≤ length maker.loose.items
+pub can_cut : (maker : Making) (front : List OpenForm) (form : OpenForm) (ts : List Token) → HasRead maker ts → maker.forms.items ≡ front ++ form ∷ [] → form.start ≤ length maker.loose.items
 can_cut maker front form ts h e = ⊎_elim
     (λ o. start_within o.levels maker.nodes maker.forms.items front form maker.loose.items ts o.forms e)
     (λ k. absurd (last_not_empty front maker.forms.items form k.forms e))

@@ -1,13 +1,15 @@
 -- Facts on the nodes of a list.
-use Rattle.std.proofs.Common.{◌≡◌, ℕ, ℤ, Bor, zero, suc, ◌-◌, ◌<◌, ◌≤◌, List, [], ◌∷◌, ◌++◌, length, map, take, drop, Some, refl, sym, ap, ◌∙◌, subst, arith, length-drop, length-append, get_or}
-use Rattle.std.specs.Prelude.{slice_get, option_map, FitsSigned}
+use Rattle.std.proofs.Common.{◌≡◌, ℕ, ℤ, pos, Bor, Bool, true, false, if◌then◌else◌, nat_eq, zero, suc, ◌-◌, ◌<◌, ◌≤◌, List, [], ◌∷◌, ◌++◌, length, map, take, drop, Some, refl, sym, ap, ◌∙◌, subst, arith, append-nil, length-drop, length-append, get_or, Result, Ok, Err}
 use Rattle.std.specs.Int.{w64}
-use Rattle.std.specs.List.{slice_range}
-use Rattle.std.proofs.lemmas.List.{take-append-le, drop-append-le, map-append, length-map}
+use Rattle.std.specs.Prelude.{FitsSigned, slice_get, option_map, IfOk, OnOk, OnErr}
+use Rattle.netlist_schema.specs.declared.memory.NoMemory.{NoMemory}
+use Rattle.std.specs.List.{list_any, slice_range}
+use Rattle.std.specs.Cmp.Lexicographic.{pointwise, same_text}
+use Rattle.std.proofs.lemmas.List.{take-append-le, drop-append-le, map-append, length-map, get_or_append_left}
 use Rattle.std.proofs.lemmas.Option.{slice_get_within, slice_get-map, slice_get_read}
+use Rattle.indexmap.specs.IndexSet.{insert_key}
 use Rattle.spelling_spec.specs.Tree.{Placed, Trees, Form', Word', Integer', String', End, More}
-use Rattle.edif_tree.specs.Nodes.{FormOf, WordOf, StringOf, Row, shape_of, row_of, IsWithin, AreWithin, IsAt, AreAt, IsNode, place_of, ShapeIs, seen}
-use Rattle.edif_tree.specs.Making.{IsToken}
+use Rattle.edif_tree.specs.Nodes.{FormOf, WordOf, IntegerOf, StringOf, Seen, Row, Stores, shape_of, row_of, IsWithin, AreWithin, IsAt, AreAt, IsNode, place_of, ShapeIs, seen}
 use Rattle.edif_tree.specs.declared.node.NodeId.{NodeId}
 use Rattle.edif_tree.specs.declared.node.Node.{Node}
 use Rattle.edif_tree.specs.declared.node.NodeKind.{NodeKind}
@@ -62,62 +64,115 @@ shape_read rows id (Integer' p x) (shapes.Word a) e h = (let both = sym e ∙ ap
 shape_read rows id (Integer' p x) (shapes.String a) e h = (let both = sym e ∙ ap (option_map (λ (r : Row). r.shape)) h in absurd (cc both))
 shape_read rows id (String' p x) s e h = string_read rows s p x (sym e ∙ ap (option_map (λ (r : Row). r.shape)) h)
 
--- arguments lie within a longer list too
-within_more : (n m : ℕ) (kind : NodeKind) → n ≤ m → IsWithin n kind → IsWithin m kind
-within_more n m (kinds.Form first end) l h = (let a = h.0 in let b = h.1 in (omega arith, omega arith))
-within_more n m (kinds.Word x) l h = tt
-within_more n m (kinds.Integer x) l h = h
-within_more n m (kinds.String x) l h = tt
+-- each of the lists goes on
+pub record Grow (old new : Stores) : Type 0 where
+  pub arguments : (more : List NodeId) × (new.arguments ≡ old.arguments ++ more)
+  pub words : (more : List (List ℕ)) × (new.words ≡ old.words ++ more)
+  pub integers : (more : List ℤ) × (new.integers ≡ old.integers ++ more)
+  pub strings : (more : List (List ℕ)) × (new.strings ≡ old.strings ++ more)
 
-pub are_within_more : (n m : ℕ) (nodes : List Node) → n ≤ m → AreWithin n nodes → AreWithin m nodes
-are_within_more n m [] l h = tt
-are_within_more n m (node ∷ nodes) l h = (within_more n m node.kind l h.0, are_within_more n m nodes l h.1)
+module _ {A : Type 0} where
+  -- a list that goes on is as long
+  pub longer : (xs ys more : List A) → ys ≡ xs ++ more → length xs ≤ length ys
+  longer xs ys more e = (let count = length-append xs more in let same = ap length e in omega arith)
 
-pub are_within_push : (n : ℕ) (nodes : List Node) (node : Node) → AreWithin n nodes → IsWithin n node.kind → AreWithin n (nodes ++ node ∷ [])
-are_within_push n [] node h k = (k, tt)
-are_within_push n (first ∷ nodes) node h k = (h.0, are_within_push n nodes node h.1 k)
+  -- what is read of a list that goes on
+  read_more : (d : A) (xs ys more : List A) (i : ℕ) → ys ≡ xs ++ more → i < length xs → get_or ys i d ≡ get_or xs i d
+  read_more d xs ys more i e l = ap (λ v. get_or v i d) e ∙ get_or_append_left xs more d i l
 
-pub token_within : (n : ℕ) (kind : NodeKind) → IsToken kind → IsWithin n kind
-token_within n (kinds.Form first end) h = absurd h
-token_within n (kinds.Word x) h = tt
-token_within n (kinds.Integer x) h = h
-token_within n (kinds.String x) h = tt
+  -- what is read within a list does not go by the default
+  pub read_within : (d x : A) (xs : List A) (i : ℕ) → i < length xs → get_or xs i x ≡ get_or xs i d
+  read_within d x [] i l = absurd (omega arith)
+  read_within d x (y ∷ ys) zero l = refl
+  read_within d x (y ∷ ys) (suc i) l = read_within d x ys i (omega arith)
 
-pub token_shape : (arguments : List NodeId) (kind : NodeKind) → IsToken kind → shape_of arguments kind ≡ shape_of [] kind
-token_shape arguments (kinds.Form first end) h = absurd h
-token_shape arguments (kinds.Word x) h = refl
-token_shape arguments (kinds.Integer x) h = refl
-token_shape arguments (kinds.String x) h = refl
+  -- what is got is read
+  pub read_got : (d x : A) (xs : List A) (i : ℕ) → slice_get xs i ≡ Some x → get_or xs i d ≡ x
+  read_got d x [] i e = absurd (cc e)
+  read_got d x (y ∷ ys) zero e = cc e
+  read_got d x (y ∷ ys) (suc i) e = read_got d x ys i e
 
-pub within_at : (n : ℕ) (nodes : List Node) (i : ℕ) (x : Node) → i < length nodes → AreWithin n nodes → IsWithin n (get_or nodes i x).kind
-within_at n [] i x l h = absurd (omega arith)
-within_at n (node ∷ nodes) zero x l h = h.0
-within_at n (node ∷ nodes) (suc i) x l h = within_at n nodes i x (omega arith) h.1
+  -- the last of a list is read
+  pub read_last : (d x : A) (xs ys : List A) (i : ℕ) → ys ≡ xs ++ x ∷ [] → i ≡ length xs → (i < length ys) × (get_or ys i d ≡ x)
+  read_last d x xs ys i e at = (let count = length-append xs (x ∷ []) in let same = ap length e in omega arith, ap (λ v. get_or v i d) e ∙ ap (λ n. get_or (xs ++ x ∷ []) n d) at ∙ last xs)
+    where
+      last : (zs : List A) → get_or (zs ++ x ∷ []) (length zs) d ≡ x
+      last [] = refl
+      last (z ∷ zs) = last zs
 
-pub form_within : (n : ℕ) (kind : NodeKind) (first end : ℕ) → kind ≡ kinds.Form first end → IsWithin n kind → (first ≤ end) × (end ≤ n)
-form_within n kind first end e h = (let P : NodeKind → Type 0 = IsWithin n in subst P e h)
-
--- rows stay where the list of arguments grows
-pub range_more : (xs ys : List NodeId) (first end : ℕ) → first ≤ end → end ≤ length xs → slice_range (xs ++ ys) first end ≡ slice_range xs first end
+-- the arguments of a form stay
+range_more : (xs ys : List NodeId) (first end : ℕ) → first ≤ end → end ≤ length xs → slice_range (xs ++ ys) first end ≡ slice_range xs first end
 range_more xs ys first end l m =
     let start : first ≤ length xs = omega arith in
     let long : end - first ≤ length (drop first xs) = omega (arith, length-drop first xs) in
     ap (take (end - first)) (drop-append-le first xs ys start) ∙ take-append-le (end - first) (drop first xs) ys long
 
-shape_more : (xs ys : List NodeId) (kind : NodeKind) → IsWithin (length xs) kind → shape_of (xs ++ ys) kind ≡ shape_of xs kind
-shape_more xs ys (kinds.Form first end) h = ap FormOf (range_more xs ys first end h.0 h.1)
-shape_more xs ys (kinds.Word x) h = refl
-shape_more xs ys (kinds.Integer x) h = refl
-shape_more xs ys (kinds.String x) h = refl
+-- what a node names stays within lists that go on, and stays the same
+within_more : (s t : Stores) (kind : NodeKind) → Grow s t → IsWithin s kind → IsWithin t kind
+within_more s t (kinds.Form first end) g h = (let a = h.0 in let b = h.1 in let c = longer s.arguments t.arguments g.arguments.0 g.arguments.1 in (omega arith, omega arith))
+within_more s t (kinds.Word i) g h = (let c = longer s.words t.words g.words.0 g.words.1 in omega arith)
+within_more s t (kinds.Integer i) g h =
+    let c = longer s.integers t.integers g.integers.0 g.integers.1 in
+    let l = h.0 in
+    let F : ℤ → Type 0 = FitsSigned w64 in
+    (omega arith, subst F (sym (read_more (pos 0) s.integers t.integers g.integers.0 i g.integers.1 l)) h.1)
+within_more s t (kinds.String i) g h = (let c = longer s.strings t.strings g.strings.0 g.strings.1 in omega arith)
 
-pub rows_more : (xs ys : List NodeId) (nodes : List Node) → AreWithin (length xs) nodes → map (row_of (xs ++ ys)) nodes ≡ map (row_of xs) nodes
-rows_more xs ys [] h = refl
-rows_more xs ys (node ∷ nodes) h =
-    let row : row_of (xs ++ ys) node ≡ row_of xs node = ap (λ s. let r : Row = record { place = node.place; shape = s } in r) (shape_more xs ys node.kind h.0) in
-    ap (λ v. v ∷ map (row_of (xs ++ ys)) nodes) row ∙ ap (λ v. row_of xs node ∷ v) (rows_more xs ys nodes h.1)
+pub are_within_more : (s t : Stores) (nodes : List Node) → Grow s t → AreWithin s nodes → AreWithin t nodes
+are_within_more s t [] g h = tt
+are_within_more s t (node ∷ nodes) g h = (within_more s t node.kind g h.0, are_within_more s t nodes g h.1)
+
+shape_more : (s t : Stores) (kind : NodeKind) → Grow s t → IsWithin s kind → shape_of t kind ≡ shape_of s kind
+shape_more s t (kinds.Form first end) g h = ap (λ v. FormOf (slice_range v first end)) g.arguments.1 ∙ ap FormOf (range_more s.arguments g.arguments.0 first end h.0 h.1)
+shape_more s t (kinds.Word i) g h = ap WordOf (read_more [] s.words t.words g.words.0 i g.words.1 h)
+shape_more s t (kinds.Integer i) g h = ap IntegerOf (read_more (pos 0) s.integers t.integers g.integers.0 i g.integers.1 h.0)
+shape_more s t (kinds.String i) g h = ap StringOf (read_more [] s.strings t.strings g.strings.0 i g.strings.1 h)
+
+rows_more : (s t : Stores) (nodes : List Node) → Grow s t → AreWithin s nodes → map (row_of t) nodes ≡ map (row_of s) nodes
+rows_more s t [] g h = refl
+rows_more s t (node ∷ nodes) g h =
+    let row : row_of t node ≡ row_of s node = ap (λ v. let r : Row = record { place = node.place; shape = v } in r) (shape_more s t node.kind g h.0) in
+    ap (λ v. v ∷ map (row_of t) nodes) row ∙ ap (λ v. row_of s node ∷ v) (rows_more s t nodes g h.1)
+
+are_within_push : (s : Stores) (nodes : List Node) (node : Node) → AreWithin s nodes → IsWithin s node.kind → AreWithin s (nodes ++ node ∷ [])
+are_within_push s [] node h k = (k, tt)
+are_within_push s (first ∷ nodes) node h k = (h.0, are_within_push s nodes node h.1 k)
+
+-- a node behind the others, where the lists went on
+pub node_pushed : (s t : Stores) (nodes all : List Node) (node : Node) (shape : Seen) → Grow s t → all ≡ nodes ++ node ∷ [] → IsWithin t node.kind → shape_of t node.kind ≡ shape → AreWithin s nodes
+    → AreWithin t all × (map (row_of t) all ≡ map (row_of s) nodes ++ record { place = node.place; shape = shape } ∷ [])
+node_pushed s t nodes all node shape g pushed within is h =
+    let W : List Node → Type 0 = AreWithin t in (
+      subst W (sym pushed) (are_within_push t nodes node (are_within_more s t nodes g h) within),
+      ap (map (row_of t)) pushed ∙ map-append (row_of t) nodes (node ∷ [])
+          ∙ ap (λ v. v ++ row_of t node ∷ []) (rows_more s t nodes g h)
+          ∙ ap (λ v. map (row_of s) nodes ++ record { place = node.place; shape = v } ∷ []) is,
+    )
+
+-- what an answer says of a node behind the others
+pub record Added (t : Stores) (all : List Node) (rows : List Row) (row : Row) (result : Result NodeId NoMemory) : Type 0 where
+  pub within : AreWithin t all
+  pub ok : IfOk result (λ id. (id.0 ≡ length rows) × (map (row_of t) all ≡ rows ++ row ∷ []))
+
+pub added : (s t : Stores) (nodes all : List Node) (rows : List Row) (place : ℕ) (kind : NodeKind) (shape : Seen) (result : Result NodeId NoMemory) → map (row_of s) nodes ≡ rows → AreWithin s nodes → Grow s t → IsWithin t kind → shape_of t kind ≡ shape
+    → IfOk result (λ id. id.0 ≡ length nodes) → OnOk result (all ≡ nodes ++ record { place = place; kind = kind } ∷ []) → OnErr result (all ≡ nodes) → Added t all rows (record { place = place; shape = shape }) result
+added s t nodes all rows place kind shape (Ok id) view h g within is at pushed same =
+    let node : Node = record { place = place; kind = kind } in
+    let done = node_pushed s t nodes all node shape g pushed within is h in
+    record {
+      within = done.0;
+      ok = (at ∙ sym (length-map nodes (row_of s)) ∙ ap length view, done.1 ∙ ap (λ v. v ++ record { place = place; shape = shape } ∷ []) view);
+    }
+added s t nodes all rows place kind shape (Err e) view h g within is at pushed same =
+    let W : List Node → Type 0 = AreWithin t in
+    record { within = subst W (sym same) (are_within_more s t nodes g h); ok = tt }
+
+-- a list that stays goes on
+pub stays : {A : Type 0} (xs : List A) → (more : List A) × (xs ≡ xs ++ more)
+stays xs = ([], sym (append-nil xs))
 
 -- what stands behind a list, in the whole
-pub range_behind : (xs ys : List NodeId) → slice_range (xs ++ ys) (length xs) (length (xs ++ ys)) ≡ ys
+range_behind : (xs ys : List NodeId) → slice_range (xs ++ ys) (length xs) (length (xs ++ ys)) ≡ ys
 range_behind xs ys =
     let behind : drop (length xs) (xs ++ ys) ≡ ys = dropped xs in
     let count : length (xs ++ ys) - length xs ≡ length ys = omega (arith, length-append xs ys) in
@@ -131,49 +186,51 @@ range_behind xs ys =
     take_whole [] = refl
     take_whole (y ∷ ys) = ap (λ v. y ∷ v) (take_whole ys)
 
--- what is read of a node in the list
-at_node : (arguments : List NodeId) (nodes : List Node) (i : ℕ) (x : Node) → i < length nodes → x ≡ get_or nodes i x → slice_get (map (row_of arguments) nodes) i ≡ Some (row_of arguments x)
-at_node arguments nodes i x l e = slice_get-map (row_of arguments) nodes i ∙ ap (option_map (row_of arguments)) (slice_get_read nodes (length nodes) i x refl l e)
-
-pub shape_at : (arguments : List NodeId) (nodes : List Node) (rows : List Row) (i : ℕ) (x : Node) (kind : NodeKind) → map (row_of arguments) nodes ≡ rows → i < length rows → x ≡ get_or nodes i x → x.kind ≡ kind
-    → option_map (λ (r : Row). r.shape) (slice_get rows i) ≡ Some (shape_of arguments kind)
-shape_at arguments nodes rows i x kind view l e k =
-    let count : i < length nodes = (let same = ap length view in omega (arith, length-map nodes (row_of arguments))) in
-    ap (λ v. option_map (λ (r : Row). r.shape) (slice_get v i)) (sym view)
-    ∙ (ap (option_map (λ (r : Row). r.shape)) (at_node arguments nodes i x count e) ∙ ap (λ v. Some (shape_of arguments v)) k)
-
-pub node_within : (arguments : List NodeId) (nodes : List Node) (rows : List Row) (i : ℕ) (x : Node) (first end : ℕ) → map (row_of arguments) nodes ≡ rows → i < length rows → x ≡ get_or nodes i x → x.kind ≡ kinds.Form first end
-    → AreWithin (length arguments) nodes → (first ≤ end) × (end ≤ length arguments)
-node_within arguments nodes rows i x first end view l e k h =
-    let count : i < length nodes = (let same = ap length view in omega (arith, length-map nodes (row_of arguments))) in
-    form_within (length arguments) (get_or nodes i x).kind first end (ap (λ n. n.kind) (sym e) ∙ k) (within_at (length arguments) nodes i x count h)
-
--- a form's node behind the others
-pub form_pushed : (arguments ids after : List NodeId) (nodes more : List Node) (place first end : ℕ) → after ≡ arguments ++ ids → more ≡ nodes ++ record { place = place; kind = kinds.Form first end } ∷ [] → first ≡ length arguments → end ≡ length after
-    → AreWithin (length arguments) nodes → AreWithin (length after) more × (map (row_of after) more ≡ map (row_of arguments) nodes ++ record { place = place; shape = FormOf ids } ∷ [])
-form_pushed arguments ids after nodes more place first end grown pushed start stop h =
-    let node : Node = record { place = place; kind = kinds.Form first end } in
-    let long = ap length grown in
-    let count = length-append arguments ids in
-    let room : length arguments ≤ length after = omega arith in
-    let W : List Node → Type 0 = AreWithin (length after) in
+-- the arguments that were put behind the others
+pub range_pushed : (xs ids ys : List NodeId) (first end : ℕ) → ys ≡ xs ++ ids → first ≡ length xs → end ≡ length ys → ((first ≤ end) × (end ≤ length ys)) × (slice_range ys first end ≡ ids)
+range_pushed xs ids ys first end grown start stop =
+    let c = longer xs ys ids grown in
     let order : first ≤ end = omega arith in
-    let within : end ≤ length after = omega arith in
-    let same : slice_range after first end ≡ ids =
-    ap (λ n. slice_range after n end) start ∙ (ap (λ n. slice_range after (length arguments) n) stop ∙ (ap (λ v. slice_range v (length arguments) (length v)) grown ∙ range_behind arguments ids)) in (
-      subst W (sym pushed) (are_within_push (length after) nodes node (are_within_more (length arguments) (length after) nodes room h) (order, within)),
-      ap (map (row_of after)) pushed ∙ (map-append (row_of after) nodes (node ∷ [])
-          ∙ (ap (λ v. v ++ row_of after node ∷ []) (ap (λ v. map (row_of v) nodes) grown ∙ rows_more arguments ids nodes h)
-          ∙ ap (λ s. map (row_of arguments) nodes ++ record { place = place; shape = FormOf s } ∷ []) same)),
-    )
+    let within : end ≤ length ys = omega arith in
+    ((order, within), ap (λ n. slice_range ys n end) start ∙ ap (λ n. slice_range ys (length xs) n) stop ∙ ap (λ v. slice_range v (length xs) (length v)) grown ∙ range_behind xs ids)
 
--- an integer that is kept is one of 64 bits
-pub integer_within : (arguments : List NodeId) (nodes : List Node) (rows : List Row) (i : ℕ) (x : Node) (value : ℤ) → map (row_of arguments) nodes ≡ rows → i < length rows → x ≡ get_or nodes i x → x.kind ≡ kinds.Integer value
-    → AreWithin (length arguments) nodes → FitsSigned w64 value
-integer_within arguments nodes rows i x value view l e k h =
-    let count : i < length nodes = (let same = ap length view in omega (arith, length-map nodes (row_of arguments))) in
-    let P : NodeKind → Type 0 = IsWithin (length arguments) in
-    subst P (ap (λ n. n.kind) (sym e) ∙ k) (within_at (length arguments) nodes i x count h)
+-- the words after one more, and where it stands
+pub words_grow : (name : List ℕ) (old new : List (List ℕ)) → new ≡ insert_key (pointwise nat_eq) old name → (more : List (List ℕ)) × (new ≡ old ++ more)
+words_grow name old new e = by (list_any (pointwise nat_eq name) old) refl
+  where
+    by : (b : Bool) → list_any (pointwise nat_eq name) old ≡ b → (more : List (List ℕ)) × (new ≡ old ++ more)
+    by true is = ([], e ∙ ap (λ b. if b then old else old ++ name ∷ []) is ∙ sym (append-nil old))
+    by false is = (name ∷ [], e ∙ ap (λ b. if b then old else old ++ name ∷ []) is)
+
+pub word_read_back : (name : List ℕ) (words : List (List ℕ)) (i j : ℕ) → j ≡ i → (k : List ℕ) × (slice_get words i ≡ Some k) × (pointwise nat_eq name k ≡ true) → (j < length words) × (get_or words j [] ≡ name)
+word_read_back name words i j same h =
+    let within = slice_get_within words i h.0 h.1 in
+    (omega arith, ap (λ n. get_or words n []) same ∙ read_got [] h.0 words i h.1 ∙ sym (same_text name h.0 (sym h.2)))
+
+-- what is read of a node in the list
+at_node : (s : Stores) (nodes : List Node) (i : ℕ) (x : Node) → i < length nodes → x ≡ get_or nodes i x → slice_get (map (row_of s) nodes) i ≡ Some (row_of s x)
+at_node s nodes i x l e = slice_get-map (row_of s) nodes i ∙ ap (option_map (row_of s)) (slice_get_read nodes (length nodes) i x refl l e)
+
+pub within_at : (s : Stores) (nodes : List Node) (i : ℕ) (x : Node) → i < length nodes → AreWithin s nodes → IsWithin s (get_or nodes i x).kind
+within_at s [] i x l h = absurd (omega arith)
+within_at s (node ∷ nodes) zero x l h = h.0
+within_at s (node ∷ nodes) (suc i) x l h = within_at s nodes i x (omega arith) h.1
+
+-- the node that is looked at: its place, its shape, and that what it names lies within the lists
+pub record Looked (s : Stores) (rows : List Row) (i : ℕ) (x : Node) (kind : NodeKind) : Type 0 where
+  pub place : option_map (λ (r : Row). r.place) (slice_get rows i) ≡ Some x.place
+  pub shape : option_map (λ (r : Row). r.shape) (slice_get rows i) ≡ Some (shape_of s kind)
+  pub within : IsWithin s kind
+
+pub looked : (s : Stores) (nodes : List Node) (rows : List Row) (i : ℕ) (x : Node) (kind : NodeKind) → map (row_of s) nodes ≡ rows → i < length rows → x ≡ get_or nodes i x → x.kind ≡ kind → AreWithin s nodes → Looked s rows i x kind
+looked s nodes rows i x kind view l e k h =
+    let count : i < length nodes = (let same = ap length view in omega (arith, length-map nodes (row_of s))) in
+    let W : NodeKind → Type 0 = IsWithin s in
+    record {
+      place = ap (λ v. option_map (λ (r : Row). r.place) (slice_get v i)) (sym view) ∙ ap (option_map (λ (r : Row). r.place)) (at_node s nodes i x count e);
+      shape = ap (λ v. option_map (λ (r : Row). r.shape) (slice_get v i)) (sym view) ∙ (ap (option_map (λ (r : Row). r.shape)) (at_node s nodes i x count e) ∙ ap (λ v. Some (shape_of s v)) k);
+      within = subst W (ap (λ n. n.kind) (sym e) ∙ k) (within_at s nodes i x count h);
+    }
 
 -- each argument of a form is a node
 pub argument_is_node : (rows : List Row) (ids : List NodeId) (ts : Trees ℕ) (i : ℕ) (d : NodeId) → i < length ids → AreAt rows ids ts → IsNode rows (get_or ids i d)

@@ -12,8 +12,8 @@ use Rattle.spelling_spec.proofs.PlacedListings.{one_placed}
 use Rattle.edif_tree.specs.Nodes.{Row, IsAt}
 use Rattle.edif_tree.specs.Making.{Level, InForms, HasRead, fault_from}
 use Rattle.edif_tree.specs.declared.node.NodeId.{NodeId}
-use Rattle.edif_tree.specs.declared.tree_maker.OpenForm.{OpenForm}
-use Rattle.edif_tree.specs.declared.tree_maker.TreeMaker.{TreeMaker}
+use Rattle.edif_tree.specs.declared.making.OpenForm.{OpenForm}
+use Rattle.edif_tree.specs.declared.making.Making.{Making}
 use Rattle.edif_tree.proofs.FaultSteps.{deep_fault, close_fault, trailing_fault, form_fault, end_fault, empty_fault, no_fault}
 use Rattle.edif_tree.proofs.MakingLemmas.{forms_count}
 
@@ -26,7 +26,7 @@ nothing_read (level ∷ levels) rows forms loose read l h = (let count = forms_c
 from_nothing : (levels : List Level) (ts rest : List Token) (end : ℕ) → levels ≡ [] → ((rest : List Token) (end : ℕ) → tree_fault (ts ++ rest) end ≡ fault_from (length levels) rest end) → tree_fault (ts ++ rest) end ≡ tree_fault rest end
 from_nothing levels ts rest end e faults = faults rest end ∙ ap (λ l. fault_from (length l) rest end) e
 
-pub deep_at : (maker : TreeMaker) (ts rest : List Token) (place end : ℕ) → 256 ≤ length maker.forms.items → HasRead maker ts → tree_fault (ts ++ token_at LeftParen place ∷ rest) end ≡ fault_at TooDeep place
+pub deep_at : (maker : Making) (ts rest : List Token) (place end : ℕ) → 256 ≤ length maker.forms.items → HasRead maker ts → tree_fault (ts ++ token_at LeftParen place ∷ rest) end ≡ fault_at TooDeep place
 deep_at maker ts rest place end l h = ⊎_elim
     (λ o.
     let count = forms_count o.levels maker.nodes maker.forms.items maker.loose.items ts o.forms in
@@ -35,7 +35,7 @@ deep_at maker ts rest place end l h = ⊎_elim
     (λ k. (let none = ap length k.forms in absurd (omega arith)))
     h
 
-pub close_at : (maker : TreeMaker) (ts rest : List Token) (place end : ℕ) → length maker.forms.items ≡ 0 → HasRead maker ts → tree_fault (ts ++ token_at RightParen place ∷ rest) end ≡ fault_at ExtraClose place
+pub close_at : (maker : Making) (ts rest : List Token) (place end : ℕ) → length maker.forms.items ≡ 0 → HasRead maker ts → tree_fault (ts ++ token_at RightParen place ∷ rest) end ≡ fault_at ExtraClose place
 close_at maker ts rest place end l h = ⊎_elim
     (λ o.
     let none = nothing_read o.levels maker.nodes maker.forms.items maker.loose.items ts l o.forms in
@@ -43,14 +43,14 @@ close_at maker ts rest place end l h = ⊎_elim
     (λ k. k.faults (token_at RightParen place ∷ rest) end ∙ (close_fault place rest end).1)
     h
 
-pub trailing_at : (maker : TreeMaker) (ts rest : List Token) (kind : TokenKind) (place end : ℕ) → length maker.forms.items ≡ 0 → 0 < length maker.loose.items → (kind ≡ RightParen → ⊥) → HasRead maker ts
+pub trailing_at : (maker : Making) (ts rest : List Token) (kind : TokenKind) (place end : ℕ) → length maker.forms.items ≡ 0 → 0 < length maker.loose.items → (kind ≡ RightParen → ⊥) → HasRead maker ts
     → tree_fault (ts ++ token_at kind place ∷ rest) end ≡ fault_at Trailing place
 trailing_at maker ts rest kind place end l some right h = ⊎_elim
     (λ o. (let none = nothing_read o.levels maker.nodes maker.forms.items maker.loose.items ts l o.forms in let empty = ap length none.1 in absurd (omega arith)))
     (λ k. k.faults (token_at kind place ∷ rest) end ∙ trailing_fault kind place rest end right)
     h
 
-pub form_at : (maker : TreeMaker) (ts rest : List Token) (kind : TokenKind) (place end : ℕ) → length maker.forms.items ≡ 0 → length maker.loose.items ≡ 0 → (kind ≡ LeftParen → ⊥) → (kind ≡ RightParen → ⊥) → HasRead maker ts
+pub form_at : (maker : Making) (ts rest : List Token) (kind : TokenKind) (place end : ℕ) → length maker.forms.items ≡ 0 → length maker.loose.items ≡ 0 → (kind ≡ LeftParen → ⊥) → (kind ≡ RightParen → ⊥) → HasRead maker ts
     → tree_fault (ts ++ token_at kind place ∷ rest) end ≡ fault_at NotForm place
 form_at maker ts rest kind place end l empty left right h = ⊎_elim
     (λ o.
@@ -67,13 +67,13 @@ open_end : (levels : List Level) (ts : List Token) (end : ℕ) → ((rest : List
 open_end [] ts end faults = whole ts end ∙ (faults [] end ∙ empty_fault end)
 open_end (level ∷ levels) ts end faults = whole ts end ∙ (faults [] end ∙ end_fault (length levels) end)
 
-pub ends_open : (maker : TreeMaker) (ts : List Token) (end : ℕ) → 0 < length maker.forms.items → HasRead maker ts → tree_fault ts end ≡ fault_at Unended end
+pub ends_open : (maker : Making) (ts : List Token) (end : ℕ) → 0 < length maker.forms.items → HasRead maker ts → tree_fault ts end ≡ fault_at Unended end
 ends_open maker ts end l h = ⊎_elim (λ o. open_end o.levels ts end o.faults) (λ k. (let none = ap length k.forms in absurd (omega arith))) h
 
-pub ends_empty : (maker : TreeMaker) (ts : List Token) (end : ℕ) → slice_get maker.loose.items 0 ≡ None → HasRead maker ts → tree_fault ts end ≡ fault_at Unended end
+pub ends_empty : (maker : Making) (ts : List Token) (end : ℕ) → slice_get maker.loose.items 0 ≡ None → HasRead maker ts → tree_fault ts end ≡ fault_at Unended end
 ends_empty maker ts end l h = ⊎_elim (λ o. open_end o.levels ts end o.faults) (λ k. (let one = ap (λ v. slice_get v 0) k.loose in let both = sym one ∙ l in absurd (cc both))) h
 
-pub ends_closed : (maker : TreeMaker) (ts : List Token) (end : ℕ) (root : NodeId) → length maker.forms.items ≡ 0 → slice_get maker.loose.items 0 ≡ Some root → HasRead maker ts
+pub ends_closed : (maker : Making) (ts : List Token) (end : ℕ) (root : NodeId) → length maker.forms.items ≡ 0 → slice_get maker.loose.items 0 ≡ Some root → HasRead maker ts
     → (tree_fault ts end ≡ None) × ((t : Placed) × IsAt maker.nodes root t × Lists ts t)
 ends_closed maker ts end root l e h = ⊎_elim
     (λ o.

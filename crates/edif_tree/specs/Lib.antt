@@ -1,3 +1,4 @@
+pub mod Maker
 pub mod Making
 pub mod Nodes
 pub mod TreeError

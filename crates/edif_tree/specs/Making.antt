@@ -1,31 +1,28 @@
 -- What stands in a tree that is being made, after some tokens.
-use Rattle.std.specs.Prelude.{◌≡◌, ◌<◌, ◌⊎◌, FitsSigned, ℕ, zero, suc, List, [], ◌∷◌, ◌++◌, length, Option}
-use Rattle.std.specs.Int.{w64}
+use Rattle.std.specs.Prelude.{◌≡◌, ◌<◌, ◌⊎◌, ℕ, zero, suc, List, [], ◌∷◌, ◌++◌, length, Option}
 use Rattle.spelling_spec.specs.Tree.{Placed, Trees}
 use Rattle.spelling_spec.specs.TreeFaults.{token_at, Lists, ListsAll, TreeFault, fault_within, tree_fault}
 use Rattle.spelling_spec.specs.declared.token.Token.{Token}
 use Rattle.spelling_spec.specs.declared.token.TokenKind.{TokenKind}
-use Rattle.spelling_spec.specs.declared.token.TokenKind.TheVariants.{LeftParen, Word, Integer, String}
+use Rattle.spelling_spec.specs.declared.token.TokenKind.TheVariants.{LeftParen, RightParen, Word, Integer, String}
 use Rattle.netlist_schema.specs.declared.limits.TheConstants.{MOST_LEVELS}
-use Rattle.edif_tree.specs.Nodes.{Row, IsAt, AreAt}
+use Rattle.edif_tree.specs.Nodes.{FormOf, IntegerOf, StringOf, WordOf, Seen, Row, IsAt, AreAt}
 use Rattle.edif_tree.specs.declared.node.NodeId.{NodeId}
-use Rattle.edif_tree.specs.declared.node.NodeKind.{NodeKind}
-use Rattle.edif_tree.specs.declared.node.NodeKind.TheVariants as kinds
-use Rattle.edif_tree.specs.declared.tree_maker.OpenForm.{OpenForm}
-use Rattle.edif_tree.specs.declared.tree_maker.TreeMaker.{TreeMaker}
+use Rattle.edif_tree.specs.declared.making.OpenForm.{OpenForm}
+use Rattle.edif_tree.specs.declared.making.Making.{Making}
 
--- a node of one token; an integer is within 64 bits
-abbrev pub IsToken : NodeKind → Type 0
-IsToken (kinds.Form first end) = ⊥
-IsToken (kinds.Integer value) = FitsSigned w64 value
-IsToken _ = Unit {0}
+-- a token of its own: a word, an integer or a string
+abbrev pub IsLeaf : TokenKind → Type 0
+IsLeaf LeftParen = ⊥
+IsLeaf RightParen = ⊥
+IsLeaf _ = Unit {0}
 
--- the token of such a node
-abbrev pub token_of : NodeKind → TokenKind
-token_of (kinds.Form first end) = LeftParen
-token_of (kinds.Word name) = Word name
-token_of (kinds.Integer value) = Integer value
-token_of (kinds.String value) = String value
+-- what is seen of the node of such a token
+abbrev pub leaf_of : TokenKind → Seen
+leaf_of (Word name) = WordOf name
+leaf_of (Integer value) = IntegerOf value
+leaf_of (String value) = StringOf value
+leaf_of _ = FormOf []
 
 -- an open form: the place of its `(`, and its arguments so far
 pub record Level : Type 0 where
@@ -58,13 +55,13 @@ fault_from zero tokens end = tree_fault tokens end
 fault_from (suc outer) tokens end = fault_within (suc outer) tokens end
 
 -- the file's form isn't closed
-pub record IsOpen (maker : TreeMaker) (read : List Token) : Type 0 where
+pub record IsOpen (maker : Making) (read : List Token) : Type 0 where
   pub levels : List Level
   pub forms : InForms maker.nodes levels maker.forms.items maker.loose.items read
   pub faults : (rest : List Token) (end : ℕ) → tree_fault (read ++ rest) end ≡ fault_from (length levels) rest end
 
 -- the file's form is closed
-pub record IsClosed (maker : TreeMaker) (read : List Token) : Type 0 where
+pub record IsClosed (maker : Making) (read : List Token) : Type 0 where
   pub id : NodeId
   pub tree : Placed
   pub forms : maker.forms.items ≡ []
@@ -74,10 +71,10 @@ pub record IsClosed (maker : TreeMaker) (read : List Token) : Type 0 where
   pub faults : (rest : List Token) (end : ℕ) → tree_fault (read ++ rest) end ≡ fault_within 0 rest end
 
 -- the maker has read these tokens, and they have no fault but that they may end too early
-abbrev pub HasRead : TreeMaker → List Token → Type 0
+abbrev pub HasRead : Making → List Token → Type 0
 HasRead maker read = IsOpen maker read ⊎ IsClosed maker read
 
 -- the token can come next
-abbrev pub CanCome : TokenKind → TreeMaker → Type 0
+abbrev pub CanCome : TokenKind → Making → Type 0
 CanCome LeftParen maker = (length maker.forms.items < MOST_LEVELS) × (length maker.forms.items ≡ 0 → length maker.loose.items ≡ 0)
 CanCome _ maker = 0 < length maker.forms.items

@@ -1,5 +1,5 @@
 -- Which tree stands at a node of a list of nodes.
-use Rattle.std.specs.Prelude.{◌≡◌, ◌≤◌, FitsSigned, ℕ, ℤ, List, [], ◌∷◌, Some, slice_get}
+use Rattle.std.specs.Prelude.{◌≡◌, ◌≤◌, ◌<◌, FitsSigned, ℕ, ℤ, pos, List, [], ◌∷◌, Some, get_or, length, slice_get}
 use Rattle.std.specs.Int.{w64}
 use Rattle.std.specs.List.{slice_range}
 use Rattle.spelling_spec.specs.Tree.{Placed, Trees, Form', Word', Integer', String', End, More}
@@ -27,25 +27,33 @@ pub record Table : Type 0 where
   pub rows : List Row
   pub root : NodeId
 
--- the shape where the arguments of all forms stand in one list
-abbrev pub shape_of : List NodeId → NodeKind → Seen
-shape_of arguments (kinds.Form first end) = FormOf (slice_range arguments first end)
-shape_of arguments (kinds.Word name) = WordOf name
-shape_of arguments (kinds.Integer value) = IntegerOf value
-shape_of arguments (kinds.String value) = StringOf value
+-- the lists beside the nodes: the arguments of all forms, and the words, integers and strings
+pub record Stores : Type 0 where
+  pub arguments : List NodeId
+  pub words : List (List ℕ)
+  pub integers : List ℤ
+  pub strings : List (List ℕ)
 
-abbrev pub row_of : List NodeId → Node → Row
-row_of arguments node = record { place = node.place; shape = shape_of arguments node.kind }
+-- the shape of a node, where these lists stand beside it
+abbrev pub shape_of : Stores → NodeKind → Seen
+shape_of lists (kinds.Form first end) = FormOf (slice_range lists.arguments first end)
+shape_of lists (kinds.Word at) = WordOf (get_or lists.words at [])
+shape_of lists (kinds.Integer at) = IntegerOf (get_or lists.integers at (pos 0))
+shape_of lists (kinds.String at) = StringOf (get_or lists.strings at [])
 
--- the arguments of a form lie within a list of this length, and an integer within 64 bits
-abbrev pub IsWithin : ℕ → NodeKind → Type 0
-IsWithin count (kinds.Form first end) = (first ≤ end) × (end ≤ count)
-IsWithin count (kinds.Integer value) = FitsSigned w64 value
-IsWithin count _ = Unit {0}
+abbrev pub row_of : Stores → Node → Row
+row_of lists node = record { place = node.place; shape = shape_of lists node.kind }
 
-abbrev pub AreWithin : ℕ → List Node → Type 0
-AreWithin count [] = Unit {0}
-AreWithin count (node ∷ nodes) = IsWithin count node.kind × AreWithin count nodes
+-- what a node names lies within these lists, and an integer within 64 bits
+abbrev pub IsWithin : Stores → NodeKind → Type 0
+IsWithin lists (kinds.Form first end) = (first ≤ end) × (end ≤ length lists.arguments)
+IsWithin lists (kinds.Word at) = at < length lists.words
+IsWithin lists (kinds.Integer at) = (at < length lists.integers) × FitsSigned w64 (get_or lists.integers at (pos 0))
+IsWithin lists (kinds.String at) = at < length lists.strings
+
+abbrev pub AreWithin : Stores → List Node → Type 0
+AreWithin lists [] = Unit {0}
+AreWithin lists (node ∷ nodes) = IsWithin lists node.kind × AreWithin lists nodes
 
 -- the tree stands at the node: its place, its kind, and its arguments at the nodes that the node names
 abbrev mutual

@@ -10,7 +10,7 @@ use spelling_spec::TreeKind;
 pub enum TreeError {
     /// The first tree fault of the tokens, and the number of bytes before it.
     At { kind: TreeKind, place: u64 },
-    /// An allocation was refused, or the tree has more nodes than a `u32` counts.
+    /// An allocation was refused, or there are more nodes, or bytes before one, than a `u32` counts.
     NoMemory,
 }
 

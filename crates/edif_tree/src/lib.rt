@@ -3,6 +3,7 @@
 
 mod errors;
 pub mod laws;
+mod making;
 mod node;
 mod nodes;
 mod read;
@@ -14,3 +15,4 @@ pub use laws::one_tree_stands;
 pub use node::{NodeId, Shape};
 pub use read::read_tree;
 pub use tree::Tree;
+pub use tree_maker::TreeMaker;

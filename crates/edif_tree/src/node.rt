@@ -21,19 +21,20 @@ pub enum Shape<'a> {
     String(&'a Text),
 }
 
-/// What stands at a node. The arguments of a form stand in a list for all nodes, from `first` to before `end`.
-#[derive(Drop)]
+/// What stands at a node, in 12 bytes. The arguments of a form stand in a list for all nodes, from `first` to before `end`; words,
+/// integers and strings stand in lists of their own, and a node has the place there.
+#[derive(Clone, Copy)]
 pub enum NodeKind {
-    Form { first: usize, end: usize },
-    Word(Ident),
-    Integer(i64),
-    String(Text),
+    Form { first: u32, end: u32 },
+    Word(u32),
+    Integer(u32),
+    String(u32),
 }
 
 /// A node, and the number of bytes before its first token.
-#[derive(Drop)]
+#[derive(Clone, Copy)]
 pub struct Node {
-    pub place: u64,
+    pub place: u32,
     pub kind: NodeKind,
 }
 

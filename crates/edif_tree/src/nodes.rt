@@ -1,29 +1,56 @@
 //! A list of nodes, which only grows.
-ghost use Rattle.std.specs.Prelude.{◌≡◌, ◌<◌, ◌∷◌, ◌++◌, [], length, Some, IfOk, OnErr, slice_get, option_map};
-ghost use Rattle.edif_tree.specs.Nodes.{FormOf, row_of, shape_of, seen};
-ghost use Rattle.edif_tree.specs.Making.{IsToken};
+ghost use Rattle.std.specs.Prelude.{◌≡◌, ◌<◌, ◌∷◌, ◌++◌, [], length, Some, IfOk, OnOk, OnErr, slice_get, option_map};
+ghost use Rattle.edif_tree.specs.Making.{IsLeaf, leaf_of};
+ghost use Rattle.edif_tree.specs.Nodes.{FormOf, IntegerOf, StringOf, WordOf, seen};
 
 use crate::node::{Node, NodeId, NodeKind, Shape, range};
-use netlist_schema::NoMemory;
+use indexmap::IndexSet;
+use netlist_schema::{Ident, NoMemory, Text};
+use spelling_spec::TokenKind;
 use std::alloc::Global;
 use std::marker::Model;
 
-/// Nodes, each with its place and shape, as contracts see them.
+/// Nodes, each with its place and shape, as contracts see them. Each word stands once.
 #[derive(Drop)]
 pub struct Nodes {
     nodes: Vec<Node>,
     arguments: Vec<NodeId>,
+    words: IndexSet<Ident>,
+    integers: Vec<i64>,
+    strings: Vec<Text>,
 }
 
 impl Model for Nodes {
-    ghost use Rattle.std.specs.Prelude.{List, map, length};
+    ghost use Rattle.std.specs.Prelude.{List, map};
     ghost use Rattle.edif_tree.specs.Nodes.{Row, row_of, AreWithin};
 
     ghost Value = { List Row };
 
-    ghost view = { λ a. map (row_of a.arguments.items) a.nodes.items };
+    ghost view = { λ a. map (row_of (record { arguments = a.arguments.items; words = a.words.keys; integers = a.integers.items; strings = a.strings.items })) a.nodes.items };
 
-    ghost invariant = { λ a. AreWithin (length a.arguments.items) a.nodes.items };
+    ghost invariant = { λ a. AreWithin (record { arguments = a.arguments.items; words = a.words.keys; integers = a.integers.items; strings = a.strings.items }) a.nodes.items };
+}
+
+/// A number as a node keeps it.
+fn small(number: u64) -> Result<u32, NoMemory>
+    ensures { IfOk result (λ n. n ≡ number) }
+{
+    match u32::try_from(number) {
+        Ok(small) => Ok(small),
+        Err(_) => Err(NoMemory),
+    }
+}
+
+/// Adds a node behind the others.
+fn add_node(nodes: &mut Vec<Node>, place: u64, kind: NodeKind) -> Result<NodeId, NoMemory>
+    ensures id { IfOk result (λ id. id.0 ≡ length nodes.old.items) }
+    ensures ok { OnOk result (nodes.new.items ≡ nodes.old.items ++ record { place = place; kind = kind } ∷ []) }
+    ensures err { OnErr result (nodes.new.items ≡ nodes.old.items) }
+{
+    let id = small(nodes.len() as u64)?;
+    let place = small(place)?;
+    nodes.push(Node { place, kind })?;
+    Ok(NodeId(id))
 }
 
 impl Nodes {
@@ -33,40 +60,60 @@ impl Nodes {
         Nodes {
             nodes: Vec::new(alloc),
             arguments: Vec::new(alloc),
+            words: IndexSet::new(alloc),
+            integers: Vec::new(alloc),
+            strings: Vec::new(alloc),
         }
     }
 
-    /// The id of the next node. An id is a `u32`, and there may be no more.
-    fn next(&self) -> Result<NodeId, NoMemory>
-        ensures { IfOk result (λ id. id.0 ≡ length self.now) }
+    /// Adds the node of a word.
+    fn push_word(&mut self, place: u64, name: Ident) -> Result<NodeId, NoMemory>
+        ensures ok { IfOk result (λ id. (id.0 ≡ length self.old) × (self.new ≡ self.old ++ record { place = place; shape = WordOf name } ∷ [])) }
     {
-        match u32::try_from(self.nodes.len()) {
-            Ok(next) => Ok(NodeId(next)),
-            Err(_) => Err(NoMemory),
-        }
+        let (at, _) = self.words.insert_full(name)?;
+        let at = small(at as u64)?;
+        add_node(&mut self.nodes, place, NodeKind::Word(at))
     }
 
-    /// Adds a token's node.
-    pub fn push_token(&mut self, place: u64, kind: NodeKind) -> Result<NodeId, NoMemory>
-        requires { IsToken kind }
-        ensures ok { IfOk result (λ id. (id.0 ≡ length self.old) × (self.new ≡ self.old ++ row_of [] (record { place = place; kind = kind }) ∷ [])) }
+    /// Adds the node of an integer.
+    fn push_integer(&mut self, place: u64, value: i64) -> Result<NodeId, NoMemory>
+        ensures ok { IfOk result (λ id. (id.0 ≡ length self.old) × (self.new ≡ self.old ++ record { place = place; shape = IntegerOf value } ∷ [])) }
     {
-        let id = self.next()?;
-        self.nodes.push(Node { place, kind })?;
-        Ok(id)
+        let at = small(self.integers.len() as u64)?;
+        self.integers.push(value)?;
+        add_node(&mut self.nodes, place, NodeKind::Integer(at))
+    }
+
+    /// Adds the node of a string.
+    fn push_string(&mut self, place: u64, text: Text) -> Result<NodeId, NoMemory>
+        ensures ok { IfOk result (λ id. (id.0 ≡ length self.old) × (self.new ≡ self.old ++ record { place = place; shape = StringOf text } ∷ [])) }
+    {
+        let at = small(self.strings.len() as u64)?;
+        self.strings.push(text)?;
+        add_node(&mut self.nodes, place, NodeKind::String(at))
+    }
+
+    /// Adds the node of a word, an integer or a string.
+    pub fn push_leaf(&mut self, place: u64, kind: TokenKind) -> Result<NodeId, NoMemory>
+        requires { IsLeaf kind }
+        ensures ok { IfOk result (λ id. (id.0 ≡ length self.old) × (self.new ≡ self.old ++ record { place = place; shape = leaf_of kind } ∷ [])) }
+    {
+        match kind {
+            TokenKind::Word(name) => self.push_word(place, name),
+            TokenKind::Integer(value) => self.push_integer(place, value),
+            TokenKind::String(text) => self.push_string(place, text),
+            TokenKind::LeftParen | TokenKind::RightParen => unreachable!(),
+        }
     }
 
     /// Adds a form's node with these arguments.
     pub fn push_form(&mut self, place: u64, ids: &[NodeId]) -> Result<NodeId, NoMemory>
         ensures ok { IfOk result (λ id. (id.0 ≡ length self.old) × (self.new ≡ self.old ++ record { place = place; shape = FormOf ids.now } ∷ [])) }
     {
-        let id = self.next()?;
-        let first = self.arguments.len();
+        let first = small(self.arguments.len() as u64)?;
         self.arguments.extend_from_slice(ids)?;
-        let end = self.arguments.len();
-        let kind = NodeKind::Form { first, end };
-        self.nodes.push(Node { place, kind })?;
-        Ok(id)
+        let end = small(self.arguments.len() as u64)?;
+        add_node(&mut self.nodes, place, NodeKind::Form { first, end })
     }
 
     /// The place of a node.
@@ -74,7 +121,7 @@ impl Nodes {
         requires { id.0 < length self.now }
         ensures { option_map (λ row. row.place) (slice_get self.now id.0) ≡ Some result }
     {
-        self.nodes[id.0 as usize].place
+        u64::from(self.nodes[id.0 as usize].place)
     }
 
     /// What stands at a node.
@@ -82,11 +129,13 @@ impl Nodes {
         requires { id.0 < length self.now }
         ensures { option_map (λ row. row.shape) (slice_get self.now id.0) ≡ Some (seen result) }
     {
-        match &self.nodes[id.0 as usize].kind {
-            NodeKind::Form { first, end } => Shape::Form(range(&self.arguments, *first, *end)),
-            NodeKind::Word(name) => Shape::Word(name),
-            NodeKind::Integer(value) => Shape::Integer(*value),
-            NodeKind::String(text) => Shape::String(text),
+        match self.nodes[id.0 as usize].kind {
+            NodeKind::Form { first, end } => {
+                Shape::Form(range(&self.arguments, first as usize, end as usize))
+            }
+            NodeKind::Word(at) => Shape::Word(&self.words.as_slice()[at as usize]),
+            NodeKind::Integer(at) => Shape::Integer(self.integers[at as usize]),
+            NodeKind::String(at) => Shape::String(&self.strings[at as usize]),
         }
     }
 }

@@ -6,9 +6,10 @@ ghost use Rattle.edif_tree.specs.Nodes.{IsAt};
 ghost use Rattle.edif_tree.specs.TreeError.{Names};
 
 use crate::errors::TreeError;
+use crate::making::Making;
 use crate::tree::Tree;
-use crate::tree_maker::TreeMaker;
-use spelling_spec::Token;
+use netlist_schema::{Copied, NoMemory};
+use spelling_spec::{Token, TokenKind};
 use std::alloc::Global;
 
 /// The tree of the tokens of an input with so many bytes, where they have no tree fault, and else their first tree fault. At the
@@ -18,9 +19,24 @@ pub fn read_tree(alloc: Global, tokens: &[Token], end: u64) -> Result<Tree, Tree
     ensures tree { IfOk result (λ made. (t : Placed) × IsAt made.rows made.root t × IsFile tokens.now t) }
     ensures at { IfErr result (λ e. Names e (tree_fault tokens.now end)) }
 {
-    let mut maker = TreeMaker::new(alloc);
+    let mut making = Making::new(alloc);
     for token in tokens {
-        maker.add(token)?;
+        making.add(copied(alloc, token)?)?;
     }
-    maker.finish(end)
+    making.finish(end)
+}
+
+/// An equal token.
+fn copied(alloc: Global, token: &Token) -> Result<Token, NoMemory>
+    ensures { IfOk result (λ made. made ≡ token.now) }
+{
+    let kind = match &token.kind {
+        TokenKind::LeftParen => TokenKind::LeftParen,
+        TokenKind::RightParen => TokenKind::RightParen,
+        TokenKind::Word(name) => TokenKind::Word(name.copy(alloc)?),
+        TokenKind::Integer(value) => TokenKind::Integer(*value),
+        TokenKind::String(text) => TokenKind::String(text.copy(alloc)?),
+    };
+    let place = token.place;
+    Ok(Token { kind, place })
 }

@@ -1,150 +1,77 @@
-//! A tree as it is made, token by token.
-ghost use Rattle.std.specs.Prelude.{◌≡◌, ◌<◌, ℕ, List, ◌∷◌, ◌++◌, [], length, Some, None, IfOk, IfErr, OnOk, IfSome, IfNone};
-ghost use Rattle.spelling_spec.specs.Tree.{Placed};
-ghost use Rattle.spelling_spec.specs.TreeFaults.{token_at, fault_at, tree_fault, Lists};
+//! `TreeMaker`: tokens that come in pieces to a tree.
+ghost use Rattle.std.specs.Prelude.{◌≡◌, ◌≢◌, [], ℕ, List, Ok, Err, Some, None, IfErr};
 ghost use Rattle.spelling_spec.specs.declared.token.Token.{Token};
-ghost use Rattle.spelling_spec.specs.declared.token.TokenKind.TheVariants.{LeftParen, RightParen};
-ghost use Rattle.edif_tree.specs.Making.{IsToken, token_of, HasRead, CanCome};
-ghost use Rattle.edif_tree.specs.Nodes.{IsAt};
-ghost use Rattle.edif_tree.specs.TreeError.{Names};
+ghost use Rattle.edif_tree.specs.Maker.{Feeds, Finishes, HasTaken};
+ghost use Rattle.edif_tree.specs.declared.errors.TreeError.{TreeError};
 
 use crate::errors::TreeError;
-use crate::node::{NodeId, NodeKind, range};
-use crate::nodes::Nodes;
+use crate::making::Making;
 use crate::tree::Tree;
-use netlist_schema::limits::MOST_LEVELS;
-use netlist_schema::{Copied, NoMemory};
-use spelling_spec::{Token, TokenKind, TreeKind};
+use spelling_spec::Token;
 use std::alloc::Global;
+use std::marker::Model;
 
-/// A form whose `)` is to come.
-#[derive(Clone, Copy)]
-pub struct OpenForm {
-    /// The place of its `(`.
-    pub place: u64,
-    /// How many loose nodes stand before its arguments.
-    pub start: usize,
-}
-
-/// The tokens so far, as nodes.
+/// Makes a tree of tokens that come in pieces, and keeps none of them: a word stands once, however often it comes.
 #[derive(Drop)]
 pub struct TreeMaker {
-    /// The nodes of all tokens and of all closed forms.
-    pub nodes: Nodes,
-    /// The open forms, the file's form first.
-    pub forms: Vec<OpenForm>,
-    /// The nodes that no closed form holds, in order.
-    pub loose: Vec<NodeId>,
-    pub alloc: Global,
+    making: Making,
+    failed: Option<TreeError>,
+}
+
+impl Model for TreeMaker {
+    ghost use Rattle.std.specs.Prelude.{◌≡◌, List, None};
+    ghost use Rattle.spelling_spec.specs.declared.token.Token.{Token};
+    ghost use Rattle.edif_tree.specs.Making.{HasRead};
+    ghost use Rattle.edif_tree.specs.Maker.{Maker};
+
+    ghost Value = { Maker };
+
+    ghost view = { λ m. record { making = m.making; failed = m.failed } };
+
+    ghost invariant = { λ m. m.failed ≡ None → (ts : List Token) × HasRead m.making ts };
 }
 
 impl TreeMaker {
+    /// A maker that was fed no tokens. Takes no memory.
     pub fn new(alloc: Global) -> TreeMaker
-        ensures { HasRead result [] }
+        ensures { HasTaken result [] }
     {
         TreeMaker {
-            nodes: Nodes::new(alloc),
-            forms: Vec::new(alloc),
-            loose: Vec::new(alloc),
-            alloc,
+            making: Making::new(alloc),
+            failed: None,
         }
     }
 
-    /// The fault of a token that comes next, or none.
-    fn fault(&self, kind: &TokenKind) -> Option<TreeKind>
-        ensures some { IfSome result (λ k. (ts rest : List Token) (place end : ℕ) → HasRead self.now ts → tree_fault (ts ++ token_at kind.now place ∷ rest) end ≡ fault_at k place) }
-        ensures none { IfNone result (CanCome kind.now self.now) }
+    /// Reads the next tokens, which follow those fed before and are spent.
+    ///
+    /// `TreeError::At` is the first tree fault of the tokens so far, whatever follows; it comes exactly where they have one other
+    /// than that they end too early. After an error each later call answers that same error.
+    pub fn feed(&mut self, tokens: Vec<Token>) -> Result<(), TreeError>
+        ensures fed { (fed : List Token) → HasTaken self.old fed → Feeds fed tokens.items self.new result }
+        ensures err { IfErr result (λ error. self.new.failed ≡ Some error) }
+        ensures again { (error : TreeError) → self.old.failed ≡ Some error → (result ≡ Err error) × (self.new ≡ self.old) }
     {
-        match kind {
-            TokenKind::LeftParen if self.forms.len() >= MOST_LEVELS => Some(TreeKind::TooDeep),
-            TokenKind::LeftParen if self.forms.is_empty() && !self.loose.is_empty() => {
-                Some(TreeKind::Trailing)
-            }
-            TokenKind::LeftParen => None,
-            TokenKind::RightParen if self.forms.is_empty() => Some(TreeKind::ExtraClose),
-            TokenKind::RightParen => None,
-            _ if !self.forms.is_empty() => None,
-            _ if self.loose.is_empty() => Some(TreeKind::NotForm),
-            _ => Some(TreeKind::Trailing),
+        if let Some(error) = self.failed {
+            return Err(error);
         }
-    }
-
-    /// Opens a form.
-    fn begin(&mut self, place: u64) -> Result<(), NoMemory>
-        requires { CanCome LeftParen self.old }
-        ensures ok { OnOk result ((ts : List Token) → HasRead self.old ts → HasRead self.new (ts ++ token_at LeftParen place ∷ [])) }
-    {
-        let start = self.loose.len();
-        self.forms.push(OpenForm { place, start })?;
-        Ok(())
-    }
-
-    /// Adds a token to the innermost form.
-    fn add_token(&mut self, place: u64, kind: NodeKind) -> Result<(), NoMemory>
-        requires token { IsToken kind }
-        requires inside { 0 < length self.old.forms.items }
-        ensures ok { OnOk result ((ts : List Token) → HasRead self.old ts → HasRead self.new (ts ++ token_at (token_of kind) place ∷ [])) }
-    {
-        let id = self.nodes.push_token(place, kind)?;
-        self.loose.push(id)?;
-        Ok(())
-    }
-
-    /// Closes the innermost form.
-    fn close(&mut self, place: u64) -> Result<(), NoMemory>
-        requires inside { 0 < length self.old.forms.items }
-        requires reads { (ts : List Token) × HasRead self.old ts }
-        ensures ok { OnOk result ((ts : List Token) → HasRead self.old ts → HasRead self.new (ts ++ token_at RightParen place ∷ [])) }
-    {
-        let Some(form) = self.forms.pop() else {
-            unreachable!();
-        };
-        let ids = range(&self.loose, form.start, self.loose.len());
-        let id = self.nodes.push_form(form.place, ids)?;
-        self.loose.truncate(form.start);
-        self.loose.push(id)?;
-        Ok(())
-    }
-
-    /// Reads the next token.
-    pub fn add(&mut self, token: &Token) -> Result<(), TreeError>
-        requires { (ts : List Token) × HasRead self.old ts }
-        ensures ok { OnOk result ((ts : List Token) → HasRead self.old ts → HasRead self.new (ts ++ token.now ∷ [])) }
-        ensures at { IfErr result (λ e. (ts rest : List Token) (end : ℕ) → HasRead self.old ts → Names e (tree_fault (ts ++ token.now ∷ rest) end)) }
-    {
-        let place = token.place;
-        if let Some(kind) = self.fault(&token.kind) {
-            return Err(TreeError::At { kind, place });
-        }
-        match &token.kind {
-            TokenKind::LeftParen => self.begin(place)?,
-            TokenKind::RightParen => self.close(place)?,
-            TokenKind::Word(name) => {
-                let name = name.copy(self.alloc)?;
-                self.add_token(place, NodeKind::Word(name))?;
-            }
-            TokenKind::Integer(value) => self.add_token(place, NodeKind::Integer(*value))?,
-            TokenKind::String(text) => {
-                let text = text.copy(self.alloc)?;
-                self.add_token(place, NodeKind::String(text))?;
+        match self.making.add_all(tokens) {
+            Ok(()) => Ok(()),
+            Err(error) => {
+                self.failed = Some(error);
+                Err(error)
             }
         }
-        Ok(())
     }
 
-    /// The tree of all tokens.
+    /// The tree of all tokens fed, where no others come and the input has so many bytes; or their first tree fault, as
+    /// `read_tree` tells it of all of them. After an error of `feed` it answers that same error.
     pub fn finish(self, end: u64) -> Result<Tree, TreeError>
-        requires { (ts : List Token) × HasRead self ts }
-        ensures ok { IfOk result (λ made. (ts : List Token) → HasRead self ts → (tree_fault ts end ≡ None) × ((t : Placed) × IsAt made.rows made.root t × Lists ts t)) }
-        ensures at { IfErr result (λ e. (ts : List Token) → HasRead self ts → Names e (tree_fault ts end)) }
+        ensures fed { (fed : List Token) → HasTaken self fed → Finishes fed end result }
+        ensures again { (error : TreeError) → self.failed ≡ Some error → result ≡ Err error }
     {
-        let root = self.loose.first().copied();
-        match root {
-            Some(root) if self.forms.is_empty() => Ok(Tree::of(self.nodes, root)),
-            _ => Err(TreeError::At {
-                kind: TreeKind::Unended,
-                place: end,
-            }),
+        match self.failed {
+            Some(error) => Err(error),
+            None => self.making.finish(end),
         }
     }
 }

@@ -14,7 +14,8 @@ loop-token-preserved c =
     let i = c.loop-token.token-index in
     let more : take (i + 1) c.args.tokens.now ≡ take i c.args.tokens.now ++ c.token-item.result ∷ [] = (take_at_read c.args.tokens.now i c.token-item.result c.loop-token-test.true).1 ∙ ap (λ x. take i c.args.tokens.now ++ x ∷ []) (sym c.token-item.is) in
     let R : List Token → Type 0 = HasRead c.add.new.self in
-    subst R (sym more) (c.in_ok-add.ensures.ok (take i c.args.tokens.now) c.loop-token.invariant)
+    let same = c.in_ok-copied.ensures in
+    subst R (ap (λ t. take i c.args.tokens.now ++ t ∷ []) same ∙ sym more) (c.in_ok-add.ensures.ok (take i c.args.tokens.now) c.loop-token.invariant)
 
 pub returns-in_err-add-clause-at : goal.returns-in_err-add-clause-at
 returns-in_err-add-clause-at c =
@@ -24,23 +25,23 @@ returns-in_err-add-clause-at c =
     let whole : take i tokens ++ c.token-item.result ∷ drop (i + 1) tokens ≡ tokens =
     sym (append_assoc (take i tokens) (c.token-item.result ∷ []) (drop (i + 1) tokens)) ∙ (ap (λ v. v ++ drop (i + 1) tokens) (sym more) ∙ take-append-drop (i + 1) tokens) in
     let N : List Token → Type 0 = λ v. Names c.in_err-add.field-0.0 (tree_fault v c.args.end) in
-    let p = err_from_is_err_and c.from_residual.result c.from_residual.ensures.1 in
-    rw (p.1, p.2) (subst N whole (c.in_err-add.ensures.at (take i tokens) (drop (i + 1) tokens) c.args.end c.loop-token.invariant))
+    let p = err_from_is_err_and c.from_residual-in_err-add.result c.from_residual-in_err-add.ensures.1 in
+    rw (p.1, p.2) (subst N (ap (λ t. take i tokens ++ t ∷ drop (i + 1) tokens) c.in_ok-copied.ensures ∙ whole) (c.in_err-add.ensures.at (take i tokens) (drop (i + 1) tokens) c.args.end c.loop-token.invariant))
 
 pub returns-clause-none : goal.returns-clause-none
 returns-clause-none c =
-    let R : List Token → Type 0 = HasRead c.loop-token.maker in
+    let R : List Token → Type 0 = HasRead c.loop-token.making in
     let read = subst R (take_all c.loop-token.token-index c.args.tokens.now (omega arith)) c.loop-token.invariant in
     IfOk-weaker c.finish.result _ _ (λ made h. (h c.args.tokens.now read).0) c.finish.ensures.ok
 
 pub returns-clause-tree : goal.returns-clause-tree
 returns-clause-tree c =
-    let R : List Token → Type 0 = HasRead c.loop-token.maker in
+    let R : List Token → Type 0 = HasRead c.loop-token.making in
     let read = subst R (take_all c.loop-token.token-index c.args.tokens.now (omega arith)) c.loop-token.invariant in
     IfOk-weaker c.finish.result _ _ (λ made h. let all = h c.args.tokens.now read in (all.1.0, all.1.1, is_file c.args.tokens.now c.args.end all.1.0 all.0 all.1.2)) c.finish.ensures.ok
 
 pub returns-clause-at : goal.returns-clause-at
 returns-clause-at c =
-    let R : List Token → Type 0 = HasRead c.loop-token.maker in
+    let R : List Token → Type 0 = HasRead c.loop-token.making in
     let read = subst R (take_all c.loop-token.token-index c.args.tokens.now (omega arith)) c.loop-token.invariant in
     IfErr-weaker c.finish.result _ _ (λ e h. h c.args.tokens.now read) c.finish.ensures.at

@@ -4,4 +4,4 @@ use Rattle.edif_tree.proofs.read.read_tree.Given as goal
 
 -- the maker has read the tokens so far
 abbrev pub invariant-loop-token : goal.invariant-loop-token
-invariant-loop-token l = HasRead l.maker (take l.token-index l.tokens)
+invariant-loop-token l = HasRead l.making (take l.token-index l.tokens)

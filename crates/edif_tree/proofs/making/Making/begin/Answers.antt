@@ -1,6 +1,6 @@
 use Rattle.std.proofs.Common.{◌≡◌, refl, ap, ◌∙◌, ◌++◌, ◌∷◌, [], length, arith}
 use Rattle.edif_tree.proofs.MakingLemmas.{read_left}
-use Rattle.edif_tree.proofs.tree_maker.TreeMaker.begin.Goals as goal
+use Rattle.edif_tree.proofs.making.Making.begin.Goals as goal
 
 pub returns : goal.returns
 returns c =

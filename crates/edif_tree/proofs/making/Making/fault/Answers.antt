@@ -5,7 +5,7 @@ use Rattle.spelling_spec.specs.TreeFaults.{token_at, fault_at, tree_fault}
 use Rattle.spelling_spec.specs.declared.token.TokenKind.{TokenKind}
 use Rattle.spelling_spec.specs.declared.tree_fault.TreeKind.TheVariants.{ExtraClose, TooDeep}
 use Rattle.edif_tree.proofs.ReadFaults.{deep_at, close_at, trailing_at, form_at}
-use Rattle.edif_tree.proofs.tree_maker.TreeMaker.fault.Goals as goal
+use Rattle.edif_tree.proofs.making.Making.fault.Goals as goal
 
 pub returns-in-LeftParen-clause-some : goal.returns-in-LeftParen-clause-some
 returns-in-LeftParen-clause-some c ts rest place end h =

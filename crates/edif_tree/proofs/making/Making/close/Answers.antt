@@ -1,7 +1,7 @@
 use Rattle.std.proofs.Common.{◌≡◌, ◌∙◌, ◌∷◌, ◌++◌, [], length, drop, ap, refl, arith}
 use Rattle.edif_tree.specs.Nodes.{FormOf}
 use Rattle.edif_tree.proofs.MakingLemmas.{read_right, can_cut, range_rest}
-use Rattle.edif_tree.proofs.tree_maker.TreeMaker.close.Goals as goal
+use Rattle.edif_tree.proofs.making.Making.close.Goals as goal
 
 pub range-ids-requires-clause-order : goal.range-ids-requires-clause-order
 range-ids-requires-clause-order c =

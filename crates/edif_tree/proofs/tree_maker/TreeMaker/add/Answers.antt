@@ -1,4 +1,0 @@
-use Rattle.edif_tree.proofs.tree_maker.TreeMaker.add.Goals as goal
-
-pub returns-in-Some-clause-at : goal.returns-in-Some-clause-at
-returns-in-Some-clause-at c ts rest end h = c.in-Some.ensures.some ts rest c.args.token.now.place end h

@@ -1,0 +1,152 @@
+//! A tree as it is made, token by token.
+ghost use Rattle.std.specs.Prelude.{◌≡◌, ◌<◌, ℕ, List, ◌∷◌, ◌++◌, [], length, Some, None, IfOk, IfErr, OnOk, IfSome, IfNone};
+ghost use Rattle.spelling_spec.specs.Tree.{Placed};
+ghost use Rattle.spelling_spec.specs.TreeFaults.{token_at, fault_at, tree_fault, Lists};
+ghost use Rattle.spelling_spec.specs.declared.token.Token.{Token};
+ghost use Rattle.spelling_spec.specs.declared.token.TokenKind.TheVariants.{LeftParen, RightParen};
+ghost use Rattle.edif_tree.specs.Making.{IsLeaf, HasRead, CanCome};
+ghost use Rattle.edif_tree.specs.Nodes.{IsAt};
+ghost use Rattle.edif_tree.specs.TreeError.{Names};
+
+use crate::errors::TreeError;
+use crate::node::{NodeId, range};
+use crate::nodes::Nodes;
+use crate::tree::Tree;
+use netlist_schema::NoMemory;
+use netlist_schema::limits::MOST_LEVELS;
+use spelling_spec::{Token, TokenKind, TreeKind};
+use std::alloc::Global;
+
+/// A form whose `)` is to come.
+#[derive(Clone, Copy)]
+pub struct OpenForm {
+    /// The place of its `(`.
+    pub place: u64,
+    /// How many loose nodes stand before its arguments.
+    pub start: usize,
+}
+
+/// The tokens so far, as nodes.
+#[derive(Drop)]
+pub struct Making {
+    /// The nodes of all tokens and of all closed forms.
+    pub nodes: Nodes,
+    /// The open forms, the file's form first.
+    pub forms: Vec<OpenForm>,
+    /// The nodes that no closed form holds, in order.
+    pub loose: Vec<NodeId>,
+}
+
+impl Making {
+    pub fn new(alloc: Global) -> Making
+        ensures { HasRead result [] }
+    {
+        Making {
+            nodes: Nodes::new(alloc),
+            forms: Vec::new(alloc),
+            loose: Vec::new(alloc),
+        }
+    }
+
+    /// The fault of a token that comes next, or none.
+    fn fault(&self, kind: &TokenKind) -> Option<TreeKind>
+        ensures some { IfSome result (λ k. (ts rest : List Token) (place end : ℕ) → HasRead self.now ts → tree_fault (ts ++ token_at kind.now place ∷ rest) end ≡ fault_at k place) }
+        ensures none { IfNone result (CanCome kind.now self.now) }
+    {
+        match kind {
+            TokenKind::LeftParen if self.forms.len() >= MOST_LEVELS => Some(TreeKind::TooDeep),
+            TokenKind::LeftParen if self.forms.is_empty() && !self.loose.is_empty() => {
+                Some(TreeKind::Trailing)
+            }
+            TokenKind::LeftParen => None,
+            TokenKind::RightParen if self.forms.is_empty() => Some(TreeKind::ExtraClose),
+            TokenKind::RightParen => None,
+            _ if !self.forms.is_empty() => None,
+            _ if self.loose.is_empty() => Some(TreeKind::NotForm),
+            _ => Some(TreeKind::Trailing),
+        }
+    }
+
+    /// Opens a form.
+    fn begin(&mut self, place: u64) -> Result<(), NoMemory>
+        requires { CanCome LeftParen self.old }
+        ensures ok { OnOk result ((ts : List Token) → HasRead self.old ts → HasRead self.new (ts ++ token_at LeftParen place ∷ [])) }
+    {
+        let start = self.loose.len();
+        self.forms.push(OpenForm { place, start })?;
+        Ok(())
+    }
+
+    /// Adds a word, an integer or a string to the innermost form.
+    fn add_leaf(&mut self, place: u64, kind: TokenKind) -> Result<(), NoMemory>
+        requires leaf { IsLeaf kind }
+        requires inside { 0 < length self.old.forms.items }
+        ensures ok { OnOk result ((ts : List Token) → HasRead self.old ts → HasRead self.new (ts ++ token_at kind place ∷ [])) }
+    {
+        let id = self.nodes.push_leaf(place, kind)?;
+        self.loose.push(id)?;
+        Ok(())
+    }
+
+    /// Closes the innermost form.
+    fn close(&mut self, place: u64) -> Result<(), NoMemory>
+        requires inside { 0 < length self.old.forms.items }
+        requires reads { (ts : List Token) × HasRead self.old ts }
+        ensures ok { OnOk result ((ts : List Token) → HasRead self.old ts → HasRead self.new (ts ++ token_at RightParen place ∷ [])) }
+    {
+        let Some(form) = self.forms.pop() else {
+            unreachable!();
+        };
+        let ids = range(&self.loose, form.start, self.loose.len());
+        let id = self.nodes.push_form(form.place, ids)?;
+        self.loose.truncate(form.start);
+        self.loose.push(id)?;
+        Ok(())
+    }
+
+    /// Reads the next token.
+    pub fn add(&mut self, token: Token) -> Result<(), TreeError>
+        requires { (ts : List Token) × HasRead self.old ts }
+        ensures ok { OnOk result ((ts : List Token) → HasRead self.old ts → HasRead self.new (ts ++ token ∷ [])) }
+        ensures at { IfErr result (λ e. (ts rest : List Token) (end : ℕ) → HasRead self.old ts → Names e (tree_fault (ts ++ token ∷ rest) end)) }
+    {
+        let Token { kind, place } = token;
+        if let Some(kind) = self.fault(&kind) {
+            return Err(TreeError::At { kind, place });
+        }
+        match kind {
+            TokenKind::LeftParen => self.begin(place)?,
+            TokenKind::RightParen => self.close(place)?,
+            leaf => self.add_leaf(place, leaf)?,
+        }
+        Ok(())
+    }
+
+    /// Reads the next tokens.
+    pub fn add_all(&mut self, tokens: Vec<Token>) -> Result<(), TreeError>
+        requires { (ts : List Token) × HasRead self.old ts }
+        ensures ok { OnOk result ((ts : List Token) → HasRead self.old ts → HasRead self.new (ts ++ tokens.items)) }
+        ensures at { IfErr result (λ e. (ts rest : List Token) (end : ℕ) → HasRead self.old ts → Names e (tree_fault (ts ++ tokens.items ++ rest) end)) }
+    {
+        for token in tokens {
+            self.add(token)?;
+        }
+        Ok(())
+    }
+
+    /// The tree of all tokens.
+    pub fn finish(self, end: u64) -> Result<Tree, TreeError>
+        requires { (ts : List Token) × HasRead self ts }
+        ensures ok { IfOk result (λ made. (ts : List Token) → HasRead self ts → (tree_fault ts end ≡ None) × ((t : Placed) × IsAt made.rows made.root t × Lists ts t)) }
+        ensures at { IfErr result (λ e. (ts : List Token) → HasRead self ts → Names e (tree_fault ts end)) }
+    {
+        let root = self.loose.first().copied();
+        match root {
+            Some(root) if self.forms.is_empty() => Ok(Tree::of(self.nodes, root)),
+            _ => Err(TreeError::At {
+                kind: TreeKind::Unended,
+                place: end,
+            }),
+        }
+    }
+}
