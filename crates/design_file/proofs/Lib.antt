@@ -1,3 +1,3 @@
 pub mod BytesLemmas
-pub mod LexLemmas
+pub mod ReaderLemmas
 pub mod TextLemmas

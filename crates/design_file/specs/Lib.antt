@@ -1,3 +1,4 @@
 pub mod FaultText
 pub mod Files
+pub mod Reader
 pub mod Steps

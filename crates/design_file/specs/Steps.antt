@@ -7,8 +7,8 @@ use Rattle.edif_tree.specs.declared.errors.TreeError.{TreeError}
 use Rattle.edif_tree.specs.declared.errors.TreeError.TheVariants as tree
 use Rattle.design_file.specs.declared.fault.EdifFault.{EdifFault}
 use Rattle.design_file.specs.declared.fault.EdifFault.TheVariants as faults
-use Rattle.design_file.specs.declared.reading.NoDesign.{NoDesign}
-use Rattle.design_file.specs.declared.reading.NoDesign.TheVariants as answers
+use Rattle.design_file.specs.declared.no_design.NoDesign.{NoDesign}
+use Rattle.design_file.specs.declared.no_design.NoDesign.TheVariants as answers
 
 -- a fault that is named is one of these; want of memory says nothing
 abbrev pub Says : (EdifFault → Type 0) → NoDesign → Type 0

@@ -2,9 +2,11 @@
 #![tactic(auto)]
 
 pub mod fault;
-pub mod reading;
+pub mod no_design;
+pub mod reader;
 pub mod texts;
 
 pub use fault::EdifFault;
-pub use reading::{NoDesign, read_bytes};
+pub use no_design::NoDesign;
+pub use reader::DesignReader;
 pub use texts::fault_text;

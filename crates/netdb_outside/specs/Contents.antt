@@ -1,6 +1,6 @@
 -- What reading a file within a limit gives.
 use Rattle.std.specs.Prelude.{◌≡◌, ℕ, ◌+◌, ◌<◌, ◌≤◌, List, [], length, drop, Option, Some, None, IfSome, IsSomeAnd}
-use Rattle.netdb_outside.specs.Outside.{Shelf, Takes, NothingLeft, file_named}
+use Rattle.netdb_outside.specs.Outside.{Shelf, file_named}
 use Rattle.netdb_outside.specs.declared.contents.Contents.{Contents}
 use Rattle.netdb_outside.specs.declared.contents.Contents.TheVariants.{Bytes, TooLarge, Missing, Failed, NoMemory}
 
@@ -31,11 +31,3 @@ IsFoundOut TooLarge = Unit {0}
 IsFoundOut Missing = Unit {0}
 IsFoundOut Failed = ⊥
 IsFoundOut NoMemory = ⊥
-
--- what reading on gives: all of the rest, within the limit; or more, of which the bytes up to one past the limit were taken
-abbrev pub RestGives : Option Shelf → Option Shelf → ℕ → Contents → Type 0
-RestGives old new limit (Bytes bytes) = (length bytes ≤ limit) × Takes old new bytes × NothingLeft new
-RestGives old new limit TooLarge = (bytes : List ℕ) × (length bytes ≡ limit + 1) × Takes old new bytes
-RestGives old new limit Missing = ⊥
-RestGives old new limit Failed = Unit {0}
-RestGives old new limit NoMemory = Unit {0}

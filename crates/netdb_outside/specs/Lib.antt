@@ -3,4 +3,5 @@ pub mod Contents
 pub mod MemFiles
 pub mod MemSink
 pub mod Outside
+pub mod Pieces
 pub mod Reading

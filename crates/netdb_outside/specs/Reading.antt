@@ -1,5 +1,5 @@
 -- What a read gives.
-use Rattle.std.specs.Prelude.{◌≡◌, ℕ, ◌+◌, ◌≤◌, List, ◌++◌, length, take, Option}
+use Rattle.std.specs.Prelude.{ℕ, ◌≤◌, List, length, take, Option}
 use Rattle.netdb_outside.specs.Outside.{Shelf, Takes, NothingLeft}
 use Rattle.netdb_outside.specs.declared.files.Got.{Got}
 use Rattle.netdb_outside.specs.declared.files.Got.TheVariants.{Bytes, End, Failed, NoMemory}
@@ -17,10 +17,3 @@ ReadGives old new buf (Bytes n) = (1 ≤ n) × (n ≤ length buf) × Takes old n
 ReadGives old new buf End = NothingLeft old × NothingLeft new
 ReadGives old new buf Failed = Unit {0}
 ReadGives old new buf NoMemory = Unit {0}
-
--- what one more piece gives: at least one byte was taken and stands at the end, and the bytes go one past the limit at most
-abbrev pub PieceGives : Option Shelf → Option Shelf → List ℕ → List ℕ → ℕ → Got → Type 0
-PieceGives old new held now limit (Bytes n) = (piece : List ℕ) × (now ≡ held ++ piece) × (1 ≤ length piece) × (length now ≤ limit + 1) × Takes old new piece
-PieceGives old new held now limit End = (now ≡ held) × NothingLeft old × NothingLeft new
-PieceGives old new held now limit Failed = Unit {0}
-PieceGives old new held now limit NoMemory = Unit {0}

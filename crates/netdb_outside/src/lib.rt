@@ -11,6 +11,7 @@ pub mod host_files;
 pub mod host_out;
 pub mod mem_files;
 pub mod mem_sink;
+pub mod pieces;
 pub mod sink;
 pub mod write_error;
 
@@ -23,5 +24,6 @@ pub use host_files::HostFiles;
 pub use host_out::HostOut;
 pub use mem_files::{MemFiles, NamedFile, names_differ};
 pub use mem_sink::MemSink;
+pub use pieces::{Ended, Taker, read_pieces};
 pub use sink::{Put, Sink};
 pub use write_error::WriteError;
