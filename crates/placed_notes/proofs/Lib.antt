@@ -1,3 +1,4 @@
 mod AddLemmas
+mod NamedLemmas
 mod NoteLemmas
 mod WayLemmas

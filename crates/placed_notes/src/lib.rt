@@ -1,6 +1,7 @@
 //! The notes of a design by the paths of the occurrences for which they are.
 #![tactic(auto)]
 
+mod named;
 pub mod notes;
 pub mod steps;
 

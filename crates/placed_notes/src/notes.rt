@@ -5,6 +5,7 @@ ghost use Rattle.netlist_schema.specs.Hierarchy.{Resolves};
 ghost use Rattle.netlist_schema.specs.Valid.{IsValid};
 ghost use Rattle.placed_notes.specs.Placed.{ArePlaced, IsAdded, places_in};
 
+use crate::named::NamedPlaces;
 use crate::steps::{Steps, steps_of};
 use netlist_schema::{CellId, NoMemory, Shown};
 use std::alloc::Global;
@@ -18,6 +19,9 @@ pub struct PlacedNotes {
 
 impl PlacedNotes {
     /// The notes of a design whose top has this cell. The one error is that an allocation was refused.
+    ///
+    /// It takes time and memory in proportion to the steps of the notes and to the instances of the cells at which they are, times
+    /// the logarithms of these numbers.
     pub fn of<S: Shown>(alloc: Global, design: &S, top: CellId) -> Result<PlacedNotes, NoMemory>
         requires valid { IsValid (S.design design.now) }
         requires notes { All (λ note. Resolves (S.design design.now) top note.path) (S.design design.now).notes }
@@ -26,8 +30,9 @@ impl PlacedNotes {
         let mut notes = PlacedNotes {
             table: BTreeMap::new(alloc),
         };
+        let mut named = NamedPlaces::new(alloc);
         for (place, note) in design.notes().as_slice().iter().enumerate() {
-            let steps = steps_of(alloc, design, top, note)?;
+            let steps = steps_of(alloc, design, top, note, &mut named)?;
             notes.add(alloc, steps, place as u32)?;
         }
         Ok(notes)

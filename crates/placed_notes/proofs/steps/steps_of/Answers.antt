@@ -7,50 +7,54 @@ use Rattle.placed_notes.specs.Ways.{IsNameFound}
 use Rattle.placed_notes.proofs.WayLemmas.{IsOnWay, way_ends, way_lost, way_more}
 use Rattle.placed_notes.proofs.steps.steps_of.Goals as goal
 
-pub returns-in_default : goal.returns-in_default
-returns-in_default g c = λ valid resolves.
+pub returns-in_default-clause-way : goal.returns-in_default-clause-way
+returns-in_default-clause-way g c = λ valid resolves.
     let d = g.S.Shown.design c.args.design.now in
     let names = c.as_slice-name-items.result.now in
     let i = c.loop-name.name-index in
     let ahead : drop i names ≡ c.name-item.result ∷ drop (i + 1) names = drop_more names i c.name-item.result c.loop-name-test.true ∙ ap (λ v. v ∷ drop (i + 1) names) (sym c.name-item.is) in
-    let on = subst (λ v. IsOnWay d valid c.args.top c.loop-name.cell c.args.note.now.path v c.loop-name.steps.items) ahead (c.loop-name.invariant valid resolves) in
-    let none : IsNameFound c.insts_at-insts.result.now c.name-item.result None = subst (λ o. IsNameFound c.insts_at-insts.result.now c.name-item.result o) c.in_default.is c.place_of.ensures in
-    absurd (way_lost d valid c.args.top c.loop-name.cell c.args.note.now.path c.name-item.result (drop (i + 1) names) c.loop-name.steps.items
-    (subst (λ v. IsNameFound v c.name-item.result None) c.insts_at-insts.ensures.value none) on)
+    let on = subst (λ v. IsOnWay d valid c.args.top c.loop-name.cell c.args.note.now.path v c.loop-name.steps.items) ahead (c.loop-name.invariant.on_way valid resolves) in
+    let none : IsNameFound (insts_at d c.loop-name.cell) c.name-item.result None = subst (λ o. IsNameFound (insts_at d c.loop-name.cell) c.name-item.result o) c.in_default.is c.in_ok-place.ensures.found in
+    absurd (way_lost d valid c.args.top c.loop-name.cell c.args.note.now.path c.name-item.result (drop (i + 1) names) c.loop-name.steps.items none on)
 
 pub bounds-insts-place : goal.bounds-insts-place
 bounds-insts-place g c =
-    let found : IsNameFound c.insts_at-insts.result.now c.name-item.result (Some c.in-Some.place) =
-    subst (λ o. IsNameFound c.insts_at-insts.result.now c.name-item.result o) c.in-Some.is c.place_of.ensures in
-    slice_get_within c.insts_at-insts.result.now c.in-Some.place found.0 found.1
+    let d = g.S.Shown.design c.args.design.now in
+    let found : IsNameFound (insts_at d c.loop-name.cell) c.name-item.result (Some c.in-Some.place) =
+    subst (λ o. IsNameFound (insts_at d c.loop-name.cell) c.name-item.result o) c.in-Some.is c.in_ok-place.ensures.found in
+    slice_get_within c.insts_at-insts.result.now c.in-Some.place found.0 (ap (λ v. slice_get v c.in-Some.place) c.insts_at-insts.ensures.value ∙ found.1)
 
 pub bounds-insts-place-in_ok-push : goal.bounds-insts-place-in_ok-push
 bounds-insts-place-in_ok-push g c =
-    let found : IsNameFound c.insts_at-insts.result.now c.name-item.result (Some c.in-Some.place) =
-    subst (λ o. IsNameFound c.insts_at-insts.result.now c.name-item.result o) c.in-Some.is c.place_of.ensures in
-    slice_get_within c.insts_at-insts.result.now c.in-Some.place found.0 found.1
+    let d = g.S.Shown.design c.args.design.now in
+    let found : IsNameFound (insts_at d c.loop-name.cell) c.name-item.result (Some c.in-Some.place) =
+    subst (λ o. IsNameFound (insts_at d c.loop-name.cell) c.name-item.result o) c.in-Some.is c.in_ok-place.ensures.found in
+    slice_get_within c.insts_at-insts.result.now c.in-Some.place found.0 (ap (λ v. slice_get v c.in-Some.place) c.insts_at-insts.ensures.value ∙ found.1)
 
 pub loop-name-preserved : goal.loop-name-preserved
-loop-name-preserved g c = λ valid resolves.
-    let d = g.S.Shown.design c.args.design.now in
-    let names = c.as_slice-name-items.result.now in
-    let i = c.loop-name.name-index in
-    let place = c.in-Some.place in
-    let insts = c.insts_at-insts.result.now in
-    let ahead : drop i names ≡ c.name-item.result ∷ drop (i + 1) names = drop_more names i c.name-item.result c.loop-name-test.true ∙ ap (λ v. v ∷ drop (i + 1) names) (sym c.name-item.is) in
-    let on = subst (λ v. IsOnWay d valid c.args.top c.loop-name.cell c.args.note.now.path v c.loop-name.steps.items) ahead (c.loop-name.invariant valid resolves) in
-    let found : IsNameFound c.insts_at-insts.result.now c.name-item.result (Some c.in-Some.place) =
-    subst (λ o. IsNameFound c.insts_at-insts.result.now c.name-item.result o) c.in-Some.is c.place_of.ensures in
-    let at : slice_get (insts_at d c.loop-name.cell) place ≡ Some found.0 = ap (λ v. slice_get v place) (sym c.insts_at-insts.ensures.value) ∙ found.1 in
-    let next = way_more d valid c.args.top c.loop-name.cell c.args.note.now.path c.name-item.result (drop (i + 1) names) c.loop-name.steps.items place found.0 at found.2 on in
-    let inst : get_or insts place c.index-insts-place.result ≡ found.0 = get_or_from_slice_get insts place found.0 c.index-insts-place.result found.1 in
-    let pushed : c.push.new.self.items ≡ c.loop-name.steps.items ++ place ∷ [] = search rules in
-    subst (λ v. IsOnWay d valid c.args.top (get_or insts place c.index-insts-place.result).of c.args.note.now.path (drop (i + 1) names) v) (sym pushed)
-    (subst (λ (v : Inst). IsOnWay d valid c.args.top v.of c.args.note.now.path (drop (i + 1) names) (c.loop-name.steps.items ++ place ∷ [])) (sym inst) next)
+loop-name-preserved g c = record {
+  named = c.find.ensures.named;
+  on_way = λ valid resolves.
+      let d = g.S.Shown.design c.args.design.now in
+      let names = c.as_slice-name-items.result.now in
+      let i = c.loop-name.name-index in
+      let place = c.in-Some.place in
+      let insts = c.insts_at-insts.result.now in
+      let ahead : drop i names ≡ c.name-item.result ∷ drop (i + 1) names = drop_more names i c.name-item.result c.loop-name-test.true ∙ ap (λ v. v ∷ drop (i + 1) names) (sym c.name-item.is) in
+      let on = subst (λ v. IsOnWay d valid c.args.top c.loop-name.cell c.args.note.now.path v c.loop-name.steps.items) ahead (c.loop-name.invariant.on_way valid resolves) in
+      let found : IsNameFound (insts_at d c.loop-name.cell) c.name-item.result (Some c.in-Some.place) =
+      subst (λ o. IsNameFound (insts_at d c.loop-name.cell) c.name-item.result o) c.in-Some.is c.in_ok-place.ensures.found in
+      let next = way_more d valid c.args.top c.loop-name.cell c.args.note.now.path c.name-item.result (drop (i + 1) names) c.loop-name.steps.items place found.0 found.1 found.2 on in
+      let at : slice_get insts place ≡ Some found.0 = ap (λ v. slice_get v place) c.insts_at-insts.ensures.value ∙ found.1 in
+      let inst : get_or insts place c.index-insts-place.result ≡ found.0 = get_or_from_slice_get insts place found.0 c.index-insts-place.result at in
+      let pushed : c.push.new.self.items ≡ c.loop-name.steps.items ++ place ∷ [] = search rules in
+      subst (λ v. IsOnWay d valid c.args.top (get_or insts place c.index-insts-place.result).of c.args.note.now.path (drop (i + 1) names) v) (sym pushed)
+      (subst (λ (v : Inst). IsOnWay d valid c.args.top v.of c.args.note.now.path (drop (i + 1) names) (c.loop-name.steps.items ++ place ∷ [])) (sym inst) next);
+}
 
-pub returns : goal.returns
-returns g c = λ valid resolves.
+pub returns-clause-way : goal.returns-clause-way
+returns-clause-way g c = λ valid resolves.
     let d = g.S.Shown.design c.args.design.now in
     let names = c.as_slice-name-items.result.now in
-    let on = subst (λ v. IsOnWay d valid c.args.top c.loop-name.cell c.args.note.now.path v c.loop-name.steps.items) (drop_all c.loop-name.name-index names c.loop-name-test.false) (c.loop-name.invariant valid resolves) in
+    let on = subst (λ v. IsOnWay d valid c.args.top c.loop-name.cell c.args.note.now.path v c.loop-name.steps.items) (drop_all c.loop-name.name-index names c.loop-name-test.false) (c.loop-name.invariant.on_way valid resolves) in
     way_ends d valid c.args.top c.loop-name.cell c.args.note.now.path c.loop-name.steps.items on

@@ -1,5 +1,9 @@
+use Rattle.placed_notes.specs.Named.{AreNamed}
 use Rattle.placed_notes.proofs.NoteLemmas.{AreSoFar}
 use Rattle.placed_notes.proofs.notes.PlacedNotes.of.Given as goal
 
 abbrev pub invariant-loop-place : goal.invariant-loop-place
-invariant-loop-place g l = AreSoFar (g.S.Shown.design l.design) l.top l.place l.notes
+invariant-loop-place g l = record {
+  named : AreNamed (g.S.Shown.design l.design) l.named;
+  so_far : AreSoFar (g.S.Shown.design l.design) l.top l.place l.notes;
+}
