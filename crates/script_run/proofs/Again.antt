@@ -3,23 +3,21 @@ use Rattle.std.proofs.Common.{◌≡◌, ◌∙◌, ℕ, suc, ◌+◌, ◌<◌, 
 use Rattle.std.proofs.lemmas.Grind.{flat_map-append, take_at_read}
 use Rattle.std.specs.Prelude.{OnOk}
 use Rattle.netlist_schema.specs.Design.{Design}
-use Rattle.netlist_schema.specs.Types.{Object}
 use Rattle.edit_core.specs.declared.reply.Reply.{Reply}
 use Rattle.edit_spec.specs.Step.{run, step as stepped}
 use Rattle.edit_spec.specs.declared.ops.Op.{Op}
 use Rattle.edit_spec.proofs.Overlaid.{replies_push}
-use Rattle.edit_tx.specs.Facts.{PinFacts, TxFacts, started}
-use Rattle.history_spec.specs.History.{state_after, version_at}
-use Rattle.history_spec.specs.State.{head}
+use Rattle.edit_tx.specs.Facts.{PinFacts}
+use Rattle.history_spec.specs.History.{version_at}
 use Rattle.history_spec.specs.declared.event.Answer.TheVariants as answer
 use Rattle.history_spec.specs.declared.event.Call.TheVariants as call
 use Rattle.history_spec.specs.declared.event.Event.{Event}
-use Rattle.session_spec.specs.Report.{last_design, transcript, word_text}
+use Rattle.session_spec.specs.Report.{transcript}
 use Rattle.session_spec.specs.Session.{Began, Conflict, LogFull, Replied, Word, Exchange, Goes, Held as SessionHeld, Nothing, OnPin, InBlock, On, Stop as Stopped, Told, last_release, release, replied, reply_behind}
 use Rattle.session_spec.specs.Texts.{line, reply_text}
 use Rattle.session_spec.specs.declared.script.Step.TheVariants as step
 use Rattle.run_spec.specs.Calls.{HoldsJust, Makes, Writes}
-use Rattle.run_spec.specs.Lines.{Begins, GoesOn, IsBroken, IsFilled, RunsAgain}
+use Rattle.run_spec.specs.Lines.{Begins, GoesOn, IsBroken, IsFilled}
 use Rattle.run_spec.proofs.Blocks.{again_broken, again_filled, again_goes, gives_up_goes, writes_both}
 use Rattle.run_spec.proofs.Endings.{both_makes}
 use Rattle.run_spec.proofs.OneLine.{makes_nothing}
@@ -28,7 +26,7 @@ use Rattle.run_spec.proofs.Places.{commit_full}
 use Rattle.db_share.specs.Passes.{Shared, Pass, HasPin, IsReady}
 use Rattle.db_share.specs.Calls.{GoesOn as PassGoesOn}
 use Rattle.script_run.specs.Coming.{Again, Begun, Comes, Refused, Starts, Stops, Tries, reply_lines}
-use Rattle.script_run.specs.Holding.{IsHeldBy, Stands, block_of, held_of}
+use Rattle.script_run.specs.Holding.{Stands, block_of, held_of}
 use Rattle.script_run.specs.declared.held.Block.{Block}
 use Rattle.script_run.specs.declared.held.Held.{Held}
 use Rattle.script_run.specs.declared.held.Held.TheVariants as held

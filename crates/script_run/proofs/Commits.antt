@@ -1,5 +1,5 @@
 -- One commit of a block, and what is said of it.
-use Rattle.std.proofs.Common.{◌≡◌, ◌∙◌, ℕ, ◌<◌, ◌≤◌, List, [], ◌∷◌, ◌++◌, Result, Ok, Err, Some, refl, ap, sym, subst, arith}
+use Rattle.std.proofs.Common.{◌≡◌, ◌∙◌, ℕ, ◌≤◌, List, [], ◌∷◌, ◌++◌, Result, Ok, Err, refl, ap, sym, subst, arith}
 use Rattle.std.specs.Prelude.{IfOk, OnOk, codes, decimal}
 use Rattle.netlist_schema.specs.Design.{Design}
 use Rattle.netlist_schema.specs.Types.{Object}
@@ -10,7 +10,7 @@ use Rattle.edit_spec.specs.declared.ops.Op.{Op}
 use Rattle.edit_tx.specs.Facts.{PinFacts, TxFacts}
 use Rattle.history_spec.specs.Answers.{IsConflict}
 use Rattle.history_spec.specs.History.{Legal, state_after, version_at}
-use Rattle.history_spec.specs.State.{State, IsLive, LivePin, after, head}
+use Rattle.history_spec.specs.State.{State, IsLive, LivePin, head}
 use Rattle.history_spec.specs.declared.event.Answer.{Answer}
 use Rattle.history_spec.specs.declared.event.Answer.TheVariants as answer
 use Rattle.history_spec.specs.declared.event.Call.TheVariants as call
@@ -19,11 +19,10 @@ use Rattle.history_spec.proofs.Histories.{state_after-push, version_stays}
 use Rattle.history_spec.proofs.Promised.{valid_at}
 use Rattle.history_spec.proofs.Sound.{kept_up_after, one_pin}
 use Rattle.session_spec.specs.Report.{transcript}
-use Rattle.session_spec.specs.Session.{Conflict, Exchange, InBlock, Nothing, OnPin, Told, Word, release}
+use Rattle.session_spec.specs.Session.{Conflict, Exchange, Nothing, OnPin, Told, Word, release}
 use Rattle.session_spec.specs.Texts.{conflict_words, line}
 use Rattle.session_spec.specs.declared.script.Step.TheVariants as step
 use Rattle.run_spec.specs.Calls.{HoldsJust, Makes, Writes}
-use Rattle.run_spec.specs.Lines.{GoesOn, IsBroken}
 use Rattle.run_spec.proofs.Along.{behind_both}
 use Rattle.run_spec.proofs.Blocks.{accepted_broken, accepted_goes, commit_broken, commit_filled, refused_released_broken}
 use Rattle.run_spec.proofs.Endings.{both_makes}
@@ -33,15 +32,15 @@ use Rattle.run_spec.proofs.Pins.{held_is_live, holds_after, live_is_there, one_r
 use Rattle.read_spec.proofs.Pinned.{conflicts_are_pinned}
 use Rattle.db_core.specs.Calls.{commit_of, event_of}
 use Rattle.db_core.specs.declared.errors.CommitError.TheVariants.{LogFull as CommitFull, Conflict as Conflicted, NoMemory as CommitNoMemory}
-use Rattle.db_share.specs.Passes.{Shared, Pass, HasPin, IsReady, known}
+use Rattle.db_share.specs.Passes.{Shared, Pass, HasPin}
 use Rattle.db_share.specs.Calls.{GoesOn as PassGoesOn, HasReleased, IsFull, LacksMemory, Makes as MakesEvent}
 use Rattle.db_share.proofs.Keeping.{keeps_committed}
-use Rattle.script_run.specs.Coming.{Commits, Refused, Stops, accepted, refused}
+use Rattle.script_run.specs.Coming.{Commits, Stops, accepted, refused}
 use Rattle.script_run.specs.Holding.{Stands, block_of, filled}
 use Rattle.script_run.specs.declared.held.Block.{Block}
 use Rattle.script_run.specs.declared.held.Held.TheVariants as held
 use Rattle.script_run.specs.declared.held.Stop.TheVariants.{Short}
-use Rattle.script_run.proofs.Calls.{makes_later, no_call, one_call, stands_then}
+use Rattle.script_run.proofs.Calls.{makes_later, no_call, one_call}
 
 -- what was written stays what the words say, as the history goes on
 pub writes_later : (d : Design) (caller : ℕ) (mid new : List Event) (done : List Exchange) (before text : List ℕ) (words : List Word) → (m : Makes d caller mid new done) → Writes d mid before text words

@@ -4,7 +4,7 @@ use Rattle.std.specs.Prelude.{OnOk, codes, decimal}
 use Rattle.netlist_schema.specs.Design.{Design}
 use Rattle.edit_spec.specs.declared.ops.Op.{Op}
 use Rattle.edit_tx.specs.Facts.{HasRun, PinFacts, TxFacts}
-use Rattle.history_spec.specs.History.{state_after, version_at}
+use Rattle.history_spec.specs.History.{state_after}
 use Rattle.history_spec.specs.State.{head}
 use Rattle.history_spec.specs.declared.event.Answer.TheVariants as answer
 use Rattle.history_spec.specs.declared.event.Call.TheVariants as call

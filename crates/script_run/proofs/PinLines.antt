@@ -18,7 +18,6 @@ use Rattle.db_share.specs.Passes.{Shared, Pass, HasPin, known}
 use Rattle.db_share.specs.Calls.{IsFull, LacksMemory, Looks, Makes, Pins}
 use Rattle.script_run.specs.Coming.{Comes, Starts, Stops}
 use Rattle.script_run.specs.Holding.{Stands, filled, told}
-use Rattle.script_run.specs.declared.held.Block.{Block}
 use Rattle.script_run.specs.declared.held.Held.TheVariants as held
 use Rattle.script_run.specs.declared.held.Stop.TheVariants.{Short}
 use Rattle.script_run.proofs.Calls.{no_call, one_call}

@@ -1,5 +1,5 @@
 -- A script, from its first line to its end.
-use Rattle.std.proofs.Common.{◌≡◌, ◌∙◌, ℕ, ◌+◌, ◌<◌, Bool, true, false, List, [], ◌∷◌, length, drop, get_or, map, Result, Ok, Err, refl, ap, sym, subst}
+use Rattle.std.proofs.Common.{◌≡◌, ◌∙◌, ℕ, ◌+◌, ◌<◌, Bool, true, false, List, [], ◌∷◌, length, drop, get_or, map, Result, Ok, Err, ap, sym, subst}
 use Rattle.history_spec.specs.declared.event.Event.{Event}
 use Rattle.netlist_schema.specs.declared.memory.NoMemory.{NoMemory}
 use Rattle.session_spec.specs.Headline.{CanWalk, Ran}

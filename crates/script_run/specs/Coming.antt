@@ -1,5 +1,5 @@
 -- What the lines of a script come to, on a shared database.
-use Rattle.std.specs.Prelude.{◌≡◌, ℕ, ◌+◌, List, [], ◌∷◌, ◌++◌, Option, Some, None, Result, Ok, Err, slice_get, true, false}
+use Rattle.std.specs.Prelude.{◌≡◌, ℕ, ◌+◌, List, [], ◌∷◌, Option, Some, None, Result, Ok, Err, slice_get, true, false}
 use Rattle.std.specs.List.{flat_map}
 use Rattle.edit_core.specs.declared.reply.Reply.{Reply}
 use Rattle.edit_spec.specs.declared.ops.Op.{Op}
@@ -21,7 +21,7 @@ use Rattle.run_spec.specs.Calls.{Makes, Writes}
 use Rattle.run_spec.specs.Lines.{GoesOn, IsBroken, IsFilled, RunsAgain}
 use Rattle.run_spec.specs.Whole.{IsBrokenOff}
 use Rattle.db_share.specs.Passes.{Shared, Pass}
-use Rattle.script_run.specs.Holding.{IsHeldBy, Stands, block_of, held_of, left_held}
+use Rattle.script_run.specs.Holding.{IsHeldBy, Stands, block_of, held_of}
 use Rattle.script_run.specs.declared.held.Block.{Block}
 use Rattle.script_run.specs.declared.held.Held.{Held}
 use Rattle.script_run.specs.declared.held.Held.TheVariants.{InBlock, Nothing as Empty}

@@ -1,5 +1,5 @@
 -- What a script holds between two of its lines, in the code and in its session.
-use Rattle.std.specs.Prelude.{◌≡◌, ℕ, Bool, true, false, Option, Some, None, Result, Ok, Err}
+use Rattle.std.specs.Prelude.{Bool, true, false, Option, Some, None, Result, Ok, Err}
 use Rattle.edit_tx.specs.Facts.{PinFacts}
 use Rattle.netlist_schema.specs.declared.memory.NoMemory.{NoMemory}
 use Rattle.session_spec.specs.Session.{Held as SessionHeld, Nothing, OnPin, OffPin, InBlock}

@@ -1,4 +1,4 @@
-use Rattle.std.proofs.Common.{List, sym, subst}
+use Rattle.std.proofs.Common.{sym, subst}
 use Rattle.session_spec.specs.Session.{last_release}
 use Rattle.run_spec.specs.Calls.{Makes}
 use Rattle.script_run.specs.Holding.{IsHeldBy, held_of}

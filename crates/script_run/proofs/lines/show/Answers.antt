@@ -1,1 +1,0 @@
-use Rattle.script_run.proofs.lines.show.Goals as goal

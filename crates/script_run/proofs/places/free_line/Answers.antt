@@ -1,1 +1,0 @@
-use Rattle.script_run.proofs.places.free_line.Goals as goal
