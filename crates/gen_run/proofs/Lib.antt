@@ -1,0 +1,5 @@
+pub mod Commits
+pub mod Counted
+pub mod Steps
+pub mod Ends
+pub mod Texts
