@@ -1,12 +1,12 @@
 -- The status comes that the files ask for.
 use Rattle.std.proofs.Common.{◌≡◌, ◌≤◌, ◌<◌, ◌+◌, ◌⊎◌, inl, inr, List, [], ◌∷◌, ◌++◌, length, Option, None, Some, refl, ap, sym, ◌∙◌, subst, arith, append_assoc, append-nil}
 use Prim.Native.Nat.{ℕ, suc}
-use Rattle.std.specs.Prelude.{IfSome, IsSomeAnd, MatchOption, option_map}
+use Rattle.std.specs.Prelude.{IfSome, IsSomeAnd, option_map}
 use Rattle.std.specs.List.{All}
 use Rattle.netlist_schema.specs.declared.limits.TheConstants.{MOST_FILE_BYTES}
 use Rattle.netdb_outside.specs.Outside.{Shelf, SameFiles, file_named}
 use Rattle.edif_spec.specs.Design.{Design}
-use Rattle.session_spec.specs.Headline.{CanWalk, HaveRoom, IsFull, IsWhole, RoomSuffices, SomeFull, SomeWalks}
+use Rattle.session_spec.specs.Headline.{IsFull, IsWhole, RoomSuffices, SomeFull}
 use Rattle.session_spec.specs.Laws.{OneBadLine, ScriptOrBad}
 use Rattle.session_spec.specs.Report.{Story}
 use Rattle.session_spec.specs.ScriptText.{Parts, IsFirstBad, steps_of}
@@ -15,12 +15,11 @@ use Rattle.session_spec.specs.declared.script.Step.{Step}
 use Rattle.session_spec.proofs.OneScript.{one_script}
 use Rattle.design_file.specs.Files.{IsDesignFile, IsNoDesignFile, IsWrong}
 use Rattle.design_file.proofs.BytesLemmas.{not_wrong, one_design}
-use Rattle.netdb_cli.specs.Command.{Request, Show, Run}
+use Rattle.netdb_cli.specs.Command.{Request, Show, Run, Generate}
 use Rattle.netdb_cli.specs.Due.{AreDueOf, Comes, Files, IsBadFile, IsDue, IsDueOf, IsDueOfDesign, IsDueOfFile, IsDueOfRun, IsExcuse, IsServed}
-use Rattle.netdb_cli.specs.Outcome.{Gives, OutputGives, ReadGives, RunGives}
-use Rattle.netdb_cli.specs.Output.{output, HasTop, LacksTop}
-use Rattle.netdb_cli.specs.Refusals.{IsBad, RefusesDesign, RefusesFile, RefusesScript, RefusesScripts}
-use Rattle.netdb_cli.specs.Told.{AreRead, IsBadScript, IsFile, IsLarge, IsScriptFile}
+use Rattle.netdb_cli.specs.Outcome.{Gives, OutputGives, ReadGives, RunGives, SummaryGives, TextGives}
+use Rattle.netdb_cli.specs.Refusals.{RefusesDesign, RefusesFile, RefusesScript, RefusesScripts}
+use Rattle.netdb_cli.specs.Told.{AreRead, IsBadScript, IsLarge, IsScriptFile}
 use Rattle.netdb_cli.specs.declared.command.TheConstants.{MOST_SCRIPT_BYTES}
 use Rattle.netdb_cli.specs.declared.command.Wanted.{Wanted}
 use Rattle.netdb_cli.specs.declared.status.Status.{Status}
@@ -222,6 +221,23 @@ run_due known d scripts old new status.LogFull h =
     }
 run_due known d scripts old new status.NoMemory h = excused_run d scripts status.NoMemory tt
 
+summary_due : (n : ℕ) (old new : Option (List ℕ)) (result : Status) → SummaryGives n old new result → IsServed result
+summary_due n old new result (inl h) = subst IsServed (sym h.0) (inr (inr tt))
+summary_due n old new result (inr h) = go result h.2
+  where
+    go : (result : Status) → TextGives h.0 old new result → IsServed result
+    go status.Ok k = inr (inl refl)
+    go status.Usage k = absurd k
+    go (status.Missing word) k = absurd k
+    go (status.ReadFault word) k = absurd k
+    go status.WriteFault k = inl refl
+    go (status.BadEdif fault) k = absurd k
+    go (status.BadScript word line) k = absurd k
+    go (status.TooLarge word) k = absurd k
+    go status.NoTop k = absurd k
+    go status.LogFull k = absurd k
+    go status.NoMemory k = inr (inr tt)
+
 -- ---- a request
 
 show_due : (shelf : Shelf) (name : List ℕ) (wanted : Wanted) (old new : Option (List ℕ)) (result : Status) → Gives (Show name wanted) (Some shelf) old new result
@@ -243,6 +259,7 @@ scripts_due known shelf name names old new result (inr h) =
 due_now : Known → (told : Option Shelf) (request : Request) (old new : Option (List ℕ)) (result : Status) → Gives request told old new result → IsDue told request result
 due_now known None (Show name wanted) old new result h = tt
 due_now known None (Run name names) old new result h = tt
+due_now known told (Generate n) old new result h = summary_due n old new result h
 due_now known (Some shelf) (Show name wanted) old new result h = show_due shelf name wanted old new result h
 due_now known (Some shelf) (Run name names) old new result h = scripts_due known shelf name names old new result h
 
@@ -250,6 +267,7 @@ due_now known (Some shelf) (Run name names) old new result h = scripts_due known
 abbrev DueIn : Option Files → Request → Status → Type 0
 DueIn told (Show name wanted) result = IfSome told (λ files. IsDueOfDesign files name (λ d. IsDueOf wanted d result) result)
 DueIn told (Run name names) result = IfSome told (λ files. IsDueOfDesign files name (λ d. AreDueOf files d [] names 2 result) result)
+DueIn told (Generate n) result = IsServed result
 
 abbrev files_of : Option Shelf → Option Files
 files_of told = option_map (λ (shelf : Shelf). shelf.files) told
@@ -257,14 +275,18 @@ files_of told = option_map (λ (shelf : Shelf). shelf.files) told
 to_files : (told : Option Shelf) (request : Request) (result : Status) → IsDue told request result → DueIn (files_of told) request result
 to_files None (Show name wanted) result h = tt
 to_files None (Run name names) result h = tt
+to_files None (Generate n) result h = h
 to_files (Some shelf) (Show name wanted) result h = h
 to_files (Some shelf) (Run name names) result h = h
+to_files (Some shelf) (Generate n) result h = h
 
 of_files : (told : Option Shelf) (request : Request) (result : Status) → DueIn (files_of told) request result → IsDue told request result
 of_files None (Show name wanted) result h = tt
 of_files None (Run name names) result h = tt
+of_files None (Generate n) result h = h
 of_files (Some shelf) (Show name wanted) result h = h
 of_files (Some shelf) (Run name names) result h = h
+of_files (Some shelf) (Generate n) result h = h
 
 -- the status comes that the files ask for, as they were told before
 pub is_due : ScriptOrBad → OneBadLine → RoomSuffices → (before told : Option Shelf) (request : Request) (old new : Option (List ℕ)) (result : Status) → SameFiles before told → Gives request told old new result → IsDue before request result

@@ -1,5 +1,5 @@
 -- Files that were read, and files that were refused.
-use Rattle.std.proofs.Common.{◌≡◌, ◌≤◌, ◌<◌, ◌+◌, ◌⊎◌, inl, inr, List, [], ◌∷◌, ◌++◌, length, get_or, take, drop, map, Option, None, Some, refl, ap, sym, ◌∙◌, subst, arith, length-append, String, string_bytes, Global}
+use Rattle.std.proofs.Common.{◌≡◌, ◌≤◌, ◌<◌, ◌+◌, inl, inr, List, [], ◌∷◌, ◌++◌, length, get_or, take, drop, Option, None, Some, refl, ap, sym, ◌∙◌, subst, arith, length-append, String, string_bytes, Global}
 use Prim.Native.Nat.{ℕ, zero, suc}
 use Rattle.std.specs.Prelude.{Bool, false, is_ok, is_err, if◌then◌else◌, IfSome, IsSomeAnd, IfOk, IfErr, MatchResult, Result, Ok, Err}
 use Rattle.std.proofs.lemmas.Grind.{take_at_read}
@@ -16,7 +16,7 @@ use Rattle.design_file.proofs.BytesLemmas.{reads_back}
 use Rattle.netdb_cli.specs.Command.{spelled}
 use Rattle.netdb_cli.specs.Outcome.{CountsReading}
 use Rattle.netdb_cli.specs.Refusals.{IsBad, RefusesDesign, RefusesFile, RefusesScript, RefusesScripts}
-use Rattle.netdb_cli.specs.Steps.{IsNoDesign, IsNoScript}
+use Rattle.netdb_cli.specs.Steps.{IsNoDesign, IsNoScript, status_of}
 use Rattle.netdb_cli.specs.Told.{AreRead, IsBadScript, IsFile, IsLarge, IsLastRead, IsRead, IsReadThrough, IsScriptFile}
 use Rattle.netdb_cli.specs.declared.command.TheConstants.{MOST_SCRIPT_BYTES}
 use Rattle.netdb_cli.specs.declared.status.Status.{Status}
@@ -103,6 +103,11 @@ pub design_read : (told : Option Shelf) (name bytes : List ℕ) (r : Result Desi
     → IfOk r (λ d. IsRead told name d × IsReadThrough told name MOST_FILE_BYTES) × IfErr r (RefusesDesign told name)
 design_read told name bytes (Ok d) size read h = ((was_read told name bytes d read h, read_through told name bytes MOST_FILE_BYTES size read), tt)
 design_read told name bytes (Err result) size read h = (tt, refused_bytes told name bytes result size read h)
+
+-- reading bytes that were all taken counts no fault
+pub design_counted : (old new : ℕ) (bytes : List ℕ) (r : Result Design Status) → MatchResult r (IsDesignFile bytes) (IsNoDesign bytes) → new ≡ old → CountsReading old new (status_of r)
+design_counted old new bytes (Ok d) h same = none_counted old new status.Ok (λ word is. absurd (cc is)) same
+design_counted old new bytes (Err result) h same = none_counted old new result (λ word is. (let N : Status → Type 0 = IsNoDesign bytes in subst N is h)) same
 
 -- ---- scripts
 

@@ -1,23 +1,22 @@
 -- What was written, and what its counts say.
-use Rattle.std.proofs.Common.{◌≡◌, ◌≤◌, ◌+◌, Bool, true, false, ◌||◌, List, [], ◌∷◌, ◌⊎◌, inl, inr, map, Option, None, Some, refl, ap, sym, ◌∙◌, subst, arith}
+use Rattle.std.proofs.Common.{◌≡◌, ◌+◌, Bool, true, false, ◌||◌, List, [], ◌∷◌, ◌⊎◌, inl, inr, Option, refl, ap, sym, ◌∙◌, subst, arith}
 use Prim.Native.Nat.{ℕ}
 use Rattle.std.specs.Prelude.{◌↔◌, IsTrue}
 use Rattle.std.specs.List.{list_any}
 use Rattle.netlist_schema.specs.Design.{Design}
-use Rattle.netdb_outside.specs.Outside.{Shelf, Appends, AppendsFront, Rose}
-use Rattle.session_spec.specs.Headline.{CanWalk, HasWalk, SomeWalks}
+use Rattle.netdb_outside.specs.Outside.{Shelf}
+use Rattle.session_spec.specs.Headline.{HasWalk, SomeWalks}
 use Rattle.session_spec.specs.ScriptText.{Parts, steps_of}
 use Rattle.session_spec.specs.declared.script.ScriptLine.{ScriptLine}
 use Rattle.session_spec.specs.declared.script.Step.{Step}
 use Rattle.session_spec.specs.declared.script.Step.TheVariants.{Walk}
 use Rattle.run_scripts.specs.Run.{all_steps}
-use Rattle.netdb_cli.specs.Command.{Request, Show, Run}
-use Rattle.netdb_cli.specs.Outcome.{CountsReading, CountsWriting, Gives, OutputGives, ReadGives, RunGives, TextGives}
-use Rattle.netdb_cli.specs.Output.{output, HasTop, LacksTop}
-use Rattle.netdb_cli.specs.Refusals.{RefusesDesign, RefusesFile, RefusesScript, RefusesScripts}
+use Rattle.netdb_cli.specs.Command.{Request, Show, Run, Generate}
+use Rattle.netdb_cli.specs.Outcome.{CountsWriting, Gives, OutputGives, ReadGives, RunGives, SummaryGives, TextGives}
+use Rattle.netdb_cli.specs.Output.{output, HasTop}
+use Rattle.netdb_cli.specs.Refusals.{RefusesDesign, RefusesScript, RefusesScripts}
 use Rattle.netdb_cli.specs.Walks.{is_walk}
 use Rattle.netdb_cli.specs.declared.command.Wanted.{Wanted}
-use Rattle.netdb_cli.specs.declared.command.Wanted.TheVariants.{Text, Items, Pins}
 use Rattle.netdb_cli.specs.declared.status.Status.{Status}
 use Rattle.netdb_cli.specs.declared.status.Status.TheVariants as status
 
@@ -45,6 +44,10 @@ output_is_no_fault wanted d old new word result h is = (subst (λ (s : Status). 
 pub run_is_no_fault : (d : Design) (scripts : List (List Step)) (old new : Option (List ℕ)) (word : ℕ) (result : Status) → RunGives d scripts old new result → result ≡ status.ReadFault word → ⊥
 run_is_no_fault d scripts old new word result h is = subst (λ (s : Status). RunGives d scripts old new s) is h
 
+pub summary_is_no_fault : (n : ℕ) (old new : Option (List ℕ)) (word : ℕ) (result : Status) → SummaryGives n old new result → result ≡ status.ReadFault word → ⊥
+summary_is_no_fault n old new word result (inl h) is = absurd (cc (sym h.0 ∙ is))
+summary_is_no_fault n old new word result (inr h) is = text_is_no_fault h.0 old new word result h.2 is
+
 -- a refusal is no fault in writing
 pub design_is_no_fault : (told : Option Shelf) (name : List ℕ) (result : Status) → RefusesDesign told name result → result ≡ status.WriteFault → ⊥
 design_is_no_fault told name result h is = subst (λ (s : Status). RefusesDesign told name s) is h
@@ -69,6 +72,8 @@ are_words (Show name wanted) told old new (inl h) = h.0
 are_words (Show name wanted) told old new (inr h) = h.3.1
 are_words (Run name names) told old new (inl h) = h.0
 are_words (Run name names) told old new (inr h) = read_is_words h.0 names told old new h.2
+are_words (Generate n) told old new (inl h) = absurd (cc (h.0))
+are_words (Generate n) told old new (inr h) = h.2
 
 pub never_usage : (request : Request) (told : Option Shelf) (old new : Option (List ℕ)) (result : Status) → Gives request told old new result → result ≡ status.Usage → ⊥
 never_usage request told old new result h is = are_words request told old new (subst (λ (s : Status). Gives request told old new s) is h)

@@ -6,7 +6,7 @@ use Rattle.netdb_outside.specs.Outside.{Shelf, file_named}
 use Rattle.session_spec.specs.Headline.{CanWalk, HaveRoom, SomeWalks}
 use Rattle.session_spec.specs.declared.script.Step.{Step}
 use Rattle.design_file.specs.Files.{IsDesignFile, IsNoDesignFile}
-use Rattle.netdb_cli.specs.Command.{Request, Show, Run}
+use Rattle.netdb_cli.specs.Command.{Request, Show, Run, Generate}
 use Rattle.netdb_cli.specs.Output.{HasTop, LacksTop}
 use Rattle.netdb_cli.specs.Told.{IsBadScript, IsLarge, IsScriptFile}
 use Rattle.netdb_cli.specs.declared.command.TheConstants.{MOST_SCRIPT_BYTES}
@@ -73,3 +73,4 @@ AreDueOf files d before (name ∷ names) word result = IsDueOfFile (file_named f
 abbrev pub IsDue : Option Shelf → Request → Status → Type 0
 IsDue told (Show name wanted) result = IfSome told (λ shelf. IsDueOfDesign shelf.files name (λ d. IsDueOf wanted d result) result)
 IsDue told (Run name names) result = IfSome told (λ shelf. IsDueOfDesign shelf.files name (λ d. AreDueOf shelf.files d [] names 2 result) result)
+IsDue told (Generate n) result = IsServed result

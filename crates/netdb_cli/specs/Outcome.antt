@@ -5,8 +5,9 @@ use Rattle.netlist_schema.specs.declared.limits.TheConstants.{MOST_FILE_BYTES}
 use Rattle.netdb_outside.specs.Outside.{Shelf, Appends, AppendsFront, Rose}
 use Rattle.session_spec.specs.Headline.{CanWalk, SomeWalks, WritesReportFront}
 use Rattle.session_spec.specs.declared.script.Step.{Step}
+use Rattle.gen_spec.specs.Summary.{IsSummaryOf}
 use Rattle.run_scripts.specs.Written.{IsFullReport, IsReport, WritesSome}
-use Rattle.netdb_cli.specs.Command.{Request, Show, Run}
+use Rattle.netdb_cli.specs.Command.{Request, Show, Run, Generate}
 use Rattle.netdb_cli.specs.Output.{output, HasTop, LacksTop}
 use Rattle.netdb_cli.specs.Refusals.{RefusesDesign, RefusesScripts}
 use Rattle.netdb_cli.specs.Told.{AreRead, IsLastRead, IsRead, IsReadThrough}
@@ -36,6 +37,12 @@ RunGives d scripts old new status.NoMemory = CanWalk d scripts × ((new ≡ old)
 RunGives d scripts old new status.NoTop = SomeWalks scripts × (d.top ≡ None) × (new ≡ old)
 RunGives d scripts old new _ = ⊥
 
+-- the summary of a generated run was written; or there was no memory for it, and nothing was
+abbrev pub SummaryGives : ℕ → Option (List ℕ) → Option (List ℕ) → Status → Type 0
+SummaryGives n old new result =
+    ((result ≡ status.NoMemory) × (new ≡ old))
+    ⊎ ((text : List ℕ) × IsSummaryOf n text × TextGives text old new result)
+
 -- Behind a design that was read, of a run of the scripts of the files of these names: the scripts were read in their order, until one was
 -- refused, and nothing was written; or all were read, and then run.
 abbrev pub ReadGives : Design → List (List ℕ) → Option Shelf → Option (List ℕ) → Option (List ℕ) → Status → Type 0
@@ -53,6 +60,7 @@ Gives (Show name wanted) told old new result =
 Gives (Run name names) told old new result =
     (RefusesDesign told name result × (new ≡ old))
     ⊎ ((d : Design) × IsRead told name d × ReadGives d names told old new result)
+Gives (Generate n) told old new result = SummaryGives n old new result
 
 -- a status behind a fault in reading in the order of causes: it comes only where no such fault was counted
 abbrev pub IsBehindReadFault : Status → Type 0

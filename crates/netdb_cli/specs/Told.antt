@@ -2,7 +2,6 @@
 use Rattle.std.specs.Prelude.{◌≡◌, ◌+◌, ◌≤◌, ◌<◌, ℕ, List, [], ◌∷◌, ◌++◌, drop, length, Option, None, IfSome, IsSomeAnd}
 use Rattle.netlist_schema.specs.Design.{Design}
 use Rattle.netlist_schema.specs.Valid.{IsValid}
-use Rattle.netlist_schema.specs.declared.limits.TheConstants.{MOST_FILE_BYTES}
 use Rattle.netdb_outside.specs.Outside.{Shelf, file_named}
 use Rattle.edif_spec.specs.Arranged.{canonical_text}
 use Rattle.session_spec.specs.ScriptText.{Parts, IsScriptText, IsFirstBad, steps_of}

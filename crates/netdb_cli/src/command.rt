@@ -1,7 +1,7 @@
 //! Which command the words are.
 ghost use Rattle.std.specs.Prelude.{◌≡◌, ◌∷◌, [], ◌<◌, ◌^◌, ℕ, MatchOption, codes};
 ghost use Rattle.std.specs.Fmt.{decimal};
-ghost use Rattle.netdb_cli.specs.Command.{Asks, IsCommand, IsLimit, request_of, spelled};
+ghost use Rattle.netdb_cli.specs.Command.{Asks, IsCommand, IsLimit, IsSize, request_of, spelled};
 
 use itoa::Buffer;
 
@@ -10,6 +10,9 @@ pub const MOST_SCRIPT_BYTES: u64 = 262_144;
 
 /// The most scripts of a run.
 const MOST_SCRIPTS: usize = 64;
+
+/// The largest size of a generated design.
+const MOST_SIZE: u32 = 4_096;
 
 /// What is wanted of the design of a file.
 #[derive(Clone, Copy, Debug)]
@@ -34,6 +37,10 @@ pub enum Command<'a> {
     Run {
         name: &'a str,
         scripts: &'a [String],
+    },
+    /// The generated design and run of this size.
+    Generate {
+        size: u32,
     },
 }
 
@@ -125,7 +132,11 @@ fn short_command<'a>(first: &str, second: &'a str) -> Option<Command<'a>>
             wanted: Wanted::Pins,
         });
     }
-    None
+    if first != "gen" {
+        return None;
+    }
+    let size = size_in(second)?;
+    Some(Command::Generate { size })
 }
 
 /// The limit that a word is: a number from 1 to 4,294,967,295.
@@ -137,6 +148,20 @@ fn limit_in(word: &str) -> Option<u32>
         return None;
     }
     Some(limit)
+}
+
+/// The size that a word is: a number from 1 to 4,096.
+fn size_in(word: &str) -> Option<u32>
+    ensures { MatchOption result ((n : ℕ) → IsSize n → word.now ≡ decimal n → ⊥) (λ n. IsSize n × (word.now ≡ decimal n)) }
+{
+    let size = number_in(word)?;
+    if size == 0 {
+        return None;
+    }
+    if size > MOST_SIZE {
+        return None;
+    }
+    Some(size)
 }
 
 /// The number of 32 bits that a word is, in decimal digits, without a sign and without a zero before it.

@@ -1,11 +1,13 @@
 //! The files of a command, read in the order of the words.
-ghost use Rattle.std.specs.Prelude.{◌≡◌, ◌≤◌, ◌+◌, ◌^◌, ◌<◌, IfErr, IfOk, IfSome, MatchResult, length, vec_len};
+ghost use Rattle.std.specs.Prelude.{◌≡◌, ◌≤◌, ◌+◌, ◌^◌, ◌<◌, ℕ, List, IfErr, IfOk, IfSome, MatchResult, length, vec_len};
 ghost use Rattle.netlist_schema.specs.declared.limits.TheConstants.{MOST_FILE_BYTES as MOST_DESIGN_BYTES};
 ghost use Rattle.netdb_outside.specs.Contents.{IsReadWhole};
 ghost use Rattle.netdb_outside.specs.Outside.{SameFiles};
 ghost use Rattle.run_scripts.specs.Run.{all_steps};
 ghost use Rattle.session_spec.specs.ScriptText.{steps_of};
-ghost use Rattle.design_file.specs.Files.{IsDesignFile};
+ghost use Rattle.design_file.specs.Files.{IsDesignFile, IsWrong};
+ghost use Rattle.design_file.specs.Reader.{WasFed};
+ghost use Rattle.design_file.specs.Steps.{Says};
 ghost use Rattle.netdb_cli.specs.Command.{spelled};
 ghost use Rattle.netdb_cli.specs.Outcome.{CountsReading};
 ghost use Rattle.netdb_cli.specs.Refusals.{RefusesDesign, RefusesFile, RefusesScript, RefusesScripts};
@@ -14,8 +16,8 @@ ghost use Rattle.netdb_cli.specs.Told.{AreRead, IsFile, IsLastRead, IsRead, IsRe
 
 use crate::command::MOST_SCRIPT_BYTES;
 use crate::status::Status;
-use design_file::{NoDesign, read_bytes};
-use netdb_outside::{Contents, Files, read_file};
+use design_file::{DesignReader, NoDesign};
+use netdb_outside::{Contents, Ended, Files, read_file, read_pieces};
 use netlist_schema::limits::MOST_FILE_BYTES;
 use netlist_schema::{Design, Text};
 use script_reader::{ScriptError, parse};
@@ -50,28 +52,41 @@ fn read_whole<F: Files>(
     }
 }
 
-/// The design that the bytes of a design file mean, or the status that refuses them.
-fn design_of(alloc: Global, bytes: &[u8]) -> Result<Design, Status>
-    requires { length bytes.now ≤ MOST_DESIGN_BYTES }
-    ensures { MatchResult result (IsDesignFile bytes.now) (IsNoDesign bytes.now) }
+/// The status of a file of which this is wrong, or of want of memory.
+fn refused_by(error: NoDesign) -> Status
+    ensures { (bytes : List ℕ) → Says (IsWrong bytes) error → IsNoDesign bytes result }
 {
-    match read_bytes(alloc, bytes) {
-        Ok(design) => Ok(design),
-        Err(NoDesign::Fault(fault)) => Err(Status::BadEdif { fault }),
-        Err(NoDesign::NoMemory) => Err(Status::NoMemory),
+    match error {
+        NoDesign::Fault(fault) => Status::BadEdif { fault },
+        NoDesign::NoMemory => Status::NoMemory,
     }
 }
 
-/// Reads the design of a file, or tells the status that refuses it.
+/// The design of a file whose bytes a reader was fed, or the status that refuses it.
+fn design_of(reader: DesignReader) -> Result<Design, Status>
+    ensures { (fed : List ℕ) → WasFed reader fed → length fed ≤ MOST_DESIGN_BYTES → MatchResult result (IsDesignFile fed) (IsNoDesign fed) }
+{
+    match reader.finish() {
+        Ok(design) => Ok(design),
+        Err(error) => Err(refused_by(error)),
+    }
+}
+
+/// Reads the design of a file piece by piece, or tells the status that refuses it.
 pub fn read_design<F: Files>(alloc: Global, files: &mut F, name: &str) -> Result<Design, Status>
     ensures read { IfOk result (λ d. IsRead (F.told files.new) name.now d × IsReadThrough (F.told files.new) name.now MOST_DESIGN_BYTES) }
     ensures refused { IfErr result (RefusesDesign (F.told files.new) name.now) }
     ensures counts { CountsReading (F.faults files.old) (F.faults files.new) (status_of result) }
     ensures files { SameFiles (F.told files.old) (F.told files.new) }
 {
-    match read_whole(alloc, files, name, FILE_WORD, MOST_FILE_BYTES) {
-        Ok(text) => design_of(alloc, text.as_slice()),
-        Err(status) => Err(status),
+    let word = FILE_WORD;
+    let mut reader = DesignReader::new(alloc);
+    match read_pieces(alloc, files, name, MOST_FILE_BYTES, &mut reader) {
+        Ended::Whole => design_of(reader),
+        Ended::TooLarge => Err(Status::TooLarge { word }),
+        Ended::Missing => Err(Status::Missing { word }),
+        Ended::Failed => Err(Status::ReadFault { word }),
+        Ended::NoMemory => Err(Status::NoMemory),
     }
 }
 

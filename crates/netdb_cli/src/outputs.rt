@@ -1,17 +1,19 @@
-//! What is written of a design and of a run.
+//! What is written of a design, of a run and of a generated run.
 ghost use Rattle.std.specs.Prelude.{◌≡◌, ◌≤◌, ◌↔◌, IsTrue, length};
 ghost use Rattle.std.specs.List.{list_any};
 ghost use Rattle.edif_spec.specs.Arranged.{canonical_text};
 ghost use Rattle.session_spec.specs.Headline.{CanWalk, SomeWalks};
 ghost use Rattle.run_scripts.specs.Run.{all_steps};
-ghost use Rattle.netdb_cli.specs.Outcome.{CountsWriting, OutputGives, RunGives, TextGives};
+ghost use Rattle.netdb_cli.specs.Command.{IsSize};
+ghost use Rattle.netdb_cli.specs.Outcome.{CountsWriting, OutputGives, RunGives, SummaryGives, TextGives};
 ghost use Rattle.netdb_cli.specs.Walks.{is_walk};
 
 use crate::command::Wanted;
 use crate::status::Status;
 use edif_writer::write_design;
 use flat_out::{FlatError, write_flat, write_pin_table};
-use netdb_outside::{Gate, Sink, WriteError};
+use gen_run::summary;
+use netdb_outside::{Gate, Put, Sink, WriteError};
 use netlist_schema::{Design, Shown};
 use run_scripts::{RunEnd, write_run};
 use session_spec::{Script, Step};
@@ -148,4 +150,28 @@ pub fn write_report<R: Threads + Wait + Sync, K: Sink, G: Gate + Sync>(
         }
     }
     report(rt, alloc, design, scripts, gate, out)
+}
+
+/// Writes bytes as they are.
+fn put_bytes<K: Sink>(bytes: &[u8], out: &mut K) -> Status
+    ensures gives { TextGives bytes.now (K.written out.old) (K.written out.new) result }
+    ensures counts { CountsWriting (K.faults out.old) (K.faults out.new) result }
+{
+    match out.put(bytes) {
+        Put::Put => Status::Ok,
+        Put::Failed => Status::WriteFault,
+        Put::NoMemory => Status::NoMemory,
+    }
+}
+
+/// Writes the summary of a generated run.
+pub fn write_summary<K: Sink>(alloc: Global, size: u32, out: &mut K) -> Status
+    requires { IsSize size }
+    ensures gives { SummaryGives size (K.written out.old) (K.written out.new) result }
+    ensures counts { CountsWriting (K.faults out.old) (K.faults out.new) result }
+{
+    match summary(alloc, size) {
+        Ok(text) => put_bytes(text.as_slice(), out),
+        Err(_) => Status::NoMemory,
+    }
 }

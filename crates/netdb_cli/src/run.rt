@@ -8,7 +8,7 @@ ghost use Rattle.netdb_cli.specs.Outcome.{CountsReading, CountsWriting, Gives, R
 use crate::command::{Command, Wanted, command_of};
 use crate::inputs::{read_design, read_scripts};
 use crate::laws::given_is_due;
-use crate::outputs::{write_output, write_report};
+use crate::outputs::{write_output, write_report, write_summary};
 use crate::status::Status;
 use netdb_outside::{Files, Gate, Sink};
 use netlist_schema::Design;
@@ -97,6 +97,7 @@ fn run_command<R: Threads + Wait + Sync, F: Files, K: Sink, G: Gate + Sync>(
     match command {
         Command::Show { name, wanted } => show_file(alloc, name, wanted, files, out),
         Command::Run { name, scripts } => run_on_file(rt, alloc, name, scripts, files, out, gate),
+        Command::Generate { size } => write_summary(alloc, size, out),
     }
 }
 
@@ -105,8 +106,8 @@ fn run_command<R: Threads + Wait + Sync, F: Files, K: Sink, G: Gate + Sync>(
 /// `write F` reads the design file F and writes its canonical text. `flat F` writes the items of its flattening, a line each, and then
 /// `end`; `flat F limit N` at most N of them, N from 1 to 4,294,967,295, and then `end`, or `more` where items are left. `csv F` writes
 /// the pins of the flattening as a table. `run F S1 .. Sn` reads 1 to 64 scripts of at most 262,144 bytes, runs them beside each other on
-/// the design of F, each by a worker of its own, which tells the gate of its lines, and writes the report of the run. Whatever
-/// it answers, it changes no file.
+/// the design of F, each by a worker of its own, which tells the gate of its lines, and writes the report of the run. `gen N` makes a
+/// design and a run of size N, from 1 to 4,096, and writes a summary. Whatever it answers, it changes no file.
 ///
 /// At `Ok` the whole text was written. What `write` wrote spells a tree that means the design that was read. What `run` wrote is the
 /// report of one legal history whose callers are just the scripts: each script fits the events of its caller there in order, each walk is

@@ -2,6 +2,12 @@
 #![tactic(auto)]
 
 #[cfg(test)]
+mod eco;
+#[cfg(test)]
+mod eco_texts;
+#[cfg(test)]
+mod generated;
+#[cfg(test)]
 mod given;
 #[cfg(test)]
 mod rows;

@@ -227,6 +227,7 @@ fn spelling_and_nesting_are_judged(rt: HostRuntime) -> Result<(), Fail> {
         (" (comment \"x", "BadString at 81"),
         (") (comment \"y\")", "Trailing at 73"),
         ("))", "ExtraClose at 72"),
+        (")) 9x", "BadNumber at 74"),
         (" 99999999999999999999)", "BadNumber at 72"),
         (" (comment \"%256%\"))", "BadEscape at 82"),
     ] {

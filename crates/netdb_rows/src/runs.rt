@@ -11,7 +11,7 @@ use std::test::Fail;
 use std::thread::Threads;
 
 /// A file's name and its bytes.
-type Named<'a> = (&'a str, &'a str);
+pub type Named<'a> = (&'a str, &'a str);
 
 /// The files, by name.
 fn named(alloc: Global, files: &[Named]) -> Result<Vec<NamedFile>, AllocError> {
@@ -44,7 +44,7 @@ fn run<R: Abort + Threads + Wait + Sync, G: Gate + Sync>(
 }
 
 /// Runs a command on files, none of whose calls fails.
-fn free_run<R: Abort + Threads + Wait + Sync>(
+pub fn free_run<R: Abort + Threads + Wait + Sync>(
     rt: &R,
     alloc: Global,
     files: &[Named],

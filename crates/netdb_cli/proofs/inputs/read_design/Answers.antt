@@ -1,17 +1,18 @@
-use Rattle.std.proofs.Common.{List, subst}
-use Prim.Native.Nat.{ℕ}
-use Rattle.std.specs.Prelude.{MatchResult}
-use Rattle.design_file.specs.Files.{IsDesignFile}
-use Rattle.netdb_cli.specs.Steps.{IsNoDesign}
-use Rattle.netdb_cli.proofs.InputLemmas.{design_read}
+use Rattle.std.proofs.Common.{[]}
+use Rattle.netdb_cli.proofs.InputLemmas.{design_counted, design_read}
 use Rattle.netdb_cli.proofs.inputs.read_design.Goals as goal
 
-pub returns-in-Ok-clause-read : goal.returns-in-Ok-clause-read
-returns-in-Ok-clause-read g c =
-    (design_read (g.F.Files.told c.read_whole.new.files) c.args.name.now c.in-Ok.text c.design_of.result c.in-Ok.ensures.read.0 c.in-Ok.ensures.read.1
-    (subst (λ (b : List ℕ). MatchResult c.design_of.result (IsDesignFile b) (IsNoDesign b)) c.as_slice.ensures.value c.design_of.ensures)).0
+pub returns-in-Whole-clause-read : goal.returns-in-Whole-clause-read
+returns-in-Whole-clause-read g c =
+    let read = c.in-Whole.ensures.ends in
+    (design_read (g.F.Files.told c.read_pieces.new.files) c.args.name.now read.0 c.design_of.result read.1 read.2 (c.design_of.ensures read.0 (read.3 [] c.new-reader.ensures) read.1)).0
 
-pub returns-in-Ok-clause-refused : goal.returns-in-Ok-clause-refused
-returns-in-Ok-clause-refused g c =
-    (design_read (g.F.Files.told c.read_whole.new.files) c.args.name.now c.in-Ok.text c.design_of.result c.in-Ok.ensures.read.0 c.in-Ok.ensures.read.1
-    (subst (λ (b : List ℕ). MatchResult c.design_of.result (IsDesignFile b) (IsNoDesign b)) c.as_slice.ensures.value c.design_of.ensures)).1
+pub returns-in-Whole-clause-refused : goal.returns-in-Whole-clause-refused
+returns-in-Whole-clause-refused g c =
+    let read = c.in-Whole.ensures.ends in
+    (design_read (g.F.Files.told c.read_pieces.new.files) c.args.name.now read.0 c.design_of.result read.1 read.2 (c.design_of.ensures read.0 (read.3 [] c.new-reader.ensures) read.1)).1
+
+pub returns-in-Whole-clause-counts : goal.returns-in-Whole-clause-counts
+returns-in-Whole-clause-counts g c =
+    let read = c.in-Whole.ensures.ends in
+    design_counted (g.F.Files.faults c.args.files.now) (g.F.Files.faults c.read_pieces.new.files) read.0 c.design_of.result (c.design_of.ensures read.0 (read.3 [] c.new-reader.ensures) read.1) (c.in-Whole.ensures.quiet tt)

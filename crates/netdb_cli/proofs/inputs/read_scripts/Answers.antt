@@ -1,4 +1,4 @@
-use Rattle.std.proofs.Common.{◌≡◌, ◌<◌, ◌+◌, ◌∙◌, List, length, arith, subst, vec_len}
+use Rattle.std.proofs.Common.{◌<◌, ◌+◌, ◌∙◌, List, length, arith, subst, vec_len}
 use Prim.Native.Nat.{ℕ}
 use Rattle.session_spec.specs.ScriptText.{steps_of}
 use Rattle.netdb_cli.specs.Refusals.{RefusesScript}
