@@ -5,17 +5,20 @@ use Rattle.std.specs.List.{AllByRecursion}
 use Rattle.spelling_spec.specs.Tree.{Bare, word}
 use Rattle.edif_spec.specs.Keyword.{Many, One, AnIdentifier, AForm}
 use Rattle.edif_spec.specs.Rows.{is_one_of, Perhaps}
-use Rattle.edif_spec.specs.Canonical.{make, perhaps, name_tree, text_tree, property_tree, cell_ref_tree, inst_tree, ports_of_end, bit_tree, port_ref_tree, end_tree, net_tree, contents_tree}
-use Rattle.edif_spec.specs.Means.{meant, Found, MeansText, MeansCellRef, MeansViewRef, MeansInst, MeansInstRef, MeansBit, MeansEnd, MeansNet, MeansContents, width_at}
+use Rattle.edif_spec.specs.Canonical.{make, perhaps, name_tree, text_tree, property_tree, cell_ref_tree, inst_tree, ports_of_end, bit_tree, bits_tree, port_name_tree, end_tree, net_tree, contents_tree}
+use Rattle.edif_spec.specs.Means.{meant, Found, MeansText, MeansCellRef, MeansViewRef, MeansInst, MeansInstRef, MeansBits, MeansEnd, MeansNet, MeansContents, width_at}
 use Rattle.netlist_schema.specs.Valid.{HasBit}
-use Rattle.edif_spec.proofs.ValidForms.{distinct, ValidInst, ValidEnd, ValidNet, ValidContents}
+use Rattle.netlist_schema.specs.Width.{IsWidth}
+use Rattle.edif_spec.specs.Nets.{NetForm, Stretch, net_forms, row_size}
+use Rattle.edif_spec.proofs.WrittenNets.{Covers, HasPort, IsPlacedForm, IsPlacedStretch, forms_are_nets, forms_placed, forms_properties}
+use Rattle.edif_spec.proofs.ValidForms.{distinct, ValidProperties, ValidInst, ValidEnd, ValidNet, ValidContents}
 use Rattle.edif_spec.proofs.FromValid.{all_at, weaker, both_all}
 use Rattle.edif_spec.specs.declared.keyword.Keyword.{Keyword}
 use Rattle.edif_spec.specs.declared.keyword.Keyword.TheVariants as keywords
 use Rattle.edif_spec.specs.Design as design
 use Rattle.edif_spec.proofs.Groups.{joined, Grouped, those_joined, joined_follows}
 use Rattle.edif_spec.proofs.Followers.{at_most_one, each_map, perhaps_one}
-use Rattle.edif_spec.proofs.Meanings.{name_fits, name_meant, text_form, group_of, option_group, properties_meant}
+use Rattle.edif_spec.proofs.Meanings.{name_fits, name_meant, port_name_fits, port_name_meant, text_form, group_of, option_group, properties_meant}
 use Rattle.edif_spec.proofs.Scopes.{meant_self, get_map, some_of, lib_of_cell, IsScope, cell_in_all}
 
 abbrev name_of_cell : design.CellBody → List ℕ
@@ -122,14 +125,22 @@ ports_differ all own insts (Some i) p d h l =
     let there : ports_of_end all own insts (Some i) ≡ c.0.ports = ap (λ o. unwrap_or (option_map (λ (y : design.Inst). design.ports_at all y.of) o) []) x.1 ∙ ports_there all x.0.of c.0 c.1 in
     ap (λ v. distinct (design.port_ids v)) there ∙ p x.0.of c.0 c.1
 
--- a bit of a port
+-- what a stretch covers of a port
 bit_fits : (n : List ℕ) (o : Option ℕ) (b : ℕ) → IsTrue (is_one_of (AnIdentifier ∷ AForm keywords.Member ∷ []) (bit_tree n o b))
 bit_fits n None b = refl
 bit_fits n (Some w) b = refl
 
-bit_meant : (ports : List design.Port) (i b : ℕ) (name : List ℕ) (array : Option ℕ) → meant (design.port_ids ports) name ≡ Found i → width_at ports i ≡ unwrap_or array 1 → b < unwrap_or array 1 → MeansBit ports (bit_tree name array b) i b
-bit_meant ports i b name None m w l = inl (name, refl, m, w, (let z : b ≡ 0 = omega arith in z))
-bit_meant ports i b name (Some n) m w l = inr (name, record { spelled = codes "member"; is = refl; keyword = refl; fits = ((refl, (refl, tt)), refl, tt) }, m, (rw w l))
+bits_fit : (array : Option ℕ) (p : design.Port) (b : ℕ) → IsTrue (is_one_of (AnIdentifier ∷ AForm keywords.Member ∷ []) (bits_tree array (Some p) b))
+bits_fit None p b = bit_fits p.name.id p.array b
+bits_fit (Some n) p b = refl
+
+one_bit : (ports : List design.Port) (i b v : ℕ) (name : List ℕ) (array : Option ℕ) → meant (design.port_ids ports) name ≡ Found i → width_at ports i ≡ unwrap_or array 1 → b < unwrap_or array 1 → v ≡ 1 → MeansBits ports (bit_tree name array b) i b v
+one_bit ports i b v name None m w l o = inl (name, refl, m, (let z : b ≡ 0 = omega arith in z), o ∙ sym w)
+one_bit ports i b v name (Some n) m w l o = inr (name, record { spelled = codes "member"; is = refl; keyword = refl; fits = ((refl, (refl, tt)), refl, tt) }, m, (rw w l), o)
+
+bits_meant : (ports : List design.Port) (array : Option ℕ) (p : design.Port) (s : Stretch) → meant (design.port_ids ports) p.name.id ≡ Found s.port → width_at ports s.port ≡ design.port_width p → Covers array p s → MeansBits ports (bits_tree array (Some p) s.first) s.port s.first s.width
+bits_meant ports None p s m w c = one_bit ports s.port s.first s.width p.name.id p.array m w c.0 c.1
+bits_meant ports (Some n) p s m w c = inl (p.name.id, refl, m, c.0, c.1 ∙ (sym (ap (λ o. unwrap_or o 1) c.2) ∙ sym w))
 
 -- the port that has a bit
 bit_there : (ports : List design.Port) (port bit : ℕ) → HasBit ports port bit → (p : design.Port) × (slice_get ports port ≡ Some p) × (bit < design.port_width p)
@@ -157,63 +168,105 @@ inst_ref_meant insts (Some i) d l =
       ap (meant (design.inst_ids insts)) n ∙ meant_self (design.inst_ids insts) i x.0.name.id d (get_map (λ (y : design.Inst). y.name.id) insts i x.0 x.1),
     )
 
-end_meant : (scope all : List design.Lib) (own : List design.Port) (insts : List design.Inst) (e : design.End) → ContentsScope scope all own insts → ValidEnd all own insts e → MeansEnd scope own insts (end_tree all own insts e) e
-end_meant scope all own insts e s h =
+-- a stretch of a net with or without an array, at a port that is there and at an instance that is there
+pub record ValidStretch (all : List design.Lib) (own : List design.Port) (insts : List design.Inst) (array : Option ℕ) (s : Stretch) : Type 0 where
+  pub inst : IfSome s.inst (λ i. i < length insts)
+  pub placed : IsPlacedStretch (ports_of_end all own insts) array s
+
+end_meant : (scope all : List design.Lib) (own : List design.Port) (insts : List design.Inst) (array : Option ℕ) (e : Stretch) → ContentsScope scope all own insts → ValidStretch all own insts array e → MeansEnd scope own insts (end_tree all own insts array e) e
+end_meant scope all own insts array e s h =
     let ports = ports_of_end all own insts e.inst in
-    let p = bit_there ports e.port e.bit h.bit in
+    let p = h.placed.port in
+    let there : slice_get ports e.port ≡ Some p = h.placed.there in
     let same_ports : ports ≡ ports_of_end scope own insts e.inst = ports_same scope all own insts e.inst s.within s.defined in
-    let bit : e.bit < design.port_width p.0 = p.2 in
     let gs : List (Keyword × List Bare) = (keywords.InstanceRef, perhaps (λ i. make keywords.InstanceRef (word (design.inst_id insts i) ∷ [])) e.inst) ∷ [] in
     let grouped : Grouped gs = (option_group keywords.InstanceRef (λ i. make keywords.InstanceRef (word (design.inst_id insts i) ∷ [])) e.inst (λ x. refl), tt) in
-    let tree : bit_tree p.0.name.id p.0.array e.bit ≡ port_ref_tree (slice_get ports e.port) e.bit = sym (ap (λ o. port_ref_tree o e.bit) p.1) in
-    let T : Bare → Type 0 = λ v. MeansBit ports v e.port e.bit in
+    let tree : bits_tree array (Some p) e.first ≡ bits_tree array (slice_get ports e.port) e.first = sym (ap (λ o. bits_tree array o e.first) there) in
+    let T : Bare → Type 0 = λ v. MeansBits ports v e.port e.first e.width in
     let F : Bare → Type 0 = λ v. IsTrue (is_one_of (AnIdentifier ∷ AForm keywords.Member ∷ []) v) in
-    let U : List design.Port → Type 0 = λ v. MeansBit v (port_ref_tree (slice_get ports e.port) e.bit) e.port e.bit in
-    let named : meant (design.port_ids ports) p.0.name.id ≡ Found e.port = meant_self (design.port_ids ports) e.port p.0.name.id (ports_differ all own insts e.inst s.ports s.own_ports s.there h.inst) (get_map (λ (y : design.Port). y.name.id) ports e.port p.0 p.1) in
-    let width : width_at ports e.port ≡ unwrap_or p.0.array 1 = ap (λ o. unwrap_or (option_map design.port_width o) 0) p.1 in
+    let U : List design.Port → Type 0 = λ v. MeansBits v (bits_tree array (slice_get ports e.port) e.first) e.port e.first e.width in
+    let named : meant (design.port_ids ports) p.name.id ≡ Found e.port = meant_self (design.port_ids ports) e.port p.name.id (ports_differ all own insts e.inst s.ports s.own_ports s.there h.inst) (get_map (λ (y : design.Port). y.name.id) ports e.port p there) in
+    let width : width_at ports e.port ≡ design.port_width p = ap (λ o. unwrap_or (option_map design.port_width o) 0) there in
     record {
-      bit_part = port_ref_tree (slice_get ports e.port) e.bit;
+      bits_part = bits_tree array (slice_get ports e.port) e.first;
       inner = joined gs;
       form = record {
         spelled = codes "portRef";
         is = refl;
         keyword = refl;
         fits = (
-          (subst F tree (bit_fits p.0.name.id p.0.array e.bit), tt),
+          (subst F tree (bits_fit array p e.first), tt),
           joined_follows (One keywords.InstanceRef ∷ []) gs refl grouped,
           (rw (those_joined keywords.InstanceRef gs grouped) (at_most_one (λ i. make keywords.InstanceRef (word (design.inst_id insts i) ∷ [])) e.inst), tt),
         );
       };
       inst = rw (those_joined keywords.InstanceRef gs grouped) (inst_ref_meant insts e.inst s.names h.inst);
-      bit = subst U same_ports (subst T tree (bit_meant ports e.port e.bit p.0.name.id p.0.array named width bit));
+      bits = subst U same_ports (subst T tree (bits_meant ports array p e named width h.placed.covers));
     }
 
-net_meant : (scope all : List design.Lib) (own : List design.Port) (insts : List design.Inst) (n : design.Net) → ContentsScope scope all own insts → ValidNet all own insts n → MeansNet scope own insts (net_tree all own insts n) n
+-- a form of a net that can be written
+pub record ValidForm (all : List design.Lib) (own : List design.Port) (insts : List design.Inst) (n : NetForm) : Type 0 where
+  pub array : IfSome n.array IsWidth
+  pub joined : AllByRecursion (ValidStretch all own insts n.array) n.joined
+  pub properties : ValidProperties n.properties
+
+as_wide : (ports : Option ℕ → List design.Port) (array : Option ℕ) (s : Stretch) → IsPlacedStretch ports array s → s.width ≡ row_size array
+as_wide ports None s h = h.covers.1
+as_wide ports (Some n) s h = h.covers.1
+
+net_meant : (scope all : List design.Lib) (own : List design.Port) (insts : List design.Inst) (n : NetForm) → ContentsScope scope all own insts → ValidForm all own insts n → MeansNet scope own insts (net_tree all own insts n) n
 net_meant scope all own insts n s h =
     let gs : List (Keyword × List Bare) = (keywords.Property, map property_tree n.properties) ∷ [] in
     let grouped : Grouped gs = (group_of keywords.Property property_tree n.properties (λ x. refl), tt) in
-    let es : List (Keyword × List Bare) = (keywords.PortRef, map (end_tree all own insts) n.ends) ∷ [] in
-    let ends_grouped : Grouped es = (group_of keywords.PortRef (end_tree all own insts) n.ends (λ x. refl), tt) in
+    let es : List (Keyword × List Bare) = (keywords.PortRef, map (end_tree all own insts n.array) n.joined) ∷ [] in
+    let ends_grouped : Grouped es = (group_of keywords.PortRef (end_tree all own insts n.array) n.joined (λ x. refl), tt) in
     record {
-      name_part = name_tree n.name;
-      joined_part = make keywords.Joined (map (end_tree all own insts) n.ends);
-      refs = map (end_tree all own insts) n.ends;
+      name_part = port_name_tree n.name n.array;
+      joined_part = make keywords.Joined (map (end_tree all own insts n.array) n.joined);
+      refs = map (end_tree all own insts n.array) n.joined;
       inner = joined gs;
-      form = record { spelled = codes "net"; is = refl; keyword = refl; fits = ((name_fits n.name.id n.name.shown, (refl, tt)), joined_follows (Many keywords.Property ∷ Many keywords.Comment ∷ Many keywords.UserData ∷ []) gs refl grouped, tt) };
+      form = record { spelled = codes "net"; is = refl; keyword = refl; fits = ((port_name_fits n.name.id n.name.shown n.array, (refl, tt)), joined_follows (Many keywords.Property ∷ Many keywords.Comment ∷ Many keywords.UserData ∷ []) gs refl grouped, tt) };
       joined = record { spelled = codes "joined"; is = refl; keyword = refl; fits = (tt, joined_follows (Many keywords.PortRef ∷ []) es refl ends_grouped, tt) };
-      name = name_meant n.name.id n.name.shown;
-      ends = each_map (ValidEnd all own insts) (MeansEnd scope own insts) (end_tree all own insts) n.ends h.ends (λ e v. end_meant scope all own insts e s v);
+      name = port_name_meant n.name n.array h.array;
+      ends = each_map (ValidStretch all own insts n.array) (MeansEnd scope own insts) (end_tree all own insts n.array) n.joined h.joined (λ e v. end_meant scope all own insts n.array e s v);
+      wide = weaker (ValidStretch all own insts n.array) (λ (x : Stretch). x.width ≡ row_size n.array) n.joined (λ x v. as_wide (ports_of_end all own insts) n.array x v.placed) h.joined;
       properties = rw (those_joined keywords.Property gs grouped) (properties_meant n.properties h.properties);
     }
+
+-- the forms of valid nets
+has_port : (all : List design.Lib) (ports : List design.Port) (insts : List design.Inst) (e : design.End) → ValidEnd all ports insts e → HasPort (ports_of_end all ports insts) e
+has_port all ports insts e v = bit_there (ports_of_end all ports insts e.inst) e.port e.bit v.bit
+
+stretches_valid : (all : List design.Lib) (ports : List design.Port) (insts : List design.Inst) (array : Option ℕ) (ss : List Stretch) → AllByRecursion (IsPlacedStretch (ports_of_end all ports insts) array) ss
+    → AllByRecursion (λ (s : Stretch). (e : design.End) × (e.inst ≡ s.inst) × ValidEnd all ports insts e) ss → AllByRecursion (ValidStretch all ports insts array) ss
+stretches_valid all ports insts array [] h k = tt
+stretches_valid all ports insts array (s ∷ ss) h k =
+    let P : Option ℕ → Type 0 = λ o. IfSome o (λ i. i < length insts) in
+    (record { inst = subst P k.0.1 k.0.2.inst; placed = h.0 }, stretches_valid all ports insts array ss h.1 k.1)
+
+forms_valid : (all : List design.Lib) (ports : List design.Port) (insts : List design.Inst) (fs : List NetForm) → AllByRecursion (IsPlacedForm (ports_of_end all ports insts) (ValidEnd all ports insts)) fs → AllByRecursion (λ (f : NetForm). ValidProperties f.properties) fs → AllByRecursion (ValidForm all ports insts) fs
+forms_valid all ports insts [] h k = tt
+forms_valid all ports insts (f ∷ fs) h k = (record { array = h.0.array; joined = stretches_valid all ports insts f.array f.joined h.0.joined h.0.known; properties = k.0 }, forms_valid all ports insts fs h.1 k.1)
+
+written_valid : (all : List design.Lib) (ports : List design.Port) (insts : List design.Inst) (nets : List design.Net) → AllByRecursion (ValidNet all ports insts) nets → AllByRecursion (ValidForm all ports insts) (net_forms (ports_of_end all ports insts) nets)
+written_valid all ports insts nets h =
+    forms_valid all ports insts (net_forms (ports_of_end all ports insts) nets)
+    (forms_placed (ports_of_end all ports insts) (ValidEnd all ports insts) 0 nets
+    (weaker (ValidNet all ports insts) (λ (n : design.Net). AllByRecursion (HasPort (ports_of_end all ports insts)) n.ends) nets (λ n v. weaker (ValidEnd all ports insts) (HasPort (ports_of_end all ports insts)) n.ends (has_port all ports insts) v.ends) h)
+    (weaker (ValidNet all ports insts) (λ (n : design.Net). AllByRecursion (ValidEnd all ports insts) n.ends) nets (λ n v. v.ends) h))
+    (forms_properties (ports_of_end all ports insts) ValidProperties 0 nets (weaker (ValidNet all ports insts) (λ (n : design.Net). ValidProperties n.properties) nets (λ n v. v.properties) h))
 
 pub contents_meant : (scope all : List design.Lib) (o : Option ℕ) (ports : List design.Port) (c : design.Contents) → IsScope scope all → PortsDiffer all → distinct (design.port_ids ports) ≡ true → AllByRecursion (DefinedIn scope) c.insts → ValidContents all ports c → MeansContents scope o ports (contents_tree all ports c) c
 contents_meant scope all o ports c s p d f h =
     let cs : ContentsScope scope all ports c.insts = record { within = s; defined = f; there = weaker (ValidInst all) (λ i. IsSome (design.cell_at all i.of)) c.insts (λ x v. v.of) h.insts; ports = p; own_ports = d; names = h.inst_names } in
-    let gs : List (Keyword × List Bare) = (keywords.Instance, map (inst_tree all) c.insts) ∷ (keywords.Net, map (net_tree all ports c.insts) c.nets) ∷ [] in
-    let grouped : Grouped gs = (group_of keywords.Instance (inst_tree all) c.insts (λ x. refl), (group_of keywords.Net (net_tree all ports c.insts) c.nets (λ x. refl), tt)) in
+    let fs : List NetForm = net_forms (ports_of_end all ports c.insts) c.nets in
+    let gs : List (Keyword × List Bare) = (keywords.Instance, map (inst_tree all) c.insts) ∷ (keywords.Net, map (net_tree all ports c.insts) fs) ∷ [] in
+    let grouped : Grouped gs = (group_of keywords.Instance (inst_tree all) c.insts (λ x. refl), (group_of keywords.Net (net_tree all ports c.insts) fs (λ x. refl), tt)) in
     record {
       inner = joined gs;
       form = record { spelled = codes "contents"; is = refl; keyword = refl; fits = (tt, joined_follows (Many keywords.Instance ∷ Many keywords.Net ∷ Many keywords.Comment ∷ Many keywords.UserData ∷ []) gs refl grouped, tt) };
       insts = rw (those_joined keywords.Instance gs grouped) (each_map (λ i. ValidInst all i × DefinedIn scope i) (MeansInst scope o) (inst_tree all) c.insts (both_all (ValidInst all) (DefinedIn scope) c.insts h.insts f) (λ i v. inst_meant scope all o i s v));
-      nets = rw (those_joined keywords.Net gs grouped) (each_map (ValidNet all ports c.insts) (MeansNet scope ports c.insts) (net_tree all ports c.insts) c.nets h.nets (λ n v. net_meant scope all ports c.insts n cs v));
+      rows = fs;
+      written = rw (those_joined keywords.Net gs grouped) (each_map (ValidForm all ports c.insts) (MeansNet scope ports c.insts) (net_tree all ports c.insts) fs (written_valid all ports c.insts c.nets h.nets) (λ n v. net_meant scope all ports c.insts n cs v));
+      nets = sym (forms_are_nets (ports_of_end all ports c.insts) c.nets);
     }

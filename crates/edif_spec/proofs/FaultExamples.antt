@@ -1,9 +1,12 @@
 -- The faults of small files.
-use Rattle.std.proofs.Common.{◌≡◌, ℕ, zero, suc, ◌+◌, ◌*◌, ◌<◌, pos, List, [], ◌∷◌, refl, sym, ap, ◌∙◌, subst, inl, inr, false, Some, None, arith}
+use Rattle.std.proofs.Common.{◌≡◌, ℕ, zero, suc, ◌+◌, ◌*◌, ◌<◌, pos, List, [], ◌∷◌, ◌++◌, refl, sym, ap, ◌∙◌, subst, inl, inr, false, Some, None, arith}
 use Rattle.std.specs.Prelude.{codes, FitsSigned, slice_get}
 use Rattle.std.specs.Int.{w32}
 use Rattle.spelling_spec.specs.Tree.{Placed, Word', Integer', bare, word, form, items, trees}
-use Rattle.edif_spec.specs.Means.{MeansPort, MeansEnd, MeansCell, MeansCellRef, MeansLibrary}
+use Rattle.bus_spec.specs.Members.{member_id}
+use Rattle.std.proofs.lemmas.Fmt.{decimal_digit}
+use Rattle.edif_spec.specs.Nets.{Stretch, end_of}
+use Rattle.edif_spec.specs.Means.{MeansBusName, MeansPort, MeansEnd, MeansCell, MeansCellRef, MeansLibrary}
 use Rattle.edif_spec.specs.Faults.{those_of, BeyondBits}
 use Rattle.edif_spec.specs.Stands.{Stands, libraries}
 use Rattle.edif_spec.specs.Stands as stands
@@ -12,7 +15,7 @@ use Rattle.edif_spec.specs.Examples
 use Rattle.edif_spec.specs.Design as design
 use Rattle.netlist_schema.specs.declared.cell.CellKind.TheVariants as kinds
 use Rattle.netlist_schema.specs.declared.cell.Direction.TheVariants as directions
-use Rattle.edif_spec.specs.declared.fault.Kind.TheVariants.{BadForm, BadVersion, BadLevel, NotNetlist, Unresolved, Ambiguous, BadIndex, WholeArray, BadPath}
+use Rattle.edif_spec.specs.declared.fault.Kind.TheVariants.{BadForm, BadVersion, BadLevel, NotNetlist, Unresolved, Ambiguous, BadIndex, WholeArray, BadWidth, BadPath}
 use Rattle.edif_spec.specs.declared.fault.ClashKind.TheVariants.{SecondView, SecondDesign, Duplicate, EndTwice}
 use Rattle.edif_spec.specs.declared.fault.MeaningFault.TheVariants.{NotInProfile, At, Clash, OverLimit}
 
@@ -54,14 +57,14 @@ port = record { name = record { id = codes "p"; shown = None }; array = None; di
 port_means : MeansPort (bare Examples.joined_twice_175) port
 port_means = record { name_part = word (codes "p"); inner = []; form = record { spelled = codes "port"; is = refl; keyword = refl; fits = ((refl, tt), refl, (omega arith, (omega arith, tt))) }; name = inl (refl, refl); direction = tt; designator = tt; properties = tt }
 
-abbrev end : design.End
-end = record { inst = None; port = 0; bit = 0 }
+abbrev end : Stretch
+end = record { inst = None; port = 0; first = 0; width = 1 }
 
 end_means : MeansEnd scope (port ∷ []) [] (form (word (codes "portRef") ∷ word (codes "p") ∷ [])) end
-end_means = record { bit_part = word (codes "p"); inner = []; form = record { spelled = codes "portRef"; is = refl; keyword = refl; fits = ((refl, tt), refl, (omega arith, tt)) }; inst = tt; bit = inl (codes "p", refl, refl, refl, refl) }
+end_means = record { bits_part = word (codes "p"); inner = []; form = record { spelled = codes "portRef"; is = refl; keyword = refl; fits = ((refl, tt), refl, (omega arith, tt)) }; inst = tt; bits = inl (codes "p", refl, refl, refl, refl) }
 
 pub joined_twice_stands : Stands Examples.joined_twice (Clash EndTwice 222 210)
-joined_twice_stands = stands.in_file refl (stands.edif_library (inl (stands.library_cells (record { name_part = Word' 81 (codes "w"); head = head; there = refl; name = inl (refl, refl); external = refl; fault = inl (stands.cell_view (inl (stands.view_contents (record { interface = Examples.joined_twice_164; ports = port ∷ []; there = refl; is_interface = refl; means = (port_means, tt); fault = inl (stands.contents_nets (stands.end_again [] tt (inl (inl (end, end_means, end_means, refl))))) })))) }))))
+joined_twice_stands = stands.in_file refl (stands.edif_library (inl (stands.library_cells (record { name_part = Word' 81 (codes "w"); head = head; there = refl; name = inl (refl, refl); external = refl; fault = inl (stands.cell_view (inl (stands.view_contents (record { interface = Examples.joined_twice_164; ports = port ∷ []; there = refl; is_interface = refl; means = (port_means, tt); fault = inl (stands.contents_nets (stands.end_again [] tt (inl (inl (end_of 0 end, (end, end_means, refl, refl), (end, end_means, refl, refl), refl))))) })))) }))))
 
 pub later_cell_stands : Stands Examples.later_cell (At Unresolved 218)
 later_cell_stands = stands.in_file refl (stands.edif_library (inl (stands.library_cells (record { name_part = Word' 81 (codes "w"); head = head; there = refl; name = inl (refl, refl); external = refl; fault = inl (stands.cell_view (inl (stands.view_contents (record { interface = Examples.two_views_164; ports = []; there = refl; is_interface = refl; means = tt; fault = inl (stands.contents_inst (inl (stands.inst_view (Examples.later_cell_198, refl, refl, stands.view_ref_cell (Examples.later_cell_209, refl, refl, stands.cell_ref_name 0 refl (Word' 218 (codes "z"), refl, (codes "z", 218, refl, inl (refl, refl)))))))) })))) }))))
@@ -84,8 +87,29 @@ wide_means = record {
 not_below : (n : ℕ) → pos 4 ≡ pos n → n < 4 → ⊥
 not_below n e l = let q : 4 ≡ n = cc e in omega (arith, q, l)
 
+-- all bits of that port, by its name
+abbrev all_bits : Stretch
+all_bits = record { inst = None; port = 0; first = 0; width = 4 }
+
+all_means : MeansEnd scope (wide ∷ []) [] (form (word (codes "portRef") ∷ word (codes "d") ∷ [])) all_bits
+all_means = record { bits_part = word (codes "d"); inner = []; form = record { spelled = codes "portRef"; is = refl; keyword = refl; fits = ((refl, tt), refl, (omega arith, tt)) }; inst = tt; bits = inl (codes "d", refl, refl, refl, refl) }
+
+-- the name of an array of three nets
+array_means : MeansBusName (bare Examples.bad_width_247) (record { id = codes "n"; shown = None }) (Some 3)
+array_means = (word (codes "n"), record { spelled = codes "array"; is = refl; keyword = refl; fits = ((refl, (refl, tt)), refl, tt) }, inl (refl, refl), (omega arith, omega arith))
+
 pub whole_array_stands : Stands Examples.whole_array (At WholeArray 266)
-whole_array_stands = stands.in_file refl (stands.edif_library (inl (stands.library_cells (record { name_part = Word' 81 (codes "w"); head = head; there = refl; name = inl (refl, refl); external = refl; fault = inl (stands.cell_view (inl (stands.view_contents (record { interface = Examples.whole_array_164; ports = wide ∷ []; there = refl; is_interface = refl; means = (wide_means, tt); fault = inl (stands.contents_nets (stands.one_net [] tt (inl (stands.net_joined (Examples.whole_array_249, refl, refl, stands.joined_end (inl (stands.end_bit None tt (Word' 266 (codes "d"), refl, stands.bit_whole (record { spelled = codes "d"; place = 266; port = 0; is = refl; means = refl; wide = λ e. absurd (omega (arith, e)); fault = refl }))))))))) })))) }))))
+whole_array_stands = stands.in_file refl (stands.edif_library (inl (stands.library_cells (record { name_part = Word' 81 (codes "w"); head = head; there = refl; name = inl (refl, refl); external = refl; fault = inl (stands.cell_view (inl (stands.view_contents (record { interface = Examples.whole_array_164; ports = wide ∷ []; there = refl; is_interface = refl; means = (wide_means, tt); fault = inl (stands.contents_nets (stands.one_net [] tt (inl (stands.net_width (record { name_part = Word' 247 (codes "n"); name = record { id = codes "n"; shown = None }; array = None; there = refl; means = inl (refl, refl); fault = inl (record { bits = Word' 266 (codes "d"); there = refl; stretch = all_bits; means = all_means; other = λ e. absurd (omega (arith, e)); fault = refl }) }))))) })))) }))))
+
+pub bad_width_stands : Stands Examples.bad_width (At BadWidth 276)
+bad_width_stands = stands.in_file refl (stands.edif_library (inl (stands.library_cells (record { name_part = Word' 81 (codes "w"); head = head; there = refl; name = inl (refl, refl); external = refl; fault = inl (stands.cell_view (inl (stands.view_contents (record { interface = Examples.whole_array_164; ports = wide ∷ []; there = refl; is_interface = refl; means = (wide_means, tt); fault = inl (stands.contents_nets (stands.one_net [] tt (inl (stands.net_width (record { name_part = Examples.bad_width_247; name = record { id = codes "n"; shown = None }; array = Some 3; there = refl; means = array_means; fault = inl (record { bits = Word' 276 (codes "d"); there = refl; stretch = all_bits; means = all_means; other = λ e. absurd (omega (arith, e)); fault = refl }) }))))) })))) }))))
+
+-- the name of member 1 of `n`
+member_one : member_id (codes "n") 1 ≡ codes "n_1_"
+member_one = ap (λ v. codes "n" ++ (95 ∷ (v ++ 95 ∷ []))) (decimal_digit 1 (omega arith))
+
+pub member_again_stands : Stands Examples.member_again (Clash Duplicate 218 198)
+member_again_stands = stands.in_file refl (stands.edif_library (inl (stands.library_cells (record { name_part = Word' 81 (codes "w"); head = head; there = refl; name = inl (refl, refl); external = refl; fault = inl (stands.cell_view (inl (stands.view_contents (record { interface = Examples.two_views_164; ports = []; there = refl; is_interface = refl; means = tt; fault = inl (stands.net_again (inr (inl (inl (member_one, refl))))) })))) }))))
 
 pub high_index_stands : Stands Examples.high_index (At BadIndex 276)
 high_index_stands = stands.in_file refl (stands.edif_library (inl (stands.library_cells (record { name_part = Word' 81 (codes "w"); head = head; there = refl; name = inl (refl, refl); external = refl; fault = inl (stands.cell_view (inl (stands.view_contents (record { interface = Examples.whole_array_164; ports = wide ∷ []; there = refl; is_interface = refl; means = (wide_means, tt); fault = inl (stands.contents_nets (stands.one_net [] tt (inl (stands.net_joined (Examples.high_index_249, refl, refl, stands.joined_end (inl (stands.end_bit None tt (Examples.high_index_266, refl, stands.member_index refl (record { spelled = codes "d"; named = 274; port = 0; index = pos 4; place = 276; name_there = refl; means = refl; index_there = refl; beyond = not_below; fault = refl }))))))))) })))) }))))

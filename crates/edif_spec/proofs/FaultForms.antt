@@ -224,15 +224,15 @@ differ {A} (x ∷ xs) h =
     (recursion_from_All (λ y. x ≢ y) xs first, differ xs rest)
 
 -- forms that have values which differ: no two of them have one value
-one_other : {A B : Type 0} (S : Placed → B → Type 0) (R : Placed → Placed → Type 0) (g : A → B) → ((a b : Placed) (x y : B) → S a x → S b y → R a b → x ≡ y)
-    → (t : Placed) (x : A) → S t (g x) → (ts : List Placed) (xs : List A) → AllZip (λ u y. S u (g y)) ts xs → AllByRecursion (λ y. g x ≢ y) (map g xs) → AtOne (R t) ts → ⊥
+one_other : {A B C : Type 0} (S : C → B → Type 0) (R : C → C → Type 0) (g : A → B) → ((a b : C) (x y : B) → S a x → S b y → R a b → x ≡ y)
+    → (t : C) (x : A) → S t (g x) → (ts : List C) (xs : List A) → AllZip (λ u y. S u (g y)) ts xs → AllByRecursion (λ y. g x ≢ y) (map g xs) → AtOne (R t) ts → ⊥
 one_other S R g same t x s [] xs h d b = b
 one_other S R g same t x s (u ∷ ts) [] h d b = absurd h
 one_other S R g same t x s (u ∷ ts) (y ∷ xs) h d (inl b) = d.0 (same t u (g x) (g y) s h.0 b)
 one_other S R g same t x s (u ∷ ts) (y ∷ xs) h d (inr b) = one_other S R g same t x s ts xs h.1 d.1 b
 
-pub two_apart : {A B : Type 0} (S : Placed → B → Type 0) (R : Placed → Placed → Type 0) (g : A → B) → ((a b : Placed) (x y : B) → S a x → S b y → R a b → x ≡ y)
-    → (ts : List Placed) (xs : List A) → AllZip (λ u y. S u (g y)) ts xs → Differ (map g xs) → AtTwo R ts → ⊥
+pub two_apart : {A B C : Type 0} (S : C → B → Type 0) (R : C → C → Type 0) (g : A → B) → ((a b : C) (x y : B) → S a x → S b y → R a b → x ≡ y)
+    → (ts : List C) (xs : List A) → AllZip (λ u y. S u (g y)) ts xs → Differ (map g xs) → AtTwo R ts → ⊥
 two_apart S R g same [] xs h d b = b
 two_apart S R g same (t ∷ ts) [] h d b = absurd h
 two_apart S R g same (t ∷ ts) (x ∷ xs) h d (inl b) = one_other S R g same t x h.0 ts xs h.1 d.0 b

@@ -10,10 +10,10 @@ use Rattle.spelling_spec.specs.Tree.{Bare, Placed, Form', Word', Integer', Strin
 use Rattle.edif_spec.specs.Keyword.{same, spelling_of}
 use Rattle.edif_spec.specs.Rows.{has_keyword, those, IsFormOf, Each, Perhaps}
 use Rattle.edif_spec.specs.Canonical.{direction_word}
-use Rattle.edif_spec.specs.Means.{MeansName, MeansText, MeansBoolean, MeansNumber, MeansValue, MeansProperty, MeansDirection, MeansPortName, MeansPort, MeansInterface}
+use Rattle.edif_spec.specs.Means.{MeansName, MeansText, MeansBoolean, MeansNumber, MeansValue, MeansProperty, MeansDirection, MeansBusName, MeansPort, MeansInterface}
 use Rattle.netlist_schema.specs.Width.{IsWidth}
 use Rattle.edif_spec.specs.Faults.{arguments, parts, Among, RowFault, holds_name, name_of, defined, BeyondBits, counted, width_with, width_of, first_width, declared_width}
-use Rattle.edif_spec.specs.Stands.{WordFault, NameFault, BooleanFault, NumberFault, InValue, PropertyFault, PropertiesFault, is_direction, DirectionFault, PortNameFault, PortFault, ports_in, InterfaceFault}
+use Rattle.edif_spec.specs.Stands.{WordFault, NameFault, BooleanFault, NumberFault, InValue, PropertyFault, PropertiesFault, is_direction, DirectionFault, BusNameFault, PortFault, ports_in, InterfaceFault}
 use Rattle.edif_spec.specs.Stands as stands
 use Rattle.edif_spec.specs.Design as design
 use Rattle.edif_spec.specs.declared.keyword.Keyword.{Keyword}
@@ -83,13 +83,13 @@ name_named t n (inr h) =
     let u = part_there keywords.Rename t (word n.id ∷ string h.0 ∷ []) [] 0 (word n.id) h.1 refl in
     inner_named keywords.Rename t u.0 n.id (word n.id ∷ string h.0 ∷ []) [] refl h.1 u.1 (word_named u.0 n.id u.2)
 
-pub port_name_named : (t : Placed) (n : design.Name) (o : Option ℕ) → MeansPortName (bare t) n o → (p : ℕ) × (name_of t ≡ Some (n.id, p))
+pub port_name_named : (t : Placed) (n : design.Name) (o : Option ℕ) → MeansBusName (bare t) n o → (p : ℕ) × (name_of t ≡ Some (n.id, p))
 port_name_named t n None h = name_named t n h
 port_name_named t n (Some w) h =
     let u = part_there keywords.Array t (h.0 ∷ integer (pos w) ∷ []) [] 0 h.0 h.1 refl in
     inner_named keywords.Array t u.0 n.id (h.0 ∷ integer (pos w) ∷ []) [] refl h.1 u.1 (name_named u.0 n (subst (λ v. MeansName v n) (sym u.2) h.2))
 
-defined_first : (t u : Placed) → slice_get (arguments t) 0 ≡ Some u → defined t ≡ name_of u
+pub defined_first : (t u : Placed) → slice_get (arguments t) 0 ≡ Some u → defined t ≡ name_of u
 defined_first (Form' p (More k (More v vs))) u e = let w : v ≡ u = cc e in ap name_of w
 defined_first (Form' p (More k End)) u e = absurd (cc e)
 defined_first (Form' p End) u e = absurd (cc e)
@@ -107,7 +107,7 @@ form_named k t part fixed inner n h m =
 pub port_named : (t : Placed) (p : design.Port) → MeansPort (bare t) p → IsNamed t p.name.id
 port_named t p h =
     let u = part_there keywords.Port t (h.name_part ∷ []) h.inner 0 h.name_part h.form refl in
-    let r = port_name_named u.0 p.name p.array (subst (λ v. MeansPortName v p.name p.array) (sym u.2) h.name) in
+    let r = port_name_named u.0 p.name p.array (subst (λ v. MeansBusName v p.name p.array) (sym u.2) h.name) in
     (r.0, defined_first t u.0 u.1 ∙ r.1)
 
 -- properties
@@ -218,7 +218,7 @@ name_no_array : (t : Placed) (n : design.Name) → MeansName (bare t) n → IsTr
 name_no_array t n (inl h) k = word_no_keyword keywords.Array (bare t) n.id h.0 k
 name_no_array t n (inr h) k = other_form keywords.Array keywords.Rename (bare t) (word n.id ∷ string h.0 ∷ []) [] refl h.1 k
 
-port_name_apart : (t : Placed) (n : design.Name) (o : Option ℕ) (f : MeaningFault) → MeansPortName (bare t) n o → PortNameFault t f → ⊥
+pub port_name_apart : (t : Placed) (n : design.Name) (o : Option ℕ) (f : MeaningFault) → MeansBusName (bare t) n o → BusNameFault t f → ⊥
 port_name_apart t n None f h (stands.scalar_name b) = name_apart t n f h b
 port_name_apart t n None f h (stands.array_row k b) = name_no_array t n h k
 port_name_apart t n None f h (stands.array_name k b) = name_no_array t n h k
@@ -234,7 +234,7 @@ port_name_apart t n (Some w) f h (stands.array_size k c) =
 
 pub port_apart : (t : Placed) (p : design.Port) (f : MeaningFault) → MeansPort (bare t) p → HasDistinctKeys p.properties → PortFault t f → ⊥
 port_apart t p f h d (stands.port_row b) = row_apart keywords.Port t (h.name_part ∷ []) h.inner f h.form b
-port_apart t p f h d (stands.port_name b) = port_name_apart b.0 p.name p.array f (subst (λ v. MeansPortName v p.name p.array) (sym (part_is keywords.Port t (h.name_part ∷ []) h.inner 0 b.0 h.name_part h.form b.1 refl)) h.name) b.2
+port_apart t p f h d (stands.port_name b) = port_name_apart b.0 p.name p.array f (subst (λ v. MeansBusName v p.name p.array) (sym (part_is keywords.Port t (h.name_part ∷ []) h.inner 0 b.0 h.name_part h.form b.1 refl)) h.name) b.2
 port_apart t p f h d (stands.port_direction b) = perhaps_apart MeansDirection (λ x. Unit {0}) DirectionFault f (λ u x m v c. direction_apart u x f m c) (parts keywords.Port keywords.Direction t) (those keywords.Direction h.inner) p.direction
     (parts_are keywords.Port keywords.Direction t (h.name_part ∷ []) h.inner h.form) h.direction (free p.direction) b
   where
@@ -245,7 +245,7 @@ port_apart t p f h d (stands.port_designator b) = texts_apart keywords.Designato
 port_apart t p f h d (stands.port_properties b) = properties_apart (parts keywords.Port keywords.Property t) (those keywords.Property h.inner) p.properties f (parts_are keywords.Port keywords.Property t (h.name_part ∷ []) h.inner h.form) h.properties d b
 
 -- the width of a port as it is written
-no_array : (t : Placed) (n : design.Name) (b : Bool) → has_keyword keywords.Array (bare t) ≡ b → MeansName (bare t) n → b ≡ false
+pub no_array : (t : Placed) (n : design.Name) (b : Bool) → has_keyword keywords.Array (bare t) ≡ b → MeansName (bare t) n → b ≡ false
 no_array t n false e h = refl
 no_array t n true e h = absurd (name_no_array t n h e)
 
@@ -266,7 +266,7 @@ plain_width : (o : Option Placed) → width_with false o ≡ 1
 plain_width None = refl
 plain_width (Some u) = refl
 
-name_width : (t : Placed) (n : design.Name) (o : Option ℕ) → MeansPortName (bare t) n o → width_of t ≡ unwrap_or o 1
+pub name_width : (t : Placed) (n : design.Name) (o : Option ℕ) → MeansBusName (bare t) n o → width_of t ≡ unwrap_or o 1
 name_width t n None h = ap (λ b. width_with b (slice_get (arguments t) 1)) (no_array t n (has_keyword keywords.Array (bare t)) refl h) ∙ plain_width (slice_get (arguments t) 1)
 name_width t n (Some w) h =
     let u = part_there keywords.Array t (h.0 ∷ integer (pos w) ∷ []) [] 1 (integer (pos w)) h.1 refl in
@@ -275,7 +275,7 @@ name_width t n (Some w) h =
 pub port_declares : (t : Placed) (p : design.Port) → MeansPort (bare t) p → declared_width t ≡ port_width p
 port_declares t p h =
     let u = part_there keywords.Port t (h.name_part ∷ []) h.inner 0 h.name_part h.form refl in
-    ap first_width u.1 ∙ name_width u.0 p.name p.array (subst (λ v. MeansPortName v p.name p.array) (sym u.2) h.name)
+    ap first_width u.1 ∙ name_width u.0 p.name p.array (subst (λ v. MeansBusName v p.name p.array) (sym u.2) h.name)
 
 -- a sum is not less than where it began
 sum_grows : (a : ℕ) (ps : List design.Port) → a ≤ fold (λ s p. s + port_width p) a ps

@@ -22,14 +22,16 @@ use Rattle.netlist_schema.proofs.Cells.{All-slice_get, All-cell_at}
 use Rattle.spelling_spec.specs.Names.{is_empty, is_name}
 use Rattle.spelling_spec.specs.Spelling.{Spells}
 use Rattle.spelling_spec.specs.Tree.{Bare, form, word, integer, string, trees, depth, depths}
-use Rattle.edif_spec.specs.Canonical.{make, perhaps, name_tree, name_with, number_tree, boolean_tree, value_tree, text_tree, property_tree, direction_word, direction_tree, port_name_tree, port_tree, cell_ref_tree, inst_tree, ports_of_end, bit_tree, port_ref_tree, end_tree, net_tree, contents_tree, kind_word, interface_tree, view_tree, cell_tree, zero_tree, library_keyword, library_tree, note_tree, design_tree, tree_of, text_as_listed}
+use Rattle.edif_spec.specs.Canonical.{make, perhaps, name_tree, name_with, number_tree, boolean_tree, value_tree, text_tree, property_tree, direction_word, direction_tree, port_name_tree, port_tree, cell_ref_tree, inst_tree, ports_of_end, bit_tree, bits_tree, end_tree, net_tree, contents_tree, kind_word, interface_tree, view_tree, cell_tree, zero_tree, library_keyword, library_tree, note_tree, design_tree, tree_of, text_as_listed}
 use Rattle.edif_spec.specs.Design as design
+use Rattle.edif_spec.specs.Nets.{NetForm, Stretch, net_forms}
 use Rattle.edif_spec.specs.Keyword.{spelling_of}
 use Rattle.edif_spec.specs.Writable.{IsWritable, AreWritable}
 use Rattle.edif_spec.specs.declared.keyword.Keyword.{Keyword}
 use Rattle.edif_spec.specs.declared.keyword.Keyword.TheVariants as keywords
 use Rattle.edif_spec.proofs.CellPlaces.{some_of, lib_of_cell, all_at, some_and, all_from_places, all_append_parts}
 use Rattle.edif_spec.proofs.Layouts.{layout_spells}
+use Rattle.edif_spec.proofs.WrittenNets.{Covers, HasPort, IsPlacedForm, IsPlacedStretch, forms_named, forms_placed, forms_properties}
 
 -- a name that passes the test is an identifier
 identifier : (w : List ℕ) → is_name w ≡ true → IsIdentifier w
@@ -226,31 +228,87 @@ end_inst libs own insts (Some i) port bit t h =
 abbrev IsFineEnd : List design.Lib → List design.Port → List design.Inst → design.End → Type 0
 IsFineEnd libs own insts e = EndIn libs own insts e.inst e.port e.bit
 
-fine_end : (libs : List design.Lib) (own : List design.Port) (insts : List design.Inst) (e : design.End) → AreNamed libs → AllByRecursion IsTypedPort own → AllByRecursion IsTypedInst insts → IsFineEnd libs own insts e → Fine 2 (end_tree libs own insts e)
-fine_end libs own insts e n t k h =
-    let ports = ports_of_end libs own insts e.inst in
-    let p = end_port libs own insts e.inst e.port e.bit n t h in
-    let tree : bit_tree p.0.name.id p.0.array e.bit ≡ port_ref_tree (slice_get ports e.port) e.bit = sym (ap (λ o. port_ref_tree o e.bit) p.1) in
+-- the ports among which an end is
+ports_typed : (libs : List design.Lib) (own : List design.Port) (insts : List design.Inst) (inst : Option ℕ) (port bit : ℕ) → AreNamed libs → AllByRecursion IsTypedPort own → EndIn libs own insts inst port bit → AllByRecursion IsTypedPort (ports_of_end libs own insts inst)
+ports_typed libs own insts None port bit n t h = t
+ports_typed libs own insts (Some i) port bit n t h =
+    let x = some_and (slice_get insts i) (λ inst. IsSomeAnd (design.cell_at libs inst.of) (λ of. HasBit of.ports port bit)) h in
+    let c = some_and (design.cell_at libs x.0.of) (λ of. HasBit of.ports port bit) x.2 in
+    let there : ports_of_end libs own insts (Some i) ≡ c.0.ports = ap (λ o. unwrap_or (option_map (λ (y : design.Inst). design.ports_at libs y.of) o) []) x.1 ∙ ap (λ o. unwrap_or (option_map (λ (y : design.CellBody). y.ports) o) []) c.1 in
+    subst (λ (ps : List design.Port). AllByRecursion IsTypedPort ps) (sym there) (recursion_from_All IsTypedPort c.0.ports (n.cell x.0.of c.0 c.1).ports)
+
+has_port : (libs : List design.Lib) (own : List design.Port) (insts : List design.Inst) (e : design.End) → AreNamed libs → AllByRecursion IsTypedPort own → IsFineEnd libs own insts e → HasPort (ports_of_end libs own insts) e
+has_port libs own insts e n t h = let p = end_port libs own insts e.inst e.port e.bit n t h in (p.0, p.1, p.2)
+
+-- a stretch at a port that is there, and at an instance that is there
+abbrev IsFineStretch : List design.Lib → List design.Port → List design.Inst → Option ℕ → Stretch → Type 0
+IsFineStretch libs own insts array s = IsPlacedStretch (ports_of_end libs own insts) array s × ((e : design.End) × (e.inst ≡ s.inst) × IsFineEnd libs own insts e)
+
+fine_bits : (array : Option ℕ) (p : design.Port) (s : Stretch) → IsTypedPort p → Covers array p s → Fine 1 (bits_tree array (Some p) s.first)
+fine_bits None p s h c = fine_bit p.name.id p.array s.first h.name.id h.array c.0
+fine_bits (Some n) p s h c = fine_word 1 p.name.id h.name.id
+
+fine_end : (libs : List design.Lib) (own : List design.Port) (insts : List design.Inst) (array : Option ℕ) (s : Stretch) → AreNamed libs → AllByRecursion IsTypedPort own → AllByRecursion IsTypedInst insts → IsFineStretch libs own insts array s → Fine 2 (end_tree libs own insts array s)
+fine_end libs own insts array s n t k h =
+    let ports = ports_of_end libs own insts s.inst in
+    let e = h.1.0 in
+    let typed : AllByRecursion IsTypedPort ports = subst (λ (o : Option ℕ). AllByRecursion IsTypedPort (ports_of_end libs own insts o)) h.1.1 (ports_typed libs own insts e.inst e.port e.bit n t h.1.2) in
+    let p = h.0.port in
+    let q : IsTypedPort p = all_at IsTypedPort ports s.port p typed h.0.there in
+    let tree : bits_tree array (Some p) s.first ≡ bits_tree array (slice_get ports s.port) s.first = sym (ap (λ o. bits_tree array o s.first) h.0.there) in
     let F : Bare → Type 0 = Fine 1 in
-    fine_form 1 keywords.PortRef (port_ref_tree (slice_get ports e.port) e.bit ∷ perhaps (λ i. make keywords.InstanceRef (word (design.inst_id insts i) ∷ [])) e.inst)
-    (subst F tree (fine_bit p.0.name.id p.0.array e.bit p.3.name.id p.3.array p.2), end_inst libs own insts e.inst e.port e.bit k h)
+    fine_form 1 keywords.PortRef (bits_tree array (slice_get ports s.port) s.first ∷ perhaps (λ i. make keywords.InstanceRef (word (design.inst_id insts i) ∷ [])) s.inst)
+    (subst F tree (fine_bits array p s q h.0.covers), subst (λ (o : Option ℕ). FineAll 1 (perhaps (λ i. make keywords.InstanceRef (word (design.inst_id insts i) ∷ [])) o)) h.1.1 (end_inst libs own insts e.inst e.port e.bit k h.1.2))
+
+zip_all : {A : Type 0} (P Q : A → Type 0) (xs : List A) → AllByRecursion P xs → AllByRecursion Q xs → AllByRecursion (λ x. P x × Q x) xs
+zip_all P Q [] h k = tt
+zip_all P Q (x ∷ xs) h k = ((h.0, k.0), zip_all P Q xs h.1 k.1)
 
 -- a net of the right types, whose ends are there
 abbrev IsFineNet : List design.Lib → List design.Port → List design.Inst → design.Net → Type 0
 IsFineNet libs own insts x = IsTypedNet x × AllByRecursion (IsFineEnd libs own insts) x.ends
 
-fine_net : (libs : List design.Lib) (own : List design.Port) (insts : List design.Inst) (x : design.Net) → AreNamed libs → AllByRecursion IsTypedPort own → AllByRecursion IsTypedInst insts → IsFineNet libs own insts x → Fine 4 (net_tree libs own insts x)
-fine_net libs own insts x n t k h = fine_form 3 keywords.Net (name_tree x.name ∷ make keywords.Joined (map (end_tree libs own insts) x.ends) ∷ map property_tree x.properties) (
-  fine_more 1 3 (name_tree x.name) (omega arith) (fine_name x.name h.0.name),
+-- and a form of such nets
+record IsFineForm (libs : List design.Lib) (own : List design.Port) (insts : List design.Inst) (f : NetForm) : Type 0 where
+  pub placed : IsPlacedForm (ports_of_end libs own insts) (IsFineEnd libs own insts) f
+  pub name : IsTypedName f.name
+  pub properties : All IsTypedProperty f.properties
+
+fine_net : (libs : List design.Lib) (own : List design.Port) (insts : List design.Inst) (x : NetForm) → AreNamed libs → AllByRecursion IsTypedPort own → AllByRecursion IsTypedInst insts → IsFineForm libs own insts x → Fine 4 (net_tree libs own insts x)
+fine_net libs own insts x n t k h = fine_form 3 keywords.Net (port_name_tree x.name x.array ∷ make keywords.Joined (map (end_tree libs own insts x.array) x.joined) ∷ map property_tree x.properties) (
+  fine_more 2 3 (port_name_tree x.name x.array) (omega arith) (fine_port_name x.name x.array h.name h.placed.array),
   (
-    fine_form 2 keywords.Joined (map (end_tree libs own insts) x.ends) (fine_map (IsFineEnd libs own insts) 2 (end_tree libs own insts) x.ends h.1 (λ e w. fine_end libs own insts e n t k w)),
-    fine_properties 3 x.properties (omega arith) h.0.properties,
+    fine_form 2 keywords.Joined (map (end_tree libs own insts x.array) x.joined)
+        (fine_map (IsFineStretch libs own insts x.array) 2 (end_tree libs own insts x.array) x.joined
+        (zip_all (IsPlacedStretch (ports_of_end libs own insts) x.array) (λ (s : Stretch). (e : design.End) × (e.inst ≡ s.inst) × IsFineEnd libs own insts e) x.joined h.placed.joined h.placed.known)
+        (λ s w. fine_end libs own insts x.array s n t k w)),
+    fine_properties 3 x.properties (omega arith) h.properties,
   ),
 )
 
+forms_fine : (libs : List design.Lib) (own : List design.Port) (insts : List design.Inst) (fs : List NetForm) → AllByRecursion (IsPlacedForm (ports_of_end libs own insts) (IsFineEnd libs own insts)) fs → AllByRecursion (λ (f : NetForm). IsTypedName f.name) fs
+    → AllByRecursion (λ (f : NetForm). All IsTypedProperty f.properties) fs → AllByRecursion (IsFineForm libs own insts) fs
+forms_fine libs own insts [] h k g = tt
+forms_fine libs own insts (f ∷ fs) h k g = (record { placed = h.0; name = k.0; properties = g.0 }, forms_fine libs own insts fs h.1 k.1 g.1)
+
+each_weaker : {A : Type 0} (P Q : A → Type 0) (xs : List A) → ((x : A) → P x → Q x) → AllByRecursion P xs → AllByRecursion Q xs
+each_weaker P Q [] f h = tt
+each_weaker P Q (x ∷ xs) f h = (f x h.0, each_weaker P Q xs f h.1)
+
+written_fine : (libs : List design.Lib) (own : List design.Port) (insts : List design.Inst) (nets : List design.Net) → AreNamed libs → AllByRecursion IsTypedPort own → AllByRecursion (IsFineNet libs own insts) nets → AllByRecursion (IsFineForm libs own insts) (net_forms (ports_of_end libs own insts) nets)
+written_fine libs own insts nets n t h =
+    forms_fine libs own insts (net_forms (ports_of_end libs own insts) nets)
+    (forms_placed (ports_of_end libs own insts) (IsFineEnd libs own insts) 0 nets
+    (each_weaker (IsFineNet libs own insts) (λ (x : design.Net). AllByRecursion (HasPort (ports_of_end libs own insts)) x.ends) nets (λ x w. each_weaker (IsFineEnd libs own insts) (HasPort (ports_of_end libs own insts)) x.ends (λ e v. has_port libs own insts e n t v) w.1) h)
+    (each_weaker (IsFineNet libs own insts) (λ (x : design.Net). AllByRecursion (IsFineEnd libs own insts) x.ends) nets (λ x w. w.1) h))
+    (forms_named (ports_of_end libs own insts) 0 nets (each_weaker (IsFineNet libs own insts) (λ (x : design.Net). IsTypedName x.name) nets (λ x w. w.0.name) h))
+    (forms_properties (ports_of_end libs own insts) (λ ps. All IsTypedProperty ps) 0 nets (each_weaker (IsFineNet libs own insts) (λ (x : design.Net). All IsTypedProperty x.properties) nets (λ x w. w.0.properties) h))
+
 fine_contents : (libs : List design.Lib) (own : List design.Port) (c : design.Contents) → AreNamed libs → AllByRecursion IsTypedPort own → AllByRecursion (IsFineInst libs) c.insts → AllByRecursion IsTypedInst c.insts → AllByRecursion (IsFineNet libs own c.insts) c.nets → Fine 5 (contents_tree libs own c)
-fine_contents libs own c n t i k x = fine_form 4 keywords.Contents (map (inst_tree libs) c.insts ++ map (net_tree libs own c.insts) c.nets)
-    (fine_append 4 (map (inst_tree libs) c.insts) (map (net_tree libs own c.insts) c.nets) (fine_map (IsFineInst libs) 4 (inst_tree libs) c.insts i (λ y w. fine_inst libs y n w)) (fine_map (IsFineNet libs own c.insts) 4 (net_tree libs own c.insts) c.nets x (λ y w. fine_net libs own c.insts y n t k w)))
+fine_contents libs own c n t i k x =
+    let fs : List NetForm = net_forms (ports_of_end libs own c.insts) c.nets in
+    fine_form 4 keywords.Contents (map (inst_tree libs) c.insts ++ map (net_tree libs own c.insts) fs)
+    (fine_append 4 (map (inst_tree libs) c.insts) (map (net_tree libs own c.insts) fs) (fine_map (IsFineInst libs) 4 (inst_tree libs) c.insts i (λ y w. fine_inst libs y n w)) (fine_map (IsFineForm libs own c.insts) 4 (net_tree libs own c.insts) fs (written_fine libs own c.insts c.nets n t x) (λ y w. fine_net libs own c.insts y n t k w)))
 
 -- a cell of the right types, whose instances and ends are there
 record IsFineCell (libs : List design.Lib) (c : design.CellBody) : Type 0 where
@@ -310,10 +368,6 @@ fine_library libs l n name cells = fine_form 8 (library_keyword l.head.external)
 )
 
 -- what is valid is fine
-zip_all : {A : Type 0} (P Q : A → Type 0) (xs : List A) → AllByRecursion P xs → AllByRecursion Q xs → AllByRecursion (λ x. P x × Q x) xs
-zip_all P Q [] h k = tt
-zip_all P Q (x ∷ xs) h k = ((h.0, k.0), zip_all P Q xs h.1 k.1)
-
 ends_by_net : (P : design.End → Type 0) (nets : List design.Net) → AllByRecursion P (flat_map (λ net. net.ends) nets) → AllByRecursion (λ (net : design.Net). AllByRecursion P net.ends) nets
 ends_by_net P [] h = tt
 ends_by_net P (x ∷ nets) h = let t = all_append_parts P x.ends (flat_map (λ net. net.ends) nets) h in (t.0, ends_by_net P nets t.1)

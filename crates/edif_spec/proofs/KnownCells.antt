@@ -4,30 +4,32 @@ use Rattle.std.specs.Prelude.{IsTrue, cond, ◌||◌, IfSome, nat_lt}
 use Rattle.std.specs.List.{AllZip, AllByRecursion, All, flat_map}
 use Rattle.std.proofs.lemmas.List.Elements.{All-from_recursion, recursion_from_All}
 use Rattle.std.proofs.lemmas.Bool.Decides.{nat_tests}
-use Rattle.netlist_schema.specs.Design.{insts_of, nets_of, insts_in as insts_inside, nets_in as nets_inside}
+use Rattle.netlist_schema.specs.Design.{insts_of, nets_of as nets_of_cell, insts_in as insts_inside, nets_in as nets_inside}
 use Rattle.netlist_schema.specs.Names.{AreDistinct, HasDistinctKeys}
 use Rattle.netlist_schema.specs.Typed.{IsBytes, IsTypedName, IsTypedProperty, IsTypedPort, IsTypedInst, IsTypedNet, IsTypedContents, IsTypedCell}
 use Rattle.spelling_spec.specs.Tree.{Bare, Placed, Form', Word', Integer', String', word, integer, bare}
-use Rattle.edif_spec.specs.Keyword.{same, Choice, AnIdentifier, AnInteger, AForm, Follower, Many, One, name_definition, identifier, the}
+use Rattle.edif_spec.specs.Keyword.{same, Choice, AnIdentifier, AnInteger, AForm, Follower, Many, One, name_definition, bus_name, identifier, the}
 use Rattle.edif_spec.specs.Keyword as keyword
 use Rattle.edif_spec.specs.Rows.{has_keyword, those, is_one_of, IsFormOf, Each, Perhaps, Just}
 use Rattle.edif_spec.specs.Canonical.{kind_word, ports_of_end}
-use Rattle.edif_spec.specs.Means.{Meant as Meaning, equal, equal_or, only_place, meant, Found, Absent, Several, width_at, MeansText, MeansPort, MeansLibraryRef, MeansCellRef, MeansViewRef, MeansInst, MeansInstRef, MeansBit, MeansEnd, MeansNet, MeansContents, IsNetlist, MeansView, MeansKind, MeansCell}
-use Rattle.edif_spec.specs.Faults.{AtTwo, place_of, followers, parts, Among, RowFault}
-use Rattle.edif_spec.specs.Stands.{Dangles, ports_in, LibraryRefFault, CellRefFault, ViewRefFault, InstFault, InstRefFault, BitFault, EndFault, JoinedFault, NetFault, ends_in, insts_in, nets_in, SameEnd, ContentsFault, is_netlist, TypeFault, ViewFault, is_cell_type, CellTypeFault, CellFault}
+use Rattle.edif_spec.specs.Means.{Meant as Meaning, equal, equal_or, only_place, meant, Found, Absent, Several, width_at, MeansText, MeansPort, MeansLibraryRef, MeansCellRef, MeansViewRef, MeansInst, MeansInstRef, MeansBits, MeansEnd, MeansNet, MeansContents, IsNetlist, MeansView, MeansKind, MeansCell}
+use Rattle.edif_spec.specs.Faults.{AtTwo, place_of, followers, parts, Among, RowFault, SameOfTwo, declared_width, repeated}
+use Rattle.edif_spec.specs.Nets.{Stretch, nets_of, row_size}
+use Rattle.edif_spec.specs.Stands.{Dangles, ports_in, LibraryRefFault, CellRefFault, ViewRefFault, InstFault, InstRefFault, BitFault, EndFault, JoinedFault, WidthFault, NetFault, MeansRowEnd, counted_ends, ends_in, insts_in, net_names_in, nets_in, row_ends, width_kind, SameEnd, ContentsFault, is_netlist, TypeFault, ViewFault, is_cell_type, CellTypeFault, CellFault}
 use Rattle.edif_spec.specs.Stands as stands
 use Rattle.edif_spec.specs.Design as design
 use Rattle.edif_spec.specs.declared.keyword.Keyword.{Keyword}
 use Rattle.edif_spec.specs.declared.keyword.Keyword.TheVariants as keywords
-use Rattle.edif_spec.specs.declared.fault.Kind.TheVariants.{BadForm, NotNetlist, Unresolved, Ambiguous, BadIndex, WholeArray}
-use Rattle.edif_spec.specs.declared.fault.ClashKind.TheVariants.{EndTwice}
+use Rattle.edif_spec.specs.declared.fault.Kind.TheVariants.{BadForm, NotNetlist, Unresolved, Ambiguous, BadIndex}
+use Rattle.edif_spec.specs.declared.fault.ClashKind.TheVariants.{Duplicate, EndTwice}
 use Rattle.edif_spec.specs.declared.fault.MeaningFault.TheVariants.{At, Clash}
 use Rattle.netlist_schema.specs.declared.cell.CellKind.TheVariants as kinds
-use Rattle.edif_spec.proofs.FaultForms.{filter_bare, map_length, each_with, IsNamed}
-use Rattle.edif_spec.proofs.CellFaultsApart.{all_kept, inst_named, net_named, net_ends, zip_flat, zip_length, FineContents, FineCell}
+use Rattle.edif_spec.proofs.FaultForms.{filter_bare, map_length, part_there, each_with, IsNamed}
+use Rattle.edif_spec.proofs.CellFaultsApart.{all_kept, ends_of_form, inst_named, zip_flat, zip_length, FineContents, FineCell}
+use Rattle.edif_spec.proofs.RowForms.{FineForm, GivesName, ends_counted, net_names_are, nets_counted, row_ends_of, rows_fine}
 use Rattle.edif_spec.proofs.FaultsApart.{FineInterface}
-use Rattle.edif_spec.proofs.KnownForms.{Faulty, test, Written, IsOf, Meant, beyond_known, names_known, distinct_known, differ_distinct, nat_same, parts_of, word_choice, integer_choice, either, only, form_choice, known0, known1, known2, known3}
-use Rattle.edif_spec.proofs.KnownRows.{follow_none, perhaps_in, each_in, name_known, text_known, properties_known, interface_known, first_all, second_all, each_count}
+use Rattle.edif_spec.proofs.KnownForms.{Faulty, test, Written, IsOf, Meant, beyond_known, names_known, distinct_known, bytes_same, differ_distinct, nat_same, parts_of, word_choice, integer_choice, either, only, form_choice, known0, known1, known2, known3}
+use Rattle.edif_spec.proofs.KnownRows.{follow_none, perhaps_in, each_in, name_known, bus_name_known, text_known, properties_known, interface_known, first_all, second_all, each_count}
 
 -- references
 pub record KnownRef (scope : List (List ℕ)) (u : Placed) : Type 0 where
@@ -160,26 +162,24 @@ inst_ref_known insts t h = elim (known1 keywords.InstanceRef identifier [] t ref
       ])
 ]
 
--- a bit among the ports
-pub record KnownBit (ports : List design.Port) (t : Placed) : Type 0 where
+-- bits among the ports
+pub record KnownBits (ports : List design.Port) (t : Placed) : Type 0 where
   pub port : ℕ
-  pub bit : ℕ
-  pub mean : MeansBit ports (bare t) port bit
+  pub first : ℕ
+  pub width : ℕ
+  pub mean : MeansBits ports (bare t) port first width
 
 index_of : (z : ℤ) (width : ℕ) → ((n : ℕ) × (z ≡ pos n) × (n < width)) ⊎ ((n : ℕ) → z ≡ pos n → n < width → ⊥)
 index_of (negsuc m) width = inr (λ n e w. absurd (cc e))
 index_of (pos m) width = elim (test (nat_lt m width)) [ inl e ↦ inl (m, refl, grind (arith, nat_tests)) | inr e ↦ inr (λ n d l. let q : m ≡ n = cc d in grind (arith, nat_tests)) ]
 
-whole_known : (ports : List design.Port) (t : Placed) → is_one_of identifier (bare t) ≡ true → KnownBit ports t ⊎ Faulty (BitFault ports t)
+whole_known : (ports : List design.Port) (t : Placed) → is_one_of identifier (bare t) ≡ true → KnownBits ports t ⊎ Faulty (BitFault ports t)
 whole_known ports t h = elim (reference_known (design.port_ids ports) t h) [
   | inr b ↦ inr (b.0, stands.bit_port b.1)
-  | inl r ↦ elim (nat_same (width_at ports r.index) 1) [
-    | inr n ↦ inr (At WholeArray r.place, stands.bit_whole (record { spelled = r.name; place = r.place; port = r.index; is = r.is; means = r.means; wide = n; fault = refl }))
-    | inl e ↦ inl (record { port = r.index; bit = 0; mean = inl (r.name, ap bare r.is, r.means, e, refl) })
-  ]
+  | inl r ↦ inl (record { port = r.index; first = 0; width = width_at ports r.index; mean = inl (r.name, ap bare r.is, r.means, refl, refl) })
 ]
 
-member_known : (ports : List design.Port) (t : Placed) → IsOf (has_keyword keywords.Member) t → KnownBit ports t ⊎ Faulty (BitFault ports t)
+member_known : (ports : List design.Port) (t : Placed) → IsOf (has_keyword keywords.Member) t → KnownBits ports t ⊎ Faulty (BitFault ports t)
 member_known ports t h = elim (known2 keywords.Member identifier keyword.integer [] t refl h) [
   | inr b ↦ inr (b.0, stands.member_row h.0 b.1)
   | inl s ↦ (let f : IsFormOf keywords.Member (bare t) (bare s.a ∷ bare s.b ∷ []) [] = follow_none keywords.Member (identifier ∷ keyword.integer ∷ []) (bare t) (bare s.a ∷ bare s.b ∷ []) (map bare (followers keywords.Member t)) refl s.form in
@@ -191,12 +191,12 @@ member_known ports t h = elim (known2 keywords.Member identifier keyword.integer
           | inl i ↦ (let P : Placed → Placed → Type 0 = λ x y. IsFormOf keywords.Member (bare t) (bare x ∷ bare y ∷ []) [] in
               let g : P (Word' r.place r.name) (Integer' b.0 b.1) = subst (λ y. P (Word' r.place r.name) y) b.2 (subst (λ x. P x s.b) r.is f) in
               let k : IsFormOf keywords.Member (bare t) (word r.name ∷ integer (pos i.0) ∷ []) [] = subst (λ z. IsFormOf keywords.Member (bare t) (word r.name ∷ integer z ∷ []) []) i.1 g in
-              inl (record { port = r.index; bit = i.0; mean = inr (r.name, k, r.means, i.2) }))
+              inl (record { port = r.index; first = i.0; width = 1; mean = inr (r.name, k, r.means, i.2, refl) }))
         ]
       ])
 ]
 
-bit_known : (ports : List design.Port) (t : Placed) → Written t → is_one_of (AnIdentifier ∷ AForm keywords.Member ∷ []) (bare t) ≡ true → KnownBit ports t ⊎ Faulty (BitFault ports t)
+bit_known : (ports : List design.Port) (t : Placed) → Written t → is_one_of (AnIdentifier ∷ AForm keywords.Member ∷ []) (bare t) ≡ true → KnownBits ports t ⊎ Faulty (BitFault ports t)
 bit_known ports (Word' p w) v h = whole_known ports (Word' p w) refl
 bit_known ports (Integer' p z) v h = absurd (cc h)
 bit_known ports (String' p s) v h = absurd (cc h)
@@ -212,7 +212,7 @@ end_known libs ports insts t h = elim (known1 keywords.PortRef (AnIdentifier ∷
     | inr b ↦ inr (b.0, stands.end_inst b.1)
     | inl o ↦ elim (bit_known (ports_of_end libs ports insts o.0) s.a s.written_a s.is_a) [
       | inr b ↦ inr (b.0, stands.end_bit o.0 (subst (λ v. Perhaps (MeansInstRef insts) v o.0) (sym (parts_bare keywords.PortRef keywords.InstanceRef t)) o.1) (s.a, s.at_a, b.1))
-      | inl x ↦ inl (record { inst = o.0; port = x.port; bit = x.bit }, record { bit_part = bare s.a; inner = map bare (followers keywords.PortRef t); form = s.form; inst = o.1; bit = x.mean }, tt)
+      | inl x ↦ inl (record { inst = o.0; port = x.port; first = x.first; width = x.width }, record { bits_part = bare s.a; inner = map bare (followers keywords.PortRef t); form = s.form; inst = o.1; bits = x.mean }, tt)
     ]
   ]
 ]
@@ -221,7 +221,7 @@ end_known libs ports insts t h = elim (known1 keywords.PortRef (AnIdentifier ∷
 pub record KnownJoined (libs : List design.Lib) (ports : List design.Port) (insts : List design.Inst) (t : Placed) : Type 0 where
   pub refs : List Bare
   pub form : IsFormOf keywords.Joined (bare t) [] refs
-  pub ends : List design.End
+  pub ends : List Stretch
   pub mean : Each (MeansEnd libs ports insts) refs ends
 
 joined_known : (libs : List design.Lib) (ports : List design.Port) (insts : List design.Inst) (t : Placed) → IsOf (has_keyword keywords.Joined) t → KnownJoined libs ports insts t ⊎ Faulty (JoinedFault libs ports insts t)
@@ -233,20 +233,45 @@ joined_known libs ports insts t h = elim (known0 keywords.Joined (Many keywords.
   ]
 ]
 
-net_known : (libs : List design.Lib) (ports : List design.Port) (insts : List design.Inst) (t : Placed) → IsOf (has_keyword keywords.Net) t → Meant (MeansNet libs ports insts) (λ n. IsTypedNet n × HasDistinctKeys n.properties) t ⊎ Faulty (NetFault libs ports insts t)
-net_known libs ports insts t h = elim (known2 keywords.Net name_definition (the keywords.Joined) (Many keywords.Property ∷ Many keywords.Comment ∷ Many keywords.UserData ∷ []) t refl h) [
+-- the width of an end, and those of several
+width_known : (libs : List design.Lib) (ports : List design.Port) (insts : List design.Inst) (array : Option ℕ) (t : Placed) (s : Stretch) → MeansEnd libs ports insts (bare t) s → (s.width ≡ row_size array) ⊎ Faulty (WidthFault libs ports insts array t)
+width_known libs ports insts array t s m =
+    let u = part_there keywords.PortRef t (m.bits_part ∷ []) m.inner 0 m.bits_part m.form refl in
+    elim (nat_same s.width (row_size array)) [
+      | inl e ↦ inl e
+      | inr n ↦ inr (At (width_kind array) (place_of u.0), record { bits = u.0; there = u.1; stretch = s; means = m; other = n; fault = refl })
+    ]
+
+widths_known : (libs : List design.Lib) (ports : List design.Port) (insts : List design.Inst) (array : Option ℕ) (ts : List Placed) (ss : List Stretch) → AllZip (λ u s. MeansEnd libs ports insts (bare u) s) ts ss
+    → AllByRecursion (λ (s : Stretch). s.width ≡ row_size array) ss ⊎ Faulty (Among (WidthFault libs ports insts array) ts)
+widths_known libs ports insts array [] [] h = inl tt
+widths_known libs ports insts array [] (s ∷ ss) h = absurd h
+widths_known libs ports insts array (t ∷ ts) [] h = absurd h
+widths_known libs ports insts array (t ∷ ts) (s ∷ ss) h = go (width_known libs ports insts array t s h.0) (widths_known libs ports insts array ts ss h.1)
+  where
+    go : (s.width ≡ row_size array) ⊎ Faulty (WidthFault libs ports insts array t) → AllByRecursion (λ (s : Stretch). s.width ≡ row_size array) ss ⊎ Faulty (Among (WidthFault libs ports insts array) ts)
+        → AllByRecursion (λ (s : Stretch). s.width ≡ row_size array) (s ∷ ss) ⊎ Faulty (Among (WidthFault libs ports insts array) (t ∷ ts))
+    go (inr b) r = inr (b.0, inl b.1)
+    go (inl e) (inr b) = inr (b.0, inr b.1)
+    go (inl e) (inl r) = inl (e, r)
+
+net_known : (libs : List design.Lib) (ports : List design.Port) (insts : List design.Inst) (t : Placed) → IsOf (has_keyword keywords.Net) t → Meant (MeansNet libs ports insts) FineForm t ⊎ Faulty (NetFault libs ports insts t)
+net_known libs ports insts t h = elim (known2 keywords.Net bus_name (the keywords.Joined) (Many keywords.Property ∷ Many keywords.Comment ∷ Many keywords.UserData ∷ []) t refl h) [
   | inr b ↦ inr (b.0, stands.net_row b.1)
-  | inl s ↦ elim (name_known s.a s.written_a s.is_a) [
+  | inl s ↦ elim (bus_name_known s.a s.written_a s.is_a) [
     | inr b ↦ inr (b.0, stands.net_name (s.a, s.at_a, b.1))
     | inl n ↦ elim (joined_known libs ports insts s.b (form_choice keywords.Joined s.b s.is_b, s.written_b)) [
       | inr b ↦ inr (b.0, stands.net_joined (s.b, s.at_b, form_choice keywords.Joined s.b s.is_b, b.1))
       | inl j ↦ elim (properties_known keywords.Net t h.1) [
         | inr b ↦ inr (b.0, stands.net_properties b.1)
-        | inl ps ↦ inl (
-          record { name = n.0; ends = j.ends; properties = ps.list },
-          record { name_part = bare s.a; joined_part = bare s.b; refs = j.refs; inner = map bare (followers keywords.Net t); form = s.form; joined = j.form; name = n.1; ends = j.mean; properties = ps.mean },
-          (record { name = n.2; properties = ps.typed }, ps.keys),
-        )
+        | inl ps ↦ elim (widths_known libs ports insts n.array (ends_in t) j.ends (ends_of_form libs ports insts t (bare s.a) (bare s.b) j.refs (map bare (followers keywords.Net t)) j.ends s.form j.form j.mean)) [
+          | inr b ↦ inr (b.0, stands.net_width (record { name_part = s.a; name = n.name; array = n.array; there = s.at_a; means = n.mean; fault = b.1 }))
+          | inl w ↦ inl (
+            record { name = n.name; array = n.array; joined = j.ends; properties = ps.list },
+            record { name_part = bare s.a; joined_part = bare s.b; refs = j.refs; inner = map bare (followers keywords.Net t); form = s.form; joined = j.form; name = n.mean; ends = j.mean; wide = w; properties = ps.mean },
+            record { name = n.typed; array = n.width; properties = ps.typed; keys = ps.keys },
+          )
+        ]
       ]
     ]
   ]
@@ -272,11 +297,15 @@ map_same : {A : Type 0} (xs : List A) → map (λ x. x) xs ≡ xs
 map_same [] = refl
 map_same (x ∷ xs) = ap (λ v. x ∷ v) (map_same xs)
 
-ends_known : (libs : List design.Lib) (ports : List design.Port) (insts : List design.Inst) (ts : List Placed) (es : List design.End) → AllZip (λ u e. MeansEnd libs ports insts (bare u) e) ts es → AreDistinct es ⊎ Faulty (λ f. AtTwo (SameEnd libs ports insts f) ts)
-ends_known libs ports insts ts es h = elim (distinct_known (λ u e. MeansEnd libs ports insts (bare u) e) (λ f a b. SameEnd libs ports insts f a b) (λ e. e) end_same (λ a b x m n. (Clash EndTwice (place_of b) (place_of a), (x, m, n, refl))) ts es h) [
+ends_known : (libs : List design.Lib) (ports : List design.Port) (insts : List design.Inst) (ts : List (Placed × ℕ × ℕ)) (es : List design.End) → AllZip (MeansRowEnd libs ports insts) ts es → AreDistinct es ⊎ Faulty (λ f. AtTwo (SameEnd libs ports insts f) ts)
+ends_known libs ports insts ts es h = elim (distinct_known (MeansRowEnd libs ports insts) (λ f a b. SameEnd libs ports insts f a b) (λ e. e) end_same (λ a b x m n. (Clash EndTwice (place_of b.0) (place_of a.0), (x, m, n, refl))) ts es h) [
   | inr b ↦ inr b
   | inl d ↦ inl (subst AreDistinct (map_same es) d)
 ]
+
+-- the names of nets
+net_names_known : (ts : List (List ℕ × ℕ)) (ns : List design.Net) → AllZip GivesName ts ns → AreDistinct (map (λ (n : design.Net). n.name.id) ns) ⊎ Faulty (λ f. AtTwo (SameOfTwo f) ts)
+net_names_known ts ns h = distinct_known (λ (a : List ℕ × ℕ) x. a.0 ≡ x) (λ f a b. SameOfTwo f a b) (λ (n : design.Net). n.name.id) bytes_same (λ a b x m n. (Clash Duplicate b.1 a.1, (m ∙ sym n, refl))) ts ns h
 
 -- contents
 pub contents_known : (libs : List design.Lib) (own : Option ℕ) (ports : List design.Port) (t : Placed) → IsOf (has_keyword keywords.Contents) t → Meant (MeansContents libs own ports) (λ c. IsTypedContents c × FineContents c) t ⊎ Faulty (ContentsFault libs own ports t)
@@ -287,39 +316,42 @@ contents_known libs own ports t h = elim (known0 keywords.Contents (Many keyword
     | inl x ↦ (let e : map bare (insts_in t) ≡ those keywords.Instance (map bare (followers keywords.Contents t)) = parts_bare keywords.Contents keywords.Instance t in
         let d : map bare (nets_in t) ≡ those keywords.Net (map bare (followers keywords.Contents t)) = parts_bare keywords.Contents keywords.Net t in
         let xs : Each (MeansInst libs own) (map bare (insts_in t)) x.0 = subst (λ v. Each (MeansInst libs own) v x.0) (sym e) x.1 in
-        elim (each_in (MeansNet libs ports x.0) (λ n. IsTypedNet n × HasDistinctKeys n.properties) (NetFault libs ports x.0) keywords.Contents keywords.Net t (net_known libs ports x.0) h.1) [
+        elim (each_in (MeansNet libs ports x.0) FineForm (NetFault libs ports x.0) keywords.Contents keywords.Net t (net_known libs ports x.0) h.1) [
           | inr b ↦ inr (b.0, stands.contents_nets (stands.one_net x.0 xs b.1))
           | inl y ↦ (let nets : AllZip (λ u n. MeansNet libs ports x.0 (bare u) n) (nets_in t) y.0 = each_with (MeansNet libs ports x.0) (λ u n. MeansNet libs ports x.0 (bare u) n) (λ u n k. k) (nets_in t) (those keywords.Net (map bare (followers keywords.Contents t))) y.0 d y.1 in
-              let ends : AllZip (λ u z. MeansEnd libs ports x.0 (bare u) z) (flat_map ends_in (nets_in t)) (flat_map (λ (n : design.Net). n.ends) y.0) =
-              zip_flat (λ u n. MeansNet libs ports x.0 (bare u) n) (λ u z. MeansEnd libs ports x.0 (bare u) z) ends_in (λ (n : design.Net). n.ends) (net_ends libs ports x.0) (nets_in t) y.0 nets in
+              let all : List design.Net = flat_map nets_of y.0 in
+              let ends : AllZip (MeansRowEnd libs ports x.0) (flat_map row_ends (nets_in t)) (flat_map (λ (n : design.Net). n.ends) all) = row_ends_of libs ports x.0 (nets_in t) y.0 nets in
+              let names : AllZip GivesName (flat_map net_names_in (nets_in t)) all = zip_flat (λ u n. MeansNet libs ports x.0 (bare u) n) GivesName net_names_in nets_of (net_names_are libs ports x.0) (nets_in t) y.0 nets in
+              let fine = rows_fine y.0 y.2 in
               let ln : length (insts_in t) ≡ length x.0 = each_count (MeansInst libs own) (insts_in t) (those keywords.Instance (map bare (followers keywords.Contents t))) x.0 e x.1 in
-              let mn : length (nets_in t) ≡ length y.0 = each_count (MeansNet libs ports x.0) (nets_in t) (those keywords.Net (map bare (followers keywords.Contents t))) y.0 d y.1 in
-              let en : length (flat_map ends_in (nets_in t)) ≡ length (flat_map (λ (n : design.Net). n.ends) y.0) = zip_length (λ u z. MeansEnd libs ports x.0 (bare u) z) (flat_map ends_in (nets_in t)) (flat_map (λ (n : design.Net). n.ends) y.0) ends in
-              elim (ends_known libs ports x.0 (flat_map ends_in (nets_in t)) (flat_map (λ (n : design.Net). n.ends) y.0) ends) [
+              let mn : length (repeated declared_width (nets_in t)) ≡ length all = nets_counted libs ports x.0 (nets_in t) y.0 nets in
+              let en : length (flat_map row_ends (nets_in t)) ≡ length (flat_map (λ (n : design.Net). n.ends) all) = zip_length (MeansRowEnd libs ports x.0) (flat_map row_ends (nets_in t)) (flat_map (λ (n : design.Net). n.ends) all) ends in
+              let ec = ends_counted (nets_in t) in
+              elim (ends_known libs ports x.0 (flat_map row_ends (nets_in t)) (flat_map (λ (n : design.Net). n.ends) all) ends) [
                 | inr b ↦ inr (b.0, stands.contents_nets (stands.end_again x.0 xs b.1))
                 | inl once ↦ elim (names_known (λ (i : design.Inst). i.name.id) (insts_in t) x.0 (each_with (MeansInst libs own) (λ u i. IsNamed u i.name.id) (inst_named libs own) (insts_in t) (those keywords.Instance (map bare (followers keywords.Contents t))) x.0 e x.1)) [
                   | inr b ↦ inr (b.0, stands.inst_again b.1)
-                  | inl di ↦ elim (names_known (λ (n : design.Net). n.name.id) (nets_in t) y.0 (each_with (MeansNet libs ports x.0) (λ u n. IsNamed u n.name.id) (net_named libs ports x.0) (nets_in t) (those keywords.Net (map bare (followers keywords.Contents t))) y.0 d y.1)) [
+                  | inl di ↦ elim (net_names_known (flat_map net_names_in (nets_in t)) all names) [
                     | inr b ↦ inr (b.0, stands.net_again b.1)
                     | inl dn ↦ elim (beyond_known 1048576 (insts_in t)) [
                       | inr b ↦ inr (b.0, stands.many_insts b.1)
-                      | inl li ↦ elim (beyond_known 1048576 (nets_in t)) [
+                      | inl li ↦ elim (beyond_known 1048576 (repeated declared_width (nets_in t))) [
                         | inr b ↦ inr (b.0, stands.many_nets b.1)
-                        | inl lm ↦ elim (beyond_known 4194304 (flat_map ends_in (nets_in t))) [
+                        | inl lm ↦ elim (beyond_known 4194304 (flat_map counted_ends (nets_in t))) [
                           | inr b ↦ inr (b.0, stands.many_ends b.1)
                           | inl le ↦ inl (
-                            record { insts = x.0; nets = y.0 },
-                            record { inner = map bare (followers keywords.Contents t); form = s.form; insts = x.1; nets = y.1 },
+                            record { insts = x.0; nets = all },
+                            record { inner = map bare (followers keywords.Contents t); form = s.form; insts = x.1; rows = y.0; written = y.1; nets = refl },
                             (
-                              record { insts = All-from_recursion IsTypedInst x.0 (first_all IsTypedInst (λ (i : design.Inst). HasDistinctKeys i.properties) x.0 x.2); nets = All-from_recursion IsTypedNet y.0 (first_all IsTypedNet (λ (n : design.Net). HasDistinctKeys n.properties) y.0 y.2) },
+                              record { insts = All-from_recursion IsTypedInst x.0 (first_all IsTypedInst (λ (i : design.Inst). HasDistinctKeys i.properties) x.0 x.2); nets = All-from_recursion IsTypedNet all (first_all IsTypedNet (λ (n : design.Net). HasDistinctKeys n.properties) all fine) },
                               record {
                                 insts = omega (arith, ln, li);
                                 nets = omega (arith, mn, lm);
-                                ends = omega (arith, en, le);
+                                ends = omega (arith, en, ec, le);
                                 inst_names = di;
                                 net_names = dn;
                                 inst_keys = second_all IsTypedInst (λ (i : design.Inst). HasDistinctKeys i.properties) x.0 x.2;
-                                net_keys = second_all IsTypedNet (λ (n : design.Net). HasDistinctKeys n.properties) y.0 y.2;
+                                net_keys = second_all IsTypedNet (λ (n : design.Net). HasDistinctKeys n.properties) all fine;
                                 joined_once = once;
                               },
                             ),
@@ -497,7 +529,7 @@ cell_known libs own t h = elim (known2 keywords.Cell name_definition (the keywor
             | inl v ↦ elim (properties_known keywords.Cell t h.1) [
               | inr b ↦ inr (b.0, stands.cell_properties b.1)
               | inl ps ↦ (let c : design.CellBody = record v.0 { name = n.0; kind = k.0; properties = ps.list } in
-                  let i : FineInside (insts_of v.0) (nets_of v.0) = inside v.0.contents v.2.contents in
+                  let i : FineInside (insts_of v.0) (nets_of_cell v.0) = inside v.0.contents v.2.contents in
                   let w : Just (λ u b. MeansView libs own u b) (those keywords.View (map bare (followers keywords.Cell t))) c =
                   subst (λ us. Just (λ u b. MeansView libs own u b) us c) (parts_bare keywords.Cell keywords.View t) (other_head libs own (map bare (parts keywords.Cell keywords.View t)) v.0 n.0 k.0 ps.list v.1) in
                   inl (

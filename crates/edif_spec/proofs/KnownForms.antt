@@ -238,8 +238,8 @@ differ_distinct [] h = λ i j d l k. absurd (omega arith)
 differ_distinct (x ∷ xs) h = differ_step x xs (All-from_recursion (λ y. x ≢ y) xs h.0) (differ_distinct xs h.1)
 
 -- forms whose values differ, or two with one value
-other_known : {A B : Type 0} (S : Placed → B → Type 0) (R : MeaningFault → Placed → Placed → Type 0) (g : A → B) → ((x y : B) → (x ≡ y) ⊎ (x ≢ y)) → ((a b : Placed) (x : B) → S a x → S b x → Faulty (λ f. R f a b))
-    → (t : Placed) (x : B) → S t x → (ts : List Placed) (xs : List A) → AllZip (λ u y. S u (g y)) ts xs → AllByRecursion (λ y. x ≢ y) (map g xs) ⊎ Faulty (λ f. AtOne (R f t) ts)
+other_known : {A B C : Type 0} (S : C → B → Type 0) (R : MeaningFault → C → C → Type 0) (g : A → B) → ((x y : B) → (x ≡ y) ⊎ (x ≢ y)) → ((a b : C) (x : B) → S a x → S b x → Faulty (λ f. R f a b))
+    → (t : C) (x : B) → S t x → (ts : List C) (xs : List A) → AllZip (λ u y. S u (g y)) ts xs → AllByRecursion (λ y. x ≢ y) (map g xs) ⊎ Faulty (λ f. AtOne (R f t) ts)
 other_known S R g same make t x s [] [] h = inl tt
 other_known S R g same make t x s [] (y ∷ xs) h = absurd h
 other_known S R g same make t x s (u ∷ ts) [] h = absurd h
@@ -250,8 +250,8 @@ other_known {A} {B} S R g same make t x s (u ∷ ts) (y ∷ xs) h = go (same x (
     go (inr n) (inl r) = inl (n, r)
     go (inr n) (inr b) = inr (b.0, inr b.1)
 
-two_known : {A B : Type 0} (S : Placed → B → Type 0) (R : MeaningFault → Placed → Placed → Type 0) (g : A → B) → ((x y : B) → (x ≡ y) ⊎ (x ≢ y)) → ((a b : Placed) (x : B) → S a x → S b x → Faulty (λ f. R f a b))
-    → (ts : List Placed) (xs : List A) → AllZip (λ u y. S u (g y)) ts xs → Differ (map g xs) ⊎ Faulty (λ f. AtTwo (R f) ts)
+two_known : {A B C : Type 0} (S : C → B → Type 0) (R : MeaningFault → C → C → Type 0) (g : A → B) → ((x y : B) → (x ≡ y) ⊎ (x ≢ y)) → ((a b : C) (x : B) → S a x → S b x → Faulty (λ f. R f a b))
+    → (ts : List C) (xs : List A) → AllZip (λ u y. S u (g y)) ts xs → Differ (map g xs) ⊎ Faulty (λ f. AtTwo (R f) ts)
 two_known S R g same make [] [] h = inl tt
 two_known S R g same make [] (x ∷ xs) h = absurd h
 two_known S R g same make (t ∷ ts) [] h = absurd h
@@ -262,8 +262,8 @@ two_known {A} {B} S R g same make (t ∷ ts) (x ∷ xs) h = go (other_known S R 
     go (inl d) (inr b) = inr (b.0, inr b.1)
     go (inl d) (inl r) = inl (d, r)
 
-pub distinct_known : {A B : Type 0} (S : Placed → B → Type 0) (R : MeaningFault → Placed → Placed → Type 0) (g : A → B) → ((x y : B) → (x ≡ y) ⊎ (x ≢ y)) → ((a b : Placed) (x : B) → S a x → S b x → Faulty (λ f. R f a b))
-    → (ts : List Placed) (xs : List A) → AllZip (λ u y. S u (g y)) ts xs → AreDistinct (map g xs) ⊎ Faulty (λ f. AtTwo (R f) ts)
+pub distinct_known : {A B C : Type 0} (S : C → B → Type 0) (R : MeaningFault → C → C → Type 0) (g : A → B) → ((x y : B) → (x ≡ y) ⊎ (x ≢ y)) → ((a b : C) (x : B) → S a x → S b x → Faulty (λ f. R f a b))
+    → (ts : List C) (xs : List A) → AllZip (λ u y. S u (g y)) ts xs → AreDistinct (map g xs) ⊎ Faulty (λ f. AtTwo (R f) ts)
 distinct_known {A} {B} S R g same make ts xs h = go (two_known S R g same make ts xs h)
   where
     go : Differ (map g xs) ⊎ Faulty (λ f. AtTwo (R f) ts) → AreDistinct (map g xs) ⊎ Faulty (λ f. AtTwo (R f) ts)

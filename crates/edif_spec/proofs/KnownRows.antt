@@ -10,13 +10,13 @@ use Rattle.netlist_schema.specs.Names.{AreDistinct, HasDistinctKeys}
 use Rattle.netlist_schema.specs.Typed.{IsBytes, IsTypedName, IsTypedNum, IsTypedValue, IsTypedProperty, IsTypedPort}
 use Rattle.netlist_schema.specs.Width.{IsWidth}
 use Rattle.spelling_spec.specs.Tree.{Bare, Placed, Form', Word', Integer', String', integer, bare}
-use Rattle.edif_spec.specs.Keyword.{same, spelling_of, row, Row, Takes, Choice, AnIdentifier, AnInteger, AString, AForm, Follower, Many, One, name_definition, identifier, the}
+use Rattle.edif_spec.specs.Keyword.{same, spelling_of, row, Row, Takes, Choice, AnIdentifier, AnInteger, AString, AForm, Follower, Many, One, name_definition, bus_name, identifier, the}
 use Rattle.edif_spec.specs.Keyword as keyword
 use Rattle.edif_spec.specs.Rows.{has_keyword, those, is_one_of, is_follower, FitsRow, IsFormOf, Each, Perhaps}
 use Rattle.edif_spec.specs.Canonical.{direction_word}
-use Rattle.edif_spec.specs.Means.{MeansName, MeansText, MeansBoolean, MeansNumber, MeansValue, MeansProperty, MeansProperties, MeansDirection, MeansPortName, MeansPort}
+use Rattle.edif_spec.specs.Means.{MeansName, MeansText, MeansBoolean, MeansNumber, MeansValue, MeansProperty, MeansProperties, MeansDirection, MeansBusName, MeansPort}
 use Rattle.edif_spec.specs.Faults.{place_of, followers, parts, Among, RowFault, BeyondBits, declared_width}
-use Rattle.edif_spec.specs.Stands.{NameFault, BooleanFault, NumberFault, InValue, PropertyFault, PropertiesFault, is_direction, DirectionFault, PortNameFault, PortFault, ports_in, InterfaceFault}
+use Rattle.edif_spec.specs.Stands.{NameFault, BooleanFault, NumberFault, InValue, PropertyFault, PropertiesFault, is_direction, DirectionFault, BusNameFault, PortFault, ports_in, InterfaceFault}
 use Rattle.edif_spec.specs.Stands as stands
 use Rattle.edif_spec.specs.Design as design
 use Rattle.edif_spec.specs.declared.keyword.Keyword.{Keyword}
@@ -213,18 +213,15 @@ size_of (pos m) = elim (test (nat_le 1 m)) [
   | inl e ↦ elim (test (nat_le m 65536)) [ inr g ↦ inr (λ n d w. let q : m ≡ n = cc d in let l : n ≤ 65536 = w.1 in grind (arith, nat_tests)) | inl g ↦ inl (m, refl, (grind (arith, nat_tests), grind (arith, nat_tests))) ]
 ]
 
--- the name of a port, and its array
-pub record KnownPortName (t : Placed) : Type 0 where
+-- the name of a port or of a net, and its array
+pub record KnownBusName (t : Placed) : Type 0 where
   pub name : design.Name
   pub array : Option ℕ
-  pub mean : MeansPortName (bare t) name array
+  pub mean : MeansBusName (bare t) name array
   pub typed : IsTypedName name
   pub width : IfSome array IsWidth
 
-abbrev pub port_choices : List Choice
-port_choices = AnIdentifier ∷ AForm keywords.Rename ∷ AForm keywords.Array ∷ []
-
-array_known : (t : Placed) → IsOf (has_keyword keywords.Array) t → KnownPortName t ⊎ Faulty (PortNameFault t)
+array_known : (t : Placed) → IsOf (has_keyword keywords.Array) t → KnownBusName t ⊎ Faulty (BusNameFault t)
 array_known t h = elim (known2 keywords.Array name_definition keyword.integer [] t refl h) [
   | inr b ↦ inr (b.0, stands.array_row h.0 b.1)
   | inl s ↦ elim (name_known s.a s.written_a s.is_a) [
@@ -240,14 +237,14 @@ array_known t h = elim (known2 keywords.Array name_definition keyword.integer []
   ]
 ]
 
-plain_name : (t : Placed) → Written t → is_one_of name_definition (bare t) ≡ true → KnownPortName t ⊎ Faulty (NameFault t)
+plain_name : (t : Placed) → Written t → is_one_of name_definition (bare t) ≡ true → KnownBusName t ⊎ Faulty (NameFault t)
 plain_name t w h = elim (name_known t w h) [ inr b ↦ inr b | inl x ↦ inl (record { name = x.0; array = None; mean = x.1; typed = x.2; width = tt }) ]
 
-port_name_known : (t : Placed) → Written t → is_one_of port_choices (bare t) ≡ true → KnownPortName t ⊎ Faulty (PortNameFault t)
-port_name_known (Word' p w) v h = elim (plain_name (Word' p w) v refl) [ inr b ↦ inr (b.0, stands.scalar_name b.1) | inl x ↦ inl x ]
-port_name_known (Integer' p z) v h = absurd (cc h)
-port_name_known (String' p s) v h = absurd (cc h)
-port_name_known (Form' p ts) v h =
+pub bus_name_known : (t : Placed) → Written t → is_one_of bus_name (bare t) ≡ true → KnownBusName t ⊎ Faulty (BusNameFault t)
+bus_name_known (Word' p w) v h = elim (plain_name (Word' p w) v refl) [ inr b ↦ inr (b.0, stands.scalar_name b.1) | inl x ↦ inl x ]
+bus_name_known (Integer' p z) v h = absurd (cc h)
+bus_name_known (String' p s) v h = absurd (cc h)
+bus_name_known (Form' p ts) v h =
     let t : Placed = Form' p ts in
     elim (either (has_keyword keywords.Rename (bare t)) (has_keyword keywords.Array (bare t) || false) h) [
       | inl k ↦ (let n : is_one_of name_definition (bare t) ≡ true = or_first (has_keyword keywords.Rename (bare t)) false k in
@@ -257,9 +254,9 @@ port_name_known (Form' p ts) v h =
     ]
 
 pub port_known : (t : Placed) → IsOf (has_keyword keywords.Port) t → Meant MeansPort (λ p. IsTypedPort p × HasDistinctKeys p.properties) t ⊎ Faulty (PortFault t)
-port_known t h = elim (known1 keywords.Port port_choices (One keywords.Direction ∷ One keywords.Designator ∷ Many keywords.Property ∷ Many keywords.Comment ∷ Many keywords.UserData ∷ []) t refl h) [
+port_known t h = elim (known1 keywords.Port bus_name (One keywords.Direction ∷ One keywords.Designator ∷ Many keywords.Property ∷ Many keywords.Comment ∷ Many keywords.UserData ∷ []) t refl h) [
   | inr b ↦ inr (b.0, stands.port_row b.1)
-  | inl s ↦ elim (port_name_known s.a s.written_a s.is_a) [
+  | inl s ↦ elim (bus_name_known s.a s.written_a s.is_a) [
     | inr b ↦ inr (b.0, stands.port_name (s.a, s.at_a, b.1))
     | inl n ↦ elim (perhaps_in MeansDirection (λ d. Unit {0}) DirectionFault keywords.Port keywords.Direction t direction_known h.1 s.form.fits.2.0) [
       | inr b ↦ inr (b.0, stands.port_direction b.1)

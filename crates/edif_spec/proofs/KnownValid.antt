@@ -1,5 +1,5 @@
 -- What libraries mean, where no limit is passed and names differ, is valid.
-use Rattle.std.proofs.Common.{◌≡◌, ℕ, zero, suc, ◌+◌, ◌*◌, ◌<◌, ◌≤◌, List, [], ◌∷◌, ◌++◌, length, refl, ap, sym, ◌∙◌, subst, ◌⊎◌, inl, inr, Option, Some, None, arith, append-nil, slice_index_or}
+use Rattle.std.proofs.Common.{◌≡◌, ℕ, zero, suc, ◌+◌, ◌*◌, ◌<◌, ◌≤◌, List, [], ◌∷◌, ◌++◌, map, length, refl, ap, sym, ◌∙◌, subst, ◌⊎◌, inl, inr, Option, Some, None, arith, append-nil, slice_index_or}
 use Rattle.std.specs.Prelude.{slice_get, IsSome, IsSomeAnd, is_some, take, option_map, unwrap_or}
 use Rattle.std.specs.List.{AllByRecursion, Contains, flat_map}
 use Rattle.std.specs.Option.{option_map_or}
@@ -13,7 +13,9 @@ use Rattle.netlist_schema.proofs.Cells.{cell_of_inst, ranked_has_no_cycle}
 use Rattle.spelling_spec.specs.Tree.{Bare}
 use Rattle.edif_spec.specs.Rows.{those, Each, EachAfter, Perhaps, Just}
 use Rattle.edif_spec.specs.Canonical.{ports_of_end}
-use Rattle.edif_spec.specs.Means.{width_at, MeansInstRef, MeansBit, MeansEnd, MeansNet, MeansContents, MeansView, MeansCell, MeansLibrary, MeansPath, MeansNote}
+use Rattle.edif_spec.specs.Nets.{NetForm, Stretch, end_of as bit_at, net_at, nets_of, row_size}
+use Rattle.edif_spec.proofs.RowForms.{all_numbered}
+use Rattle.edif_spec.specs.Means.{width_at, MeansInstRef, MeansBits, MeansEnd, MeansNet, MeansContents, MeansView, MeansCell, MeansLibrary, MeansPath, MeansNote}
 use Rattle.edif_spec.specs.Design as design
 use Rattle.edif_spec.specs.declared.keyword.Keyword.TheVariants as keywords
 use Rattle.edif_spec.proofs.Defined.{meant_there, name_there, insts_defined, view_defined}
@@ -110,9 +112,9 @@ has_bit_below : (o : Option design.Port) (bit : ℕ) → bit < unwrap_or (option
 has_bit_below None bit l = absurd (omega arith)
 has_bit_below (Some p) bit l = l
 
-bit_there : (ports : List design.Port) (t : Bare) (port bit : ℕ) → MeansBit ports t port bit → HasBit ports port bit
-bit_there ports t port bit (inl h) = let w : width_at ports port ≡ 1 = h.3 in let z : bit ≡ 0 = h.4 in has_bit_below (slice_get ports port) bit (omega (arith, w, z))
-bit_there ports t port bit (inr h) = has_bit_below (slice_get ports port) bit h.3
+bits_there : (ports : List design.Port) (t : Bare) (port first width k : ℕ) → MeansBits ports t port first width → k < width → HasBit ports port (k + first)
+bits_there ports t port first width k (inl h) l = let z : first ≡ 0 = h.3 in let w : width ≡ width_at ports port = h.4 in has_bit_below (slice_get ports port) (k + first) (omega (arith, z, w, l))
+bits_there ports t port first width k (inr h) l = let b : first < width_at ports port = h.3 in let w : width ≡ 1 = h.4 in has_bit_below (slice_get ports port) (k + first) (omega (arith, b, w, l))
 
 -- an end is at the cell's own port, or at one of the cell that an instance places
 abbrev EndAt : List design.Lib → List design.Port → List design.Inst → Option ℕ → ℕ → ℕ → Type 0
@@ -127,45 +129,57 @@ and_some : {A : Type 0} (o : Option A) (x : A) (P : A → Type 0) → o ≡ Some
 and_some {A} o x P e p = let Q : Option A → Type 0 = λ v. IsSomeAnd v P in subst Q (sym e) p
 
 end_at : (scope libs : List design.Lib) (ports : List design.Port) (insts : List design.Inst) → Within scope libs → AllByRecursion (λ (i : design.Inst). IsSome (design.cell_at scope i.of)) insts
-    → (ts : List Bare) (o : Option ℕ) (port bit : ℕ) (t : Bare) → Perhaps (MeansInstRef insts) ts o → MeansBit (ports_of_end scope ports insts o) t port bit → EndAt libs ports insts o port bit
-end_at scope libs ports insts sub d ts None port bit t h b = bit_there ports t port bit b
-end_at scope libs ports insts sub d [] (Some k) port bit t h b = absurd h
-end_at scope libs ports insts sub d (u ∷ v ∷ ts) (Some k) port bit t h b = absurd h
-end_at scope libs ports insts sub d (u ∷ []) (Some k) port bit t h b =
+    → (ts : List Bare) (o : Option ℕ) (port first width j : ℕ) (t : Bare) → Perhaps (MeansInstRef insts) ts o → MeansBits (ports_of_end scope ports insts o) t port first width → j < width → EndAt libs ports insts o port (j + first)
+end_at scope libs ports insts sub d ts None port first width j t h b l = bits_there ports t port first width j b l
+end_at scope libs ports insts sub d [] (Some k) port first width j t h b l = absurd h
+end_at scope libs ports insts sub d (u ∷ v ∷ ts) (Some k) port first width j t h b l = absurd h
+end_at scope libs ports insts sub d (u ∷ []) (Some k) port first width j t h b l =
     let x = some_of (slice_get insts k) (name_there (λ (i : design.Inst). i.name.id) insts k (meant_there (design.inst_ids insts) h.0 k h.2)) in
     let s : IsSome (design.cell_at scope x.0.of) = all_at (λ (i : design.Inst). IsSome (design.cell_at scope i.of)) insts k x.0 d x.1 in
     let c = some_of (design.cell_at scope x.0.of) s in
     let p : ports_of_end scope ports insts (Some k) ≡ c.0.ports = ap (λ o. unwrap_or (option_map (λ (y : design.Inst). design.ports_at scope y.of) o) []) x.1 ∙ ap (λ o. unwrap_or (option_map (λ (y : design.CellBody). y.ports) o) []) c.1 in
-    let g : HasBit c.0.ports port bit = bit_there c.0.ports t port bit (subst (λ v. MeansBit v t port bit) p b) in
-    and_some (slice_get insts k) x.0 (λ inst. IsSomeAnd (design.cell_at libs inst.of) (λ of. HasBit of.ports port bit)) x.1 (and_some (design.cell_at libs x.0.of) c.0 (λ of. HasBit of.ports port bit) (sub x.0.of c.0 c.1) g)
+    let g : HasBit c.0.ports port (j + first) = bits_there c.0.ports t port first width j (subst (λ v. MeansBits v t port first width) p b) l in
+    and_some (slice_get insts k) x.0 (λ inst. IsSomeAnd (design.cell_at libs inst.of) (λ of. HasBit of.ports port (j + first))) x.1 (and_some (design.cell_at libs x.0.of) c.0 (λ of. HasBit of.ports port (j + first)) (sub x.0.of c.0 c.1) g)
 
 abbrev Ends : List design.Lib → List design.Port → List design.Inst → List design.End → Type 0
 Ends libs ports insts es = AllByRecursion (λ (e : design.End). EndAt libs ports insts e.inst e.port e.bit) es
 
 ends_at : (scope libs : List design.Lib) (ports : List design.Port) (insts : List design.Inst) → Within scope libs → AllByRecursion (λ (i : design.Inst). IsSome (design.cell_at scope i.of)) insts
-    → (ts : List Bare) (es : List design.End) → Each (MeansEnd scope ports insts) ts es → Ends libs ports insts es
-ends_at scope libs ports insts sub d [] [] h = tt
-ends_at scope libs ports insts sub d [] (e ∷ es) h = absurd h
-ends_at scope libs ports insts sub d (t ∷ ts) [] h = absurd h
-ends_at scope libs ports insts sub d (t ∷ ts) (e ∷ es) h = (end_at scope libs ports insts sub d (those keywords.InstanceRef h.0.inner) e.inst e.port e.bit h.0.bit_part h.0.inst h.0.bit, ends_at scope libs ports insts sub d ts es h.1)
+    → (size j : ℕ) → j < size → (ts : List Bare) (ss : List Stretch) → Each (MeansEnd scope ports insts) ts ss → AllByRecursion (λ (s : Stretch). s.width ≡ size) ss → Ends libs ports insts (map (bit_at j) ss)
+ends_at scope libs ports insts sub d size j l [] [] h w = tt
+ends_at scope libs ports insts sub d size j l [] (s ∷ ss) h w = absurd h
+ends_at scope libs ports insts sub d size j l (t ∷ ts) [] h w = absurd h
+ends_at scope libs ports insts sub d size j l (t ∷ ts) (s ∷ ss) h w =
+    let e : s.width ≡ size = w.0 in
+    (end_at scope libs ports insts sub d (those keywords.InstanceRef h.0.inner) s.inst s.port s.first s.width j h.0.bits_part h.0.inst h.0.bits (omega (arith, l, e)), ends_at scope libs ports insts sub d size j l ts ss h.1 w.1)
 
 all_append : {A : Type 0} (P : A → Type 0) (xs ys : List A) → AllByRecursion P xs → AllByRecursion P ys → AllByRecursion P (xs ++ ys)
 all_append P [] ys h k = k
 all_append P (x ∷ xs) ys h k = (h.0, all_append P xs ys h.1 k)
 
 nets_at : (scope libs : List design.Lib) (ports : List design.Port) (insts : List design.Inst) → Within scope libs → AllByRecursion (λ (i : design.Inst). IsSome (design.cell_at scope i.of)) insts
-    → (ts : List Bare) (ns : List design.Net) → Each (MeansNet scope ports insts) ts ns → Ends libs ports insts (flat_map (λ (n : design.Net). n.ends) ns)
+    → (ts : List Bare) (ns : List NetForm) → Each (MeansNet scope ports insts) ts ns → AllByRecursion (λ (x : design.Net). Ends libs ports insts x.ends) (flat_map nets_of ns)
 nets_at scope libs ports insts sub d [] [] h = tt
 nets_at scope libs ports insts sub d [] (n ∷ ns) h = absurd h
 nets_at scope libs ports insts sub d (t ∷ ts) [] h = absurd h
-nets_at scope libs ports insts sub d (t ∷ ts) (n ∷ ns) h = all_append (λ (e : design.End). EndAt libs ports insts e.inst e.port e.bit) n.ends (flat_map (λ (n : design.Net). n.ends) ns) (ends_at scope libs ports insts sub d h.0.refs n.ends h.0.ends) (nets_at scope libs ports insts sub d ts ns h.1)
+nets_at scope libs ports insts sub d (t ∷ ts) (n ∷ ns) h =
+    let size : ℕ = row_size n.array in
+    all_append (λ (x : design.Net). Ends libs ports insts x.ends) (nets_of n) (flat_map nets_of ns)
+    (all_numbered (λ (x : design.Net). Ends libs ports insts x.ends) (net_at n) 0 size size (omega arith) (λ j l. ends_at scope libs ports insts sub d size j l h.0.refs n.joined h.0.ends h.0.wide))
+    (nets_at scope libs ports insts sub d ts ns h.1)
+
+all_ends : (libs : List design.Lib) (ports : List design.Port) (insts : List design.Inst) (ns : List design.Net) → AllByRecursion (λ (x : design.Net). Ends libs ports insts x.ends) ns → Ends libs ports insts (flat_map (λ (n : design.Net). n.ends) ns)
+all_ends libs ports insts [] h = tt
+all_ends libs ports insts (n ∷ ns) h = all_append (λ (e : design.End). EndAt libs ports insts e.inst e.port e.bit) n.ends (flat_map (λ (n : design.Net). n.ends) ns) h.0 (all_ends libs ports insts ns h.1)
 
 contents_at : (scope libs : List design.Lib) (own : Option ℕ) (ports : List design.Port) → Within scope libs → (ts : List Bare) (o : Option design.Contents) → Perhaps (MeansContents scope own ports) ts o
     → Ends libs ports (insts_inside o) (flat_map (λ (n : design.Net). n.ends) (nets_inside o))
 contents_at scope libs own ports sub [] None h = tt
 contents_at scope libs own ports sub [] (Some x) h = absurd h
 contents_at scope libs own ports sub (t ∷ []) None h = absurd h
-contents_at scope libs own ports sub (t ∷ []) (Some x) h = nets_at scope libs ports x.insts sub (insts_defined scope own (those keywords.Instance h.inner) x.insts h.insts) (those keywords.Net h.inner) x.nets h.nets
+contents_at scope libs own ports sub (t ∷ []) (Some x) h =
+    let P : List design.Net → Type 0 = λ v. AllByRecursion (λ (n : design.Net). Ends libs ports x.insts n.ends) v in
+    all_ends libs ports x.insts x.nets (subst P (sym h.nets) (nets_at scope libs ports x.insts sub (insts_defined scope own (those keywords.Instance h.inner) x.insts h.insts) (those keywords.Net h.inner) h.rows h.written))
 contents_at scope libs own ports sub (t ∷ u ∷ ts) o h = absurd h
 
 view_at : (scope libs : List design.Lib) (own : Option ℕ) → Within scope libs → (ts : List Bare) (c : design.CellBody) → Just (λ v b. MeansView scope own v b) ts c → Ends libs c.ports (insts_of c) (ends_of c)

@@ -23,10 +23,12 @@ pub mod KnownRows
 pub mod KnownValid
 pub mod Layouts
 pub mod Meanings
+pub mod NetFaultsApart
 pub mod Once
 pub mod OnceFile
 pub mod Order
 pub mod ReadBack
+pub mod RowForms
 pub mod SameLemmas
 pub mod Scopes
 pub mod SpelledTrees
@@ -34,3 +36,4 @@ pub mod StringLemmas
 pub mod ToldLemmas
 pub mod ValidForms
 pub mod Whole
+pub mod WrittenNets

@@ -6,7 +6,7 @@ use Rattle.spelling_spec.specs.Tree.{Bare, word, integer, string}
 use Rattle.edif_spec.specs.Keyword.{spelling_of, same, row, Follower, Many, One, AnIdentifier, AnInteger, AForm, name_definition}
 use Rattle.edif_spec.specs.Rows.{has_keyword, is_follower, is_one_of, FitsRow, Each, Perhaps}
 use Rattle.edif_spec.specs.Canonical.{zero_tree, interface_tree, contents_tree, view_tree, kind_word, cell_tree, make, perhaps, name_tree, name_with, number_tree, boolean_tree, value_tree, text_tree, property_tree, direction_word, direction_tree, port_name_tree, port_tree}
-use Rattle.edif_spec.specs.Means.{IsLevel, MeansName, MeansText, MeansBoolean, MeansNumber, MeansValue, MeansProperty, MeansDirection, MeansPortName, MeansPort, MeansInterface, MeansContents, MeansView, MeansKind, MeansCell}
+use Rattle.edif_spec.specs.Means.{IsLevel, MeansName, MeansText, MeansBoolean, MeansNumber, MeansValue, MeansProperty, MeansDirection, MeansBusName, MeansPort, MeansInterface, MeansContents, MeansView, MeansKind, MeansCell}
 use Rattle.netlist_schema.specs.Typed.{IsTypedNum, IsTypedValue, IsTypedProperty}
 use Rattle.netlist_schema.specs.Width.{IsWidth}
 use Rattle.netlist_schema.specs.declared.cell.Direction.TheVariants as directions
@@ -88,11 +88,11 @@ direction_meant d = (direction_word d, record { spelled = codes "direction"; is 
     same_word directions.Output = refl
     same_word directions.Inout = refl
 
-port_name_meant : (name : design.Name) (array : Option ℕ) → IfSome array IsWidth → MeansPortName (port_name_tree name array) name array
+pub port_name_meant : (name : design.Name) (array : Option ℕ) → IfSome array IsWidth → MeansBusName (port_name_tree name array) name array
 port_name_meant name None h = name_meant name.id name.shown
 port_name_meant name (Some n) h = (name_tree name, record { spelled = codes "array"; is = refl; keyword = refl; fits = ((name_fits name.id name.shown, (refl, tt)), refl, tt) }, name_meant name.id name.shown, h)
 
-port_name_fits : (id : List ℕ) (shown : Option (List ℕ)) (array : Option ℕ) → IsTrue (is_one_of (AnIdentifier ∷ AForm keywords.Rename ∷ AForm keywords.Array ∷ []) (port_name_tree (record { id = id; shown = shown }) array))
+pub port_name_fits : (id : List ℕ) (shown : Option (List ℕ)) (array : Option ℕ) → IsTrue (is_one_of (AnIdentifier ∷ AForm keywords.Rename ∷ AForm keywords.Array ∷ []) (port_name_tree (record { id = id; shown = shown }) array))
 port_name_fits id None None = refl
 port_name_fits id (Some text) None = refl
 port_name_fits id shown (Some n) = refl

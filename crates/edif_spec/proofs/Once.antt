@@ -5,7 +5,7 @@ use Rattle.std.specs.List.{AllZip}
 use Rattle.spelling_spec.specs.Tree.{Bare, form, word, integer, string, trees, items, Form'}
 use Rattle.edif_spec.specs.Keyword.{spelling_of, same, row, Row, Takes, Skips, Choice}
 use Rattle.edif_spec.specs.Rows.{those, is_one_of, FitsRow, IsFormOf, Each, Perhaps, EachAfter}
-use Rattle.edif_spec.specs.Means.{MeansName, MeansText, MeansBoolean, MeansNumber, MeansValue, MeansProperty, MeansProperties, MeansDirection, MeansPortName, MeansPort}
+use Rattle.edif_spec.specs.Means.{MeansName, MeansText, MeansBoolean, MeansNumber, MeansValue, MeansProperty, MeansProperties, MeansDirection, MeansBusName, MeansPort}
 use Rattle.edif_spec.specs.declared.keyword.Keyword.{Keyword}
 use Rattle.edif_spec.specs.declared.keyword.Keyword.TheVariants as keywords
 use Rattle.edif_spec.specs.Canonical.{direction_word}
@@ -199,7 +199,7 @@ array_no_name : (t : Bare) (x : design.Name) (n : ℕ) (u : Bare) → MeansName 
 array_no_name t x n u (inl h) k = word_no_form keywords.Array t x.id (u ∷ integer (pos n) ∷ []) [] h.0 k
 array_no_name t x n u (inr h) k = other_keyword keywords.Rename keywords.Array t (word x.id ∷ string h.0 ∷ []) (u ∷ integer (pos n) ∷ []) [] [] refl h.1 k
 
-port_name_once : (t : Bare) (x y : design.Name) (o p : Option ℕ) → MeansPortName t x o → MeansPortName t y p → (x ≡ y) × (o ≡ p)
+pub port_name_once : (t : Bare) (x y : design.Name) (o p : Option ℕ) → MeansBusName t x o → MeansBusName t y p → (x ≡ y) × (o ≡ p)
 port_name_once t x y None None h k = (name_once t x y h k, refl)
 port_name_once t x y (Some m) (Some n) h k =
     let e = one_form keywords.Array t (h.0 ∷ integer (pos m) ∷ []) (k.0 ∷ integer (pos n) ∷ []) [] [] h.1 k.1 in
@@ -213,7 +213,7 @@ port_name_once t x y (Some n) None h k = absurd (array_no_name t y n h.0 k h.1)
 pub port_once : (t : Bare) (p q : design.Port) → MeansPort t p → MeansPort t q → p ≡ q
 port_once t p q h k =
     let e = one_form keywords.Port t (h.name_part ∷ []) (k.name_part ∷ []) h.inner k.inner h.form k.form in
-    let n = port_name_once h.name_part p.name q.name p.array q.array h.name (back (λ v. MeansPortName v q.name q.array) (first_of e.0) k.name) in
+    let n = port_name_once h.name_part p.name q.name p.array q.array h.name (back (λ v. MeansBusName v q.name q.array) (first_of e.0) k.name) in
     let d : p.direction ≡ q.direction = perhaps_same MeansDirection direction_once keywords.Direction h.inner k.inner p.direction q.direction e.1 h.direction k.direction in
     let s : p.designator ≡ q.designator = perhaps_same (MeansText keywords.Designator) (text_once keywords.Designator) keywords.Designator h.inner k.inner p.designator q.designator e.1 h.designator k.designator in
     let ps : p.properties ≡ q.properties = properties_once h.inner k.inner p.properties q.properties e.1 h.properties k.properties in

@@ -4,13 +4,15 @@ use Rattle.std.specs.Prelude.{IfNone, filter, slice_get}
 use Rattle.spelling_spec.specs.Tree.{Bare, form, word, integer}
 use Rattle.edif_spec.specs.Keyword.{same}
 use Rattle.edif_spec.specs.Rows.{those, IsFormOf, Each, Perhaps, EachAfter, Just}
-use Rattle.edif_spec.specs.Means.{MeansName, MeansText, MeansProperty, MeansPort, MeansInterface, MeansLibraryRef, MeansCellRef, MeansViewRef, MeansInst, MeansInstRef, MeansBit, MeansEnd, MeansNet, MeansContents, MeansView, MeansKind, MeansCell, MeansLibrary, MeansPath, MeansNote, MeansDesign, MeansFile, Found, meant, is_library, libs_before_design, is_note}
+use Rattle.edif_spec.specs.Means.{MeansName, MeansText, MeansProperty, MeansPort, MeansInterface, MeansLibraryRef, MeansCellRef, MeansViewRef, MeansBusName, MeansInst, MeansInstRef, MeansBits, MeansEnd, MeansNet, MeansContents, MeansView, MeansKind, MeansCell, MeansLibrary, MeansPath, MeansNote, MeansDesign, MeansFile, Found, meant, width_at, is_library, libs_before_design, is_note}
 use Rattle.netlist_schema.specs.declared.cell.CellKind.TheVariants as kinds
 use Rattle.edif_spec.specs.declared.keyword.Keyword.TheVariants as keywords
 use Rattle.edif_spec.specs.Canonical.{kind_word, ports_of_end, library_keyword}
 use Rattle.edif_spec.specs.Design as design
+use Rattle.edif_spec.specs.Nets.{NetForm, Stretch, nets_of}
+use Rattle.std.specs.List.{flat_map}
 use Rattle.edif_spec.proofs.Groups.{same_left}
-use Rattle.edif_spec.proofs.Once.{one_form, each_once, each_after_once, back, lists_back, other_keyword, word_no_form, name_once, text_once, first_of, perhaps_same, each_same, property_once, properties_once, port_once, same_arguments}
+use Rattle.edif_spec.proofs.Once.{one_form, each_once, each_after_once, back, lists_back, other_keyword, word_no_form, name_once, port_name_once, text_once, first_of, perhaps_same, each_same, property_once, properties_once, port_once, same_arguments}
 
 interface_once : (t : Bare) (c d : design.CellBody) → MeansInterface t c → MeansInterface t d → (c.ports ≡ d.ports) × (c.interface_properties ≡ d.interface_properties)
 interface_once t c d h k =
@@ -60,40 +62,44 @@ inst_ref_once insts t i j h k =
     let w : word h.0 ∷ [] ≡ word k.0 ∷ [] = e.0 in let a : h.0 ≡ k.0 = cc w in
     found i j (sym h.2 ∙ (ap (meant (design.inst_ids insts)) a ∙ k.2))
 
-bit_once : (ports : List design.Port) (t : Bare) (p q b c : ℕ) → MeansBit ports t p b → MeansBit ports t q c → (p ≡ q) × (b ≡ c)
-bit_once ports t p q b c (inl h) (inl k) = let w : word h.0 ≡ word k.0 = sym h.1 ∙ k.1 in let a : h.0 ≡ k.0 = cc w in (found p q (sym h.2 ∙ (ap (meant (design.port_ids ports)) a ∙ k.2)), h.4 ∙ sym k.4)
-bit_once ports t p q b c (inl h) (inr k) = absurd (word_no_form keywords.Member t h.0 (word k.0 ∷ integer (pos c) ∷ []) [] h.1 k.1)
-bit_once ports t p q b c (inr h) (inl k) = absurd (word_no_form keywords.Member t k.0 (word h.0 ∷ integer (pos b) ∷ []) [] k.1 h.1)
-bit_once ports t p q b c (inr h) (inr k) =
+bits_once : (ports : List design.Port) (t : Bare) (p q b c v w : ℕ) → MeansBits ports t p b v → MeansBits ports t q c w → (p ≡ q) × (b ≡ c) × (v ≡ w)
+bits_once ports t p q b c v w (inl h) (inl k) =
+    let s : word h.0 ≡ word k.0 = sym h.1 ∙ k.1 in let a : h.0 ≡ k.0 = cc s in
+    let n : p ≡ q = found p q (sym h.2 ∙ (ap (meant (design.port_ids ports)) a ∙ k.2)) in
+    (n, h.3 ∙ sym k.3, h.4 ∙ (ap (width_at ports) n ∙ sym k.4))
+bits_once ports t p q b c v w (inl h) (inr k) = absurd (word_no_form keywords.Member t h.0 (word k.0 ∷ integer (pos c) ∷ []) [] h.1 k.1)
+bits_once ports t p q b c v w (inr h) (inl k) = absurd (word_no_form keywords.Member t k.0 (word h.0 ∷ integer (pos b) ∷ []) [] k.1 h.1)
+bits_once ports t p q b c v w (inr h) (inr k) =
     let e = one_form keywords.Member t (word h.0 ∷ integer (pos b) ∷ []) (word k.0 ∷ integer (pos c) ∷ []) [] [] h.1 k.1 in
-    let w : word h.0 ∷ integer (pos b) ∷ [] ≡ word k.0 ∷ integer (pos c) ∷ [] = e.0 in let a : h.0 ≡ k.0 = cc w in let d : b ≡ c = cc w in
-    (found p q (sym h.2 ∙ (ap (meant (design.port_ids ports)) a ∙ k.2)), d)
+    let s : word h.0 ∷ integer (pos b) ∷ [] ≡ word k.0 ∷ integer (pos c) ∷ [] = e.0 in let a : h.0 ≡ k.0 = cc s in let d : b ≡ c = cc s in
+    (found p q (sym h.2 ∙ (ap (meant (design.port_ids ports)) a ∙ k.2)), d, h.4 ∙ sym k.4)
 
-pub end_once : (libs : List design.Lib) (ports : List design.Port) (insts : List design.Inst) (t : Bare) (x y : design.End) → MeansEnd libs ports insts t x → MeansEnd libs ports insts t y → x ≡ y
+pub end_once : (libs : List design.Lib) (ports : List design.Port) (insts : List design.Inst) (t : Bare) (x y : Stretch) → MeansEnd libs ports insts t x → MeansEnd libs ports insts t y → x ≡ y
 end_once libs ports insts t x y h k =
-    let e = one_form keywords.PortRef t (h.bit_part ∷ []) (k.bit_part ∷ []) h.inner k.inner h.form k.form in
+    let e = one_form keywords.PortRef t (h.bits_part ∷ []) (k.bits_part ∷ []) h.inner k.inner h.form k.form in
     let n : x.inst ≡ y.inst = perhaps_same (MeansInstRef insts) (inst_ref_once insts) keywords.InstanceRef h.inner k.inner x.inst y.inst e.1 h.inst k.inst in
-    let P : Option ℕ → Type 0 = λ v. MeansBit (ports_of_end libs ports insts v) h.bit_part y.port y.bit in
-    let b = bit_once (ports_of_end libs ports insts x.inst) h.bit_part x.port y.port x.bit y.bit h.bit (subst P (sym n) (back (λ v. MeansBit (ports_of_end libs ports insts y.inst) v y.port y.bit) (first_of e.0) k.bit)) in
-    λ i. record { inst = n i; port = b.0 i; bit = b.1 i }
+    let P : Option ℕ → Type 0 = λ v. MeansBits (ports_of_end libs ports insts v) h.bits_part y.port y.first y.width in
+    let b = bits_once (ports_of_end libs ports insts x.inst) h.bits_part x.port y.port x.first y.first x.width y.width h.bits (subst P (sym n) (back (λ v. MeansBits (ports_of_end libs ports insts y.inst) v y.port y.first y.width) (first_of e.0) k.bits)) in
+    λ i. record { inst = n i; port = b.0 i; first = b.1 i; width = b.2 i }
 
-net_once : (libs : List design.Lib) (ports : List design.Port) (insts : List design.Inst) (t : Bare) (x y : design.Net) → MeansNet libs ports insts t x → MeansNet libs ports insts t y → x ≡ y
+pub net_once : (libs : List design.Lib) (ports : List design.Port) (insts : List design.Inst) (t : Bare) (x y : NetForm) → MeansNet libs ports insts t x → MeansNet libs ports insts t y → x ≡ y
 net_once libs ports insts t x y h k =
     let e = one_form keywords.Net t (h.name_part ∷ h.joined_part ∷ []) (k.name_part ∷ k.joined_part ∷ []) h.inner k.inner h.form k.form in
     let w : h.name_part ∷ h.joined_part ∷ [] ≡ k.name_part ∷ k.joined_part ∷ [] = e.0 in
     let a : h.name_part ≡ k.name_part = cc w in let b : h.joined_part ≡ k.joined_part = cc w in
-    let n : x.name ≡ y.name = name_once h.name_part x.name y.name h.name (back (λ v. MeansName v y.name) a k.name) in
+    let n = port_name_once h.name_part x.name y.name x.array y.array h.name (back (λ v. MeansBusName v y.name y.array) a k.name) in
     let r = one_form keywords.Joined h.joined_part [] [] h.refs k.refs h.joined (back (λ v. IsFormOf keywords.Joined v [] k.refs) b k.joined) in
-    let es : x.ends ≡ y.ends = each_once (MeansEnd libs ports insts) (end_once libs ports insts) h.refs x.ends y.ends h.ends (lists_back (λ v. Each (MeansEnd libs ports insts) v y.ends) r.1 k.ends) in
+    let es : x.joined ≡ y.joined = each_once (MeansEnd libs ports insts) (end_once libs ports insts) h.refs x.joined y.joined h.ends (lists_back (λ v. Each (MeansEnd libs ports insts) v y.joined) r.1 k.ends) in
     let ps : x.properties ≡ y.properties = properties_once h.inner k.inner x.properties y.properties e.1 h.properties k.properties in
-    λ i. record { name = n i; ends = es i; properties = ps i }
+    λ i. record { name = n.0 i; array = n.1 i; joined = es i; properties = ps i }
 
 pub contents_once : (libs : List design.Lib) (own : Option ℕ) (ports : List design.Port) (t : Bare) (x y : design.Contents) → MeansContents libs own ports t x → MeansContents libs own ports t y → x ≡ y
 contents_once libs own ports t x y h k =
     let e = one_form keywords.Contents t [] [] h.inner k.inner h.form k.form in
     let n : x.insts ≡ y.insts = each_same (MeansInst libs own) (inst_once libs own) keywords.Instance h.inner k.inner x.insts y.insts e.1 h.insts k.insts in
-    let P : List design.Inst → Type 0 = λ v. Each (MeansNet libs ports v) (those keywords.Net k.inner) y.nets in
-    let m : x.nets ≡ y.nets = each_same (MeansNet libs ports x.insts) (net_once libs ports x.insts) keywords.Net h.inner k.inner x.nets y.nets e.1 h.nets (subst P (sym n) k.nets) in
+    let P : List design.Inst → Type 0 = λ v. Each (MeansNet libs ports v) (those keywords.Net k.inner) k.rows in
+    let r : h.rows ≡ k.rows = each_same (MeansNet libs ports x.insts) (net_once libs ports x.insts) keywords.Net h.inner k.inner h.rows k.rows e.1 h.written (subst P (sym n) k.written) in
+    let m : x.nets ≡ y.nets = h.nets ∙ (ap (flat_map nets_of) r ∙ sym k.nets) in
     λ i. record { insts = n i; nets = m i }
 
 -- what a view says of its cell

@@ -1,18 +1,20 @@
 -- A fault that stands tells of what is there: the walk through the cases of each form.
-use Rattle.std.proofs.Common.{◌≡◌, ℕ, zero, suc, ◌+◌, ℤ, pos, List, [], ◌∷◌, ◌++◌, length, refl, ap, sym, ◌∙◌, subst, inl, inr, Bool, true, false, Option, Some, None}
+use Rattle.std.proofs.Common.{◌≡◌, ℕ, zero, suc, ◌+◌, ℤ, pos, List, [], ◌∷◌, ◌++◌, map, replicate, length, refl, ap, sym, ◌∙◌, subst, inl, inr, Bool, true, false, Option, Some, None}
 use Rattle.std.specs.Prelude.{IsTrue, cond, filter, drop, slice_get}
-use Rattle.std.specs.List.{flat_map}
+use Rattle.std.specs.List.{AllByRecursion, flat_map}
+use Rattle.bus_spec.specs.Members.{numbered}
 use Rattle.spelling_spec.specs.Tree.{Bare, Placed, Form', Word', Integer', String', End, More, bare}
 use Rattle.edif_spec.specs.Keyword.{row, Row, Takes, Skips, Choice, Follower, Many, One}
 use Rattle.edif_spec.specs.Rows.{has_keyword, is_follower}
 use Rattle.edif_spec.specs.Canonical.{ports_of_end}
 use Rattle.edif_spec.specs.Means.{is_library, is_note, MeansLibrary, MeansCell}
-use Rattle.edif_spec.specs.Faults.{AtOne, AtTwo, place_of, arguments, followers, fixed_count, those_of, parts, Among, InPart, InForm, row_has, misplaced, token_kind, FixedFault, FollowerFault, second, SecondFault, Breaches, RowFault, holds_name, name_of, defined, SameName, Repeats, Beyond, BeyondBits, declared_width}
-use Rattle.edif_spec.specs.Stands.{WordFault, ValueFault, Dangles, NameFault, ExponentFault, BooleanFault, NumberFault, InValue, PropertyFault, PropertiesFault, is_direction, DirectionFault, SizeFault, PortNameFault, PortFault, ports_in, InterfaceFault, LibraryRefFault, CellRefFault, ViewRefFault, InstFault, InstRefFault, WholeFault, IndexFault, BitFault, EndFault, JoinedFault, NetFault, MemberShapeFault, EndShapeFault, JoinedShapeFault, NetShapeFault, ends_joined, ends_in, insts_in, nets_in, SameEnd, NetsFault, ContentsFault, is_netlist, TypeFault, InContents, ViewFault, is_cell_type, CellTypeFault, CellFault, LevelFault, AmongAfter, cells_in, CellsFault, LibraryFault, bad_form, note_parts, StepsFault, PathFault, NoteFault, SameNote, Notes, notes_in, NotesFault, DesignFault, VersionFault, MapFault, libraries, InDesign, FileFault, file_row, Stands}
+use Rattle.edif_spec.specs.Faults.{AtOne, AtTwo, place_of, arguments, followers, fixed_count, those_of, parts, Among, InPart, InForm, row_has, misplaced, token_kind, FixedFault, FollowerFault, second, SecondFault, Breaches, RowFault, holds_name, name_of, defined, SameName, Repeats, Beyond, BeyondBits, SameOfTwo, declared_width, repeated}
+use Rattle.edif_spec.specs.Stands.{WordFault, ValueFault, Dangles, NameFault, ExponentFault, BooleanFault, NumberFault, InValue, PropertyFault, PropertiesFault, is_direction, DirectionFault, SizeFault, BusNameFault, PortFault, ports_in, InterfaceFault, LibraryRefFault, CellRefFault, ViewRefFault, InstFault, InstRefFault, IndexFault, BitFault, EndFault, JoinedFault, WidthFault, NetFault, MemberShapeFault, EndShapeFault, JoinedShapeFault, NetShapeFault, ends_joined, ends_in, insts_in, nets_in, SameEnd, NetsFault, ContentsFault, is_netlist, TypeFault, InContents, ViewFault, is_cell_type, CellTypeFault, CellFault, LevelFault, AmongAfter, cells_in, CellsFault, LibraryFault, bad_form, note_parts, StepsFault, PathFault, NoteFault, SameNote, Notes, notes_in, NotesFault, DesignFault, VersionFault, MapFault, libraries, InDesign, FileFault, file_row, Stands, counted_ends, is_arrayed, member_at, names_from, net_names_in, row_ends, NetWidthFault}
 use Rattle.edif_spec.specs.Stands as stands
-use Rattle.edif_spec.specs.Told.{IsIn, IsUnder, IsOutside, IsFaulty, AreTwo, Told}
+use Rattle.edif_spec.specs.Told.{IsIn, IsUnder, IsOutside, IsFaulty, AreTwo, Gives, Told}
 use Rattle.edif_spec.specs.Told as told
 use Rattle.edif_spec.specs.Design as design
+use Rattle.edif_spec.proofs.CellPlaces.{all_at}
 use Rattle.edif_spec.specs.declared.keyword.Keyword.{Keyword}
 use Rattle.edif_spec.specs.declared.keyword.Keyword.TheVariants as keywords
 use Rattle.edif_spec.specs.declared.fault.Kind.{Kind}
@@ -122,7 +124,7 @@ repeats_told : (r : Placed) (Q : Placed → Type 0) (ts : List Placed) (f : Mean
 repeats_told r Q ts f h b =
     let w = two_there (SameName f) ts b in
     let s = w.6 in
-    at_fault r f (Clash clashes.Duplicate s.2 s.1) s.5 (s.0, defined_in r w.2 s.0 s.1 (h w.0 w.2 w.4).0 s.3, defined_in r w.3 s.0 s.2 (h w.1 w.3 w.5).0 s.4)
+    at_fault r f (Clash clashes.Duplicate s.2 s.1) s.5 (s.0, s.0, s.0, (defined_in r w.2 s.0 s.1 (h w.0 w.2 w.4).0 s.3, inl refl), (defined_in r w.3 s.0 s.2 (h w.1 w.3 w.5).0 s.4, inl refl))
 
 beyond_told : (r : Placed) (Q : Placed → Type 0) (limit : ℕ) (ts : List Placed) (f : MeaningFault) → Inside r Q ts → Beyond limit ts f → Told r f
 beyond_told r Q limit ts f h b = at_fault r f (OverLimit limit (place_of b.0)) b.2 (b.0, refl, (h limit b.0 b.1).0)
@@ -344,7 +346,7 @@ direction_told : (r t : Placed) (f : MeaningFault) → IsIn r t → IsTrue (has_
 direction_told r t f h w (stands.direction_row b) = row_told r keywords.Direction t f h w b
 direction_told r t f h w (stands.other_direction b) = word_told r is_direction kinds.BadForm b.0 f (told.argument t b.0 0 h b.1) b.2
 
-port_name_told : (r t : Placed) (f : MeaningFault) → IsIn r t → PortNameFault t f → Told r f
+port_name_told : (r t : Placed) (f : MeaningFault) → IsIn r t → BusNameFault t f → Told r f
 port_name_told r t f h (stands.scalar_name b) = name_told r t f h b
 port_name_told r t f h (stands.array_row k b) = row_told r keywords.Array t f h k b
 port_name_told r t f h (stands.array_name k b) = name_part r t f h b
@@ -395,7 +397,6 @@ inst_ref_told r insts t f h w (stands.inst_ref_name b) = dangles_told r (design.
 
 bit_told : (r : Placed) (ports : List design.Port) (u : Placed) (f : MeaningFault) → IsUnder r keywords.PortRef u → BitFault ports u f → Told r f
 bit_told r ports u f h (stands.bit_port b) = dangles_told r (design.port_ids ports) u f (under_in r keywords.PortRef u h) b
-bit_told r ports u f h (stands.bit_whole b) = at_fault r f (At kinds.WholeArray b.place) b.fault (u, ap place_of b.is, h)
 bit_told r ports u f h (stands.member_row k b) = row_told r keywords.Member u f (under_in r keywords.PortRef u h) k b
 bit_told r ports u f h (stands.member_port k b) = dangles_told r (design.port_ids ports) b.0 f (told.argument u b.0 0 (under_in r keywords.PortRef u h) b.1) b.2
 bit_told r ports u f h (stands.member_index k b) = at_fault r f (At kinds.BadIndex b.place) b.fault (Integer' b.place b.index, refl, inr (record { holder = u; inside = under_in r keywords.PortRef u h; keyword = k; at = 1; there = b.index_there }))
@@ -409,28 +410,6 @@ joined_told : (r : Placed) (libs : List design.Lib) (ports : List design.Port) (
 joined_told r libs ports insts t f h w (stands.joined_row b) = row_told r keywords.Joined t f h w b
 joined_told r libs ports insts t f h w (stands.joined_end b) = among_told r (λ u. IsTrue (has_keyword keywords.PortRef (bare u))) (EndFault libs ports insts) (parts keywords.Joined keywords.PortRef t) f (inside_parts r keywords.Joined keywords.PortRef t h) (λ u i v c. end_told r libs ports insts u f i v c) b
 
-net_told : (r : Placed) (libs : List design.Lib) (ports : List design.Port) (insts : List design.Inst) (t : Placed) (f : MeaningFault) → IsIn r t → IsTrue (has_keyword keywords.Net (bare t)) → NetFault libs ports insts t f → Told r f
-net_told r libs ports insts t f h w (stands.net_row b) = row_told r keywords.Net t f h w b
-net_told r libs ports insts t f h w (stands.net_name b) = name_part r t f h b
-net_told r libs ports insts t f h w (stands.net_joined b) = form_told r 1 keywords.Joined (JoinedFault libs ports insts) t f h (λ u i v c. joined_told r libs ports insts u f i v c) b
-net_told r libs ports insts t f h w (stands.net_properties b) = properties_told r keywords.Net t f h b
-
-end_shape_told : (r t : Placed) (f : MeaningFault) → IsIn r t → IsTrue (has_keyword keywords.PortRef (bare t)) → EndShapeFault t f → Told r f
-end_shape_told r t f h w (stands.end_shape_row b) = row_told r keywords.PortRef t f h w b
-end_shape_told r t f h w (stands.end_shape_inst b) = rows_told r keywords.PortRef keywords.InstanceRef t f h b
-end_shape_told r t f h w (stands.end_shape_member b) = row_told r keywords.Member b.0 f (told.argument t b.0 0 h b.1) b.2.0 b.2.1
-
-joined_shape_told : (r t : Placed) (f : MeaningFault) → IsIn r t → IsTrue (has_keyword keywords.Joined (bare t)) → JoinedShapeFault t f → Told r f
-joined_shape_told r t f h w (stands.joined_shape_row b) = row_told r keywords.Joined t f h w b
-joined_shape_told r t f h w (stands.joined_shape_end b) = among_told r (λ u. IsTrue (has_keyword keywords.PortRef (bare u))) EndShapeFault (parts keywords.Joined keywords.PortRef t) f (inside_parts r keywords.Joined keywords.PortRef t h) (λ u i v c. end_shape_told r u f i v c) b
-
-net_shape_told : (r t : Placed) (f : MeaningFault) → IsIn r t → IsTrue (has_keyword keywords.Net (bare t)) → NetShapeFault t f → Told r f
-net_shape_told r t f h w (stands.net_shape_row b) = row_told r keywords.Net t f h w b
-net_shape_told r t f h w (stands.net_shape_name b) = name_part r t f h b
-net_shape_told r t f h w (stands.net_shape_joined b) = form_told r 1 keywords.Joined JoinedShapeFault t f h (λ u i v c. joined_shape_told r u f i v c) b
-net_shape_told r t f h w (stands.net_shape_properties b) = properties_told r keywords.Net t f h b
-
--- contents
 abbrev IsA : Keyword → Placed → Type 0
 IsA k u = IsTrue (has_keyword k (bare u))
 
@@ -445,16 +424,96 @@ ends_inside r t h = go (slice_get (arguments t) 1) refl
         by true g = inside_parts r keywords.Joined keywords.PortRef u (told.argument t u 1 h e) i x g
         by false g = absurd (cc g)
 
-all_ends : (r t : Placed) → IsIn r t → Inside r (IsA keywords.PortRef) (flat_map ends_in (nets_in t))
-all_ends r t h = inside_flat r (IsA keywords.Net) (IsA keywords.PortRef) ends_in (nets_in t) (inside_parts r keywords.Contents keywords.Net t h) (λ u i w. ends_inside r u i)
+width_told : (r : Placed) (libs : List design.Lib) (ports : List design.Port) (insts : List design.Inst) (array : Option ℕ) (t : Placed) (f : MeaningFault) → IsIn r t → IsTrue (has_keyword keywords.PortRef (bare t)) → WidthFault libs ports insts array t f → Told r f
+width_told r libs ports insts None t f h w b = at_fault r f (At kinds.WholeArray (place_of b.bits)) b.fault (b.bits, refl, record { holder = t; inside = h; keyword = w; at = 0; there = b.there })
+width_told r libs ports insts (Some n) t f h w b = at_fault r f (At kinds.BadWidth (place_of b.bits)) b.fault (b.bits, refl, record { holder = t; inside = h; keyword = w; at = 0; there = b.there })
+
+net_told : (r : Placed) (libs : List design.Lib) (ports : List design.Port) (insts : List design.Inst) (t : Placed) (f : MeaningFault) → IsIn r t → IsTrue (has_keyword keywords.Net (bare t)) → NetFault libs ports insts t f → Told r f
+net_told r libs ports insts t f h w (stands.net_row b) = row_told r keywords.Net t f h w b
+net_told r libs ports insts t f h w (stands.net_name b) = port_name_told r b.0 f (told.argument t b.0 0 h b.1) b.2
+net_told r libs ports insts t f h w (stands.net_joined b) = form_told r 1 keywords.Joined (JoinedFault libs ports insts) t f h (λ u i v c. joined_told r libs ports insts u f i v c) b
+net_told r libs ports insts t f h w (stands.net_width b) = among_told r (IsA keywords.PortRef) (WidthFault libs ports insts b.array) (ends_in t) f (ends_inside r t h) (λ u i v c. width_told r libs ports insts b.array u f i v c) b.fault
+net_told r libs ports insts t f h w (stands.net_properties b) = properties_told r keywords.Net t f h b
+
+end_shape_told : (r t : Placed) (f : MeaningFault) → IsIn r t → IsTrue (has_keyword keywords.PortRef (bare t)) → EndShapeFault t f → Told r f
+end_shape_told r t f h w (stands.end_shape_row b) = row_told r keywords.PortRef t f h w b
+end_shape_told r t f h w (stands.end_shape_inst b) = rows_told r keywords.PortRef keywords.InstanceRef t f h b
+end_shape_told r t f h w (stands.end_shape_member b) = row_told r keywords.Member b.0 f (told.argument t b.0 0 h b.1) b.2.0 b.2.1
+
+joined_shape_told : (r t : Placed) (f : MeaningFault) → IsIn r t → IsTrue (has_keyword keywords.Joined (bare t)) → JoinedShapeFault t f → Told r f
+joined_shape_told r t f h w (stands.joined_shape_row b) = row_told r keywords.Joined t f h w b
+joined_shape_told r t f h w (stands.joined_shape_end b) = among_told r (λ u. IsTrue (has_keyword keywords.PortRef (bare u))) EndShapeFault (parts keywords.Joined keywords.PortRef t) f (inside_parts r keywords.Joined keywords.PortRef t h) (λ u i v c. end_shape_told r u f i v c) b
+
+net_shape_told : (r t : Placed) (f : MeaningFault) → IsIn r t → IsTrue (has_keyword keywords.Net (bare t)) → NetShapeFault t f → Told r f
+net_shape_told r t f h w (stands.net_shape_row b) = row_told r keywords.Net t f h w b
+net_shape_told r t f h w (stands.net_shape_name b) = port_name_told r b.0 f (told.argument t b.0 0 h b.1) b.2
+net_shape_told r t f h w (stands.net_shape_joined b) = form_told r 1 keywords.Joined JoinedShapeFault t f h (λ u i v c. joined_shape_told r u f i v c) b
+net_shape_told r t f h w (stands.net_shape_properties b) = properties_told r keywords.Net t f h b
+
+-- contents
+-- a list in which each stands as often as it counts
+copies : (t : Placed) (n i : ℕ) (x : Placed) → slice_get (replicate n t) i ≡ Some x → t ≡ x
+copies t zero i x e = absurd (cc e)
+copies t (suc n) zero x e = cc e
+copies t (suc n) (suc i) x e = copies t n i x e
+
+repeated_inside : (r : Placed) (Q : Placed → Type 0) (count : Placed → ℕ) (ts : List Placed) → Inside r Q ts → Inside r Q (repeated count ts)
+repeated_inside r Q count ts h = inside_flat r Q Q (λ t. replicate (count t) t) ts h (λ u i v j x e. let s : u ≡ x = copies u (count u) j x e in (subst (λ y. IsIn r y) s i, subst Q s v))
+
+all_ends : (r t : Placed) → IsIn r t → Inside r (IsA keywords.PortRef) (flat_map counted_ends (nets_in t))
+all_ends r t h = inside_flat r (IsA keywords.Net) (IsA keywords.PortRef) counted_ends (nets_in t) (inside_parts r keywords.Contents keywords.Net t h) (λ u i w. repeated_inside r (IsA keywords.PortRef) (λ v. declared_width u) (ends_in u) (ends_inside r u i))
+
+-- lists of other things that stand in the tree
+all_joined : {A : Type 0} (P : A → Type 0) (xs ys : List A) → AllByRecursion P xs → AllByRecursion P ys → AllByRecursion P (xs ++ ys)
+all_joined P [] ys h k = k
+all_joined P (x ∷ xs) ys h k = (h.0, all_joined P xs ys h.1 k)
+
+all_flat : {A : Type 0} (Q : Placed → Type 0) (r : Placed) (P : A → Type 0) (g : Placed → List A) (ts : List Placed) → Inside r Q ts → ((u : Placed) → IsIn r u → Q u → AllByRecursion P (g u)) → AllByRecursion P (flat_map g ts)
+all_flat Q r P g [] h f = tt
+all_flat Q r P g (t ∷ ts) h f = let w = h 0 t refl in all_joined P (g t) (flat_map g ts) (f t w.0 w.1) (all_flat Q r P g ts (λ i. h (suc i)) f)
+
+row_inside : (r t : Placed) → IsIn r t → AllByRecursion (λ (x : Placed × ℕ × ℕ). IsIn r x.0 × IsA keywords.PortRef x.0) (row_ends t)
+row_inside r t h = by_number (numbered (λ k. k) 0 (declared_width t))
+  where
+    of_net : (k : ℕ) (us : List Placed) → Inside r (IsA keywords.PortRef) us → AllByRecursion (λ (x : Placed × ℕ × ℕ). IsIn r x.0 × IsA keywords.PortRef x.0) (map (λ u. (u, k, declared_width t)) us)
+    of_net k [] g = tt
+    of_net k (u ∷ us) g = (g 0 u refl, of_net k us (λ i. g (suc i)))
+
+    by_number : (ks : List ℕ) → AllByRecursion (λ (x : Placed × ℕ × ℕ). IsIn r x.0 × IsA keywords.PortRef x.0) (flat_map (λ k. map (λ u. (u, k, declared_width t)) (ends_in t)) ks)
+    by_number [] = tt
+    by_number (k ∷ ks) = all_joined (λ (x : Placed × ℕ × ℕ). IsIn r x.0 × IsA keywords.PortRef x.0) (map (λ u. (u, k, declared_width t)) (ends_in t)) (flat_map (λ k. map (λ u. (u, k, declared_width t)) (ends_in t)) ks) (of_net k (ends_in t) (ends_inside r t h)) (by_number ks)
 
 nets_told : (r : Placed) (libs : List design.Lib) (own : Option ℕ) (ports : List design.Port) (t : Placed) (f : MeaningFault) → IsIn r t → NetsFault libs own ports t f → Told r f
 nets_told r libs own ports t f h (stands.one_net insts m b) = among_told r (IsA keywords.Net) (NetFault libs ports insts) (nets_in t) f (inside_parts r keywords.Contents keywords.Net t h) (λ u i w c. net_told r libs ports insts u f i w c) b
 nets_told r libs own ports t f h (stands.end_again insts m b) =
-    let w = two_there (SameEnd libs ports insts f) (flat_map ends_in (nets_in t)) b in
-    let x = all_ends r t h w.0 w.2 w.4 in
-    let y = all_ends r t h w.1 w.3 w.5 in
-    at_fault r f (Clash clashes.EndTwice (place_of w.3) (place_of w.2)) w.6.3 (w.2, w.3, refl, refl, x, y)
+    let w = two_there (SameEnd libs ports insts f) (flat_map row_ends (nets_in t)) b in
+    let all = all_flat (IsA keywords.Net) r (λ (x : Placed × ℕ × ℕ). IsIn r x.0 × IsA keywords.PortRef x.0) row_ends (nets_in t) (inside_parts r keywords.Contents keywords.Net t h) (λ u i v. row_inside r u i) in
+    let x = all_at (λ (x : Placed × ℕ × ℕ). IsIn r x.0 × IsA keywords.PortRef x.0) (flat_map row_ends (nets_in t)) w.0 w.2 all w.4 in
+    let y = all_at (λ (x : Placed × ℕ × ℕ). IsIn r x.0 × IsA keywords.PortRef x.0) (flat_map row_ends (nets_in t)) w.1 w.3 all w.5 in
+    at_fault r f (Clash clashes.EndTwice (place_of w.3.0) (place_of w.2.0)) w.6.3 (w.2.0, w.3.0, refl, refl, x, y)
+
+-- a name that stands in the tree, or that a word there gives
+abbrev Given : Placed → List ℕ × ℕ → Type 0
+Given r a = (w : List ℕ) × IsIn r (Word' a.1 w) × Gives w a.0
+
+names_told : (r : Placed) (ns : List (List ℕ × ℕ)) (f : MeaningFault) → AllByRecursion (Given r) ns → AtTwo (SameOfTwo f) ns → Told r f
+names_told r ns f h b =
+    let w = two_there (SameOfTwo f) ns b in
+    let x = all_at (Given r) ns w.0 w.2 h w.4 in
+    let y = all_at (Given r) ns w.1 w.3 h w.5 in
+    at_fault r f (Clash clashes.Duplicate w.3.1 w.2.1) w.6.1 (w.2.0, x.0, y.0, (x.1, x.2), (y.1, subst (Gives y.0) (sym w.6.0) y.2))
+
+names_given : (r t : Placed) → IsIn r t → AllByRecursion (Given r) (net_names_in t)
+names_given r t h = go (is_arrayed (slice_get (arguments t) 0)) (defined t) refl
+  where
+    members : (name : List ℕ × ℕ) (k count : ℕ) → IsIn r (Word' name.1 name.0) → AllByRecursion (Given r) (numbered (member_at name) k count)
+    members name k zero i = tt
+    members name k (suc count) i = ((name.0, i, inr (k, refl)), members name (suc k) count i)
+
+    go : (b : Bool) (o : Option (List ℕ × ℕ)) → defined t ≡ o → AllByRecursion (Given r) (names_from b (declared_width t) o)
+    go b None e = tt
+    go false (Some name) e = ((name.0, defined_in r t name.0 name.1 h e, inl refl), tt)
+    go true (Some name) e = members name 0 (declared_width t) (defined_in r t name.0 name.1 h e)
 
 contents_told : (r : Placed) (libs : List design.Lib) (own : Option ℕ) (ports : List design.Port) (t : Placed) (f : MeaningFault) → IsIn r t → IsA keywords.Contents t → ContentsFault libs own ports t f → Told r f
 contents_told r libs own ports t f h w (stands.contents_row b) = row_told r keywords.Contents t f h w b
@@ -462,10 +521,10 @@ contents_told r libs own ports t f h w (stands.contents_inst b) = among_told r (
 contents_told r libs own ports t f h w (stands.contents_net_shape b) = among_told r (IsA keywords.Net) NetShapeFault (nets_in t) f (inside_parts r keywords.Contents keywords.Net t h) (λ u i v c. net_shape_told r u f i v c) b
 contents_told r libs own ports t f h w (stands.contents_nets b) = nets_told r libs own ports t f h b
 contents_told r libs own ports t f h w (stands.inst_again b) = repeats_told r (IsA keywords.Instance) (insts_in t) f (inside_parts r keywords.Contents keywords.Instance t h) b
-contents_told r libs own ports t f h w (stands.net_again b) = repeats_told r (IsA keywords.Net) (nets_in t) f (inside_parts r keywords.Contents keywords.Net t h) b
+contents_told r libs own ports t f h w (stands.net_again b) = names_told r (flat_map net_names_in (nets_in t)) f (all_flat (IsA keywords.Net) r (Given r) net_names_in (nets_in t) (inside_parts r keywords.Contents keywords.Net t h) (λ u i v. names_given r u i)) b
 contents_told r libs own ports t f h w (stands.many_insts b) = beyond_told r (IsA keywords.Instance) 1048576 (insts_in t) f (inside_parts r keywords.Contents keywords.Instance t h) b
-contents_told r libs own ports t f h w (stands.many_nets b) = beyond_told r (IsA keywords.Net) 1048576 (nets_in t) f (inside_parts r keywords.Contents keywords.Net t h) b
-contents_told r libs own ports t f h w (stands.many_ends b) = beyond_told r (IsA keywords.PortRef) 4194304 (flat_map ends_in (nets_in t)) f (all_ends r t h) b
+contents_told r libs own ports t f h w (stands.many_nets b) = beyond_told r (IsA keywords.Net) 1048576 (repeated declared_width (nets_in t)) f (repeated_inside r (IsA keywords.Net) declared_width (nets_in t) (inside_parts r keywords.Contents keywords.Net t h)) b
+contents_told r libs own ports t f h w (stands.many_ends b) = beyond_told r (IsA keywords.PortRef) 4194304 (flat_map counted_ends (nets_in t)) f (all_ends r t h) b
 
 -- views and cells
 type_told : (r t : Placed) (f : MeaningFault) → IsIn r t → IsA keywords.ViewType t → TypeFault t f → Told r f
@@ -552,7 +611,7 @@ notes_told r libs t f h (stands.note_again top m b) =
     let s = w.6 in
     let x = inside_followers r is_note keywords.Design t h w.0 w.2 w.4 in
     let y = inside_followers r is_note keywords.Design t h w.1 w.3 w.5 in
-    at_fault r f (Clash clashes.Duplicate s.place s.earlier) s.fault (s.key, noted_key r w.2 libs top s.steps s.key s.earlier x.0 s.first, noted_key r w.3 libs top s.steps s.key s.place y.0 s.second)
+    at_fault r f (Clash clashes.Duplicate s.place s.earlier) s.fault (s.key, s.key, s.key, (noted_key r w.2 libs top s.steps s.key s.earlier x.0 s.first, inl refl), (noted_key r w.3 libs top s.steps s.key s.place y.0 s.second, inl refl))
 
 -- the design and the file
 design_told : (r : Placed) (libs : List design.Lib) (t : Placed) (f : MeaningFault) → IsIn r t → IsA keywords.Design t → DesignFault libs t f → Told r f

@@ -7,6 +7,7 @@ use Rattle.edif_spec.specs.Keyword.{spelling_of, same}
 use Rattle.edif_spec.specs.declared.keyword.Keyword.{Keyword}
 use Rattle.edif_spec.specs.declared.keyword.Keyword.TheVariants as keywords
 use Rattle.edif_spec.specs.Design as design
+use Rattle.edif_spec.specs.Nets.{NetForm, Stretch, net_forms}
 use Rattle.netlist_schema.specs.declared.cell.Direction.TheVariants as directions
 use Rattle.netlist_schema.specs.declared.cell.CellKind.TheVariants as kinds
 use Rattle.netlist_schema.specs.declared.property.Num.TheVariants as numbers
@@ -65,7 +66,7 @@ direction_word directions.Inout = codes "INOUT"
 abbrev pub direction_tree : design.Direction → Bare
 direction_tree d = make keywords.Direction (word (direction_word d) ∷ [])
 
--- the name of a port, as an array where it has a width
+-- the name of a port or of a net, as an array where it has a width
 abbrev pub port_name_tree : design.Name → Option ℕ → Bare
 port_name_tree name None = name_tree name
 port_name_tree name (Some n) = make keywords.Array (name_tree name ∷ integer (pos n) ∷ [])
@@ -99,18 +100,28 @@ abbrev pub port_ref_tree : Option design.Port → ℕ → Bare
 port_ref_tree None bit = word []
 port_ref_tree (Some p) bit = bit_tree p.name.id p.array bit
 
--- an end: its bit, and its instance where it is at one
-abbrev pub end_tree : List design.Lib → List design.Port → List design.Inst → design.End → Bare
-end_tree libs own insts e = make keywords.PortRef (port_ref_tree (slice_get (ports_of_end libs own insts e.inst) e.port) e.bit
-    ∷ perhaps (λ i. make keywords.InstanceRef (word (design.inst_id insts i) ∷ [])) e.inst)
+-- a whole port, by its name; an empty word where there is no such port
+abbrev pub whole_port_tree : Option design.Port → Bare
+whole_port_tree None = word []
+whole_port_tree (Some p) = word p.name.id
 
--- a net: its name, its ends, its properties
-abbrev pub net_tree : List design.Lib → List design.Port → List design.Inst → design.Net → Bare
-net_tree libs own insts n = make keywords.Net (name_tree n.name ∷ make keywords.Joined (map (end_tree libs own insts) n.ends) ∷ map property_tree n.properties)
+-- what a net joins of a port: a bit, or all of it where the net has an array
+abbrev pub bits_tree : Option ℕ → Option design.Port → ℕ → Bare
+bits_tree None port bit = port_ref_tree port bit
+bits_tree (Some width) port bit = whole_port_tree port
 
--- contents: the instances, then the nets
+-- an end of a net with or without an array: its bits, and its instance where it is at one
+abbrev pub end_tree : List design.Lib → List design.Port → List design.Inst → Option ℕ → Stretch → Bare
+end_tree libs own insts array s = make keywords.PortRef (bits_tree array (slice_get (ports_of_end libs own insts s.inst) s.port) s.first
+    ∷ perhaps (λ i. make keywords.InstanceRef (word (design.inst_id insts i) ∷ [])) s.inst)
+
+-- a net as it is written: its name, as an array where it has one, its ends, its properties
+abbrev pub net_tree : List design.Lib → List design.Port → List design.Inst → NetForm → Bare
+net_tree libs own insts n = make keywords.Net (port_name_tree n.name n.array ∷ make keywords.Joined (map (end_tree libs own insts n.array) n.joined) ∷ map property_tree n.properties)
+
+-- contents: the instances, then the nets, with each greatest run in one form
 abbrev pub contents_tree : List design.Lib → List design.Port → design.Contents → Bare
-contents_tree libs own c = make keywords.Contents (map (inst_tree libs) c.insts ++ map (net_tree libs own c.insts) c.nets)
+contents_tree libs own c = make keywords.Contents (map (inst_tree libs) c.insts ++ map (net_tree libs own c.insts) (net_forms (ports_of_end libs own c.insts) c.nets))
 
 -- the word of a kind of cell
 abbrev pub kind_word : design.CellKind → List ℕ

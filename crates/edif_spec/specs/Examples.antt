@@ -326,6 +326,82 @@ whole_array_72 = Form' 72 (More (Word' 73 (codes "library")) (More (Word' 81 (co
 abbrev pub whole_array : Placed
 whole_array = Form' 0 (More (Word' 1 (codes "edif")) (More (Word' 6 (codes "e")) (More bad_level_8 (More bad_version_28 (More bad_version_42 (More whole_array_72 End))))))
 
+-- `(array n 3)`, at byte 247
+abbrev pub bad_width_247 : Placed
+bad_width_247 = Form' 247 (More (Word' 248 (codes "array")) (More (Word' 254 (codes "n")) (More (Integer' 256 (pos 3)) End)))
+
+-- `(portRef d)`, at byte 267
+abbrev pub bad_width_267 : Placed
+bad_width_267 = Form' 267 (More (Word' 268 (codes "portRef")) (More (Word' 276 (codes "d")) End))
+
+-- `(joined (portRef d))`, at byte 259
+abbrev pub bad_width_259 : Placed
+bad_width_259 = Form' 259 (More (Word' 260 (codes "joined")) (More bad_width_267 End))
+
+-- `(net (array n 3) (joined (portRef d)))`, at byte 242
+abbrev pub bad_width_242 : Placed
+bad_width_242 = Form' 242 (More (Word' 243 (codes "net")) (More bad_width_247 (More bad_width_259 End)))
+
+-- `(contents (net (array n 3) (joined (portRef d))))`, at byte 232
+abbrev pub bad_width_232 : Placed
+bad_width_232 = Form' 232 (More (Word' 233 (codes "contents")) (More bad_width_242 End))
+
+-- the `view` `v`, with its `viewType`, `interface`, `contents`, at byte 137
+abbrev pub bad_width_137 : Placed
+bad_width_137 = Form' 137 (More (Word' 138 (codes "view")) (More (Word' 143 (codes "v")) (More two_views_145 (More whole_array_164 (More bad_width_232 End)))))
+
+-- the `cell` `c`, with its `cellType`, `view`, at byte 110
+abbrev pub bad_width_110 : Placed
+bad_width_110 = Form' 110 (More (Word' 111 (codes "cell")) (More (Word' 116 (codes "c")) (More other_view_type_118 (More bad_width_137 End))))
+
+-- the `library` `w`, with its `edifLevel`, `technology`, `cell`, at byte 72
+abbrev pub bad_width_72 : Placed
+bad_width_72 = Form' 72 (More (Word' 73 (codes "library")) (More (Word' 81 (codes "w")) (More two_libraries_83 (More two_libraries_97 (More bad_width_110 End)))))
+
+-- the file `(edif e (edifVersion 2 0 0) (edifLevel 0) (keywordMap (keywordLevel 0)) (library w (edifLevel 0) (technology) (cell c (cellType GENERIC) (view v (viewType NETLIST) (interface (port (array (rename d "d[3:0]") 4) (direction OUTPUT))) (contents (net (array n 3) (joined (portRef d))))))))`
+abbrev pub bad_width : Placed
+bad_width = Form' 0 (More (Word' 1 (codes "edif")) (More (Word' 6 (codes "e")) (More bad_level_8 (More bad_version_28 (More bad_version_42 (More bad_width_72 End))))))
+
+-- `(array n 2)`, at byte 191
+abbrev pub member_again_191 : Placed
+member_again_191 = Form' 191 (More (Word' 192 (codes "array")) (More (Word' 198 (codes "n")) (More (Integer' 200 (pos 2)) End)))
+
+-- `(joined)`, at byte 203
+abbrev pub member_again_203 : Placed
+member_again_203 = Form' 203 (More (Word' 204 (codes "joined")) End)
+
+-- `(net (array n 2) (joined))`, at byte 186
+abbrev pub member_again_186 : Placed
+member_again_186 = Form' 186 (More (Word' 187 (codes "net")) (More member_again_191 (More member_again_203 End)))
+
+-- `(joined)`, at byte 223
+abbrev pub member_again_223 : Placed
+member_again_223 = Form' 223 (More (Word' 224 (codes "joined")) End)
+
+-- `(net n_1_ (joined))`, at byte 213
+abbrev pub member_again_213 : Placed
+member_again_213 = Form' 213 (More (Word' 214 (codes "net")) (More (Word' 218 (codes "n_1_")) (More member_again_223 End)))
+
+-- `(contents (net (array n 2) (joined)) (net n_1_ (joined)))`, at byte 176
+abbrev pub member_again_176 : Placed
+member_again_176 = Form' 176 (More (Word' 177 (codes "contents")) (More member_again_186 (More member_again_213 End)))
+
+-- the `view` `v`, with its `viewType`, `interface`, `contents`, at byte 137
+abbrev pub member_again_137 : Placed
+member_again_137 = Form' 137 (More (Word' 138 (codes "view")) (More (Word' 143 (codes "v")) (More two_views_145 (More two_views_164 (More member_again_176 End)))))
+
+-- the `cell` `c`, with its `cellType`, `view`, at byte 110
+abbrev pub member_again_110 : Placed
+member_again_110 = Form' 110 (More (Word' 111 (codes "cell")) (More (Word' 116 (codes "c")) (More other_view_type_118 (More member_again_137 End))))
+
+-- the `library` `w`, with its `edifLevel`, `technology`, `cell`, at byte 72
+abbrev pub member_again_72 : Placed
+member_again_72 = Form' 72 (More (Word' 73 (codes "library")) (More (Word' 81 (codes "w")) (More two_libraries_83 (More two_libraries_97 (More member_again_110 End)))))
+
+-- the file `(edif e (edifVersion 2 0 0) (edifLevel 0) (keywordMap (keywordLevel 0)) (library w (edifLevel 0) (technology) (cell c (cellType GENERIC) (view v (viewType NETLIST) (interface) (contents (net (array n 2) (joined)) (net n_1_ (joined)))))))`
+abbrev pub member_again : Placed
+member_again = Form' 0 (More (Word' 1 (codes "edif")) (More (Word' 6 (codes "e")) (More bad_level_8 (More bad_version_28 (More bad_version_42 (More member_again_72 End))))))
+
 -- `(port Ab)`, at byte 175
 abbrev pub two_alike_175 : Placed
 two_alike_175 = Form' 175 (More (Word' 176 (codes "port")) (More (Word' 181 (codes "Ab")) End))

@@ -1,6 +1,6 @@
 -- What may be wrong with a form by itself: breaches of its row, names that repeat, limits. Places are the numbers beside the nodes.
-use Rattle.std.specs.Prelude.{◌≡◌, ℕ, ◌+◌, ◌<◌, ◌≤◌, ◌⊎◌, pos, List, [], ◌∷◌, length, filter, drop, Bool, true, false, ◌&&◌, ◌||◌, nat_le, Option, Some, None, IsTrue, slice_get, if◌then◌else◌}
-use Rattle.std.specs.List.{list_any}
+use Rattle.std.specs.Prelude.{◌≡◌, ℕ, ◌+◌, ◌<◌, ◌≤◌, ◌⊎◌, pos, List, [], ◌∷◌, length, filter, drop, replicate, Bool, true, false, ◌&&◌, ◌||◌, nat_le, Option, Some, None, IsTrue, slice_get, if◌then◌else◌}
+use Rattle.std.specs.List.{list_any, flat_map}
 use Rattle.netlist_schema.specs.declared.limits.TheConstants.{MOST_WIDTH}
 use Rattle.spelling_spec.specs.Tree.{Bare, Placed, Trees, Form', Word', Integer', String', End, More, bare, items}
 use Rattle.edif_spec.specs.Keyword.{spelling_of, same, row, Row, Takes, Skips, Choice, Follower, Many, One}
@@ -157,7 +157,7 @@ abbrev pub width_with : Bool → Option Placed → ℕ
 width_with true (Some (Integer' p (pos size))) = counted size
 width_with _ _ = 1
 
--- the bits that the name of a port gives it as it is written
+-- the bits that the name of a port, or the nets that the name of a net, gives it as it is written
 abbrev pub width_of : Placed → ℕ
 width_of t = width_with (has_keyword keywords.Array (bare t)) (slice_get (arguments t) 1)
 
@@ -166,9 +166,17 @@ abbrev pub first_width : Option Placed → ℕ
 first_width None = 1
 first_width (Some u) = width_of u
 
--- the bits of a port as it is written
+-- the bits of a port, or the nets of the row of a net, as it is written
 abbrev pub declared_width : Placed → ℕ
 declared_width t = first_width (slice_get (arguments t) 0)
+
+-- the forms, each as often as it counts
+abbrev pub repeated : (Placed → ℕ) → List Placed → List Placed
+repeated count ts = flat_map (λ t. replicate (count t) t) ts
+
+-- two equal names of a list of names with places, at the later one
+abbrev pub SameOfTwo : MeaningFault → List ℕ × ℕ → List ℕ × ℕ → Type 0
+SameOfTwo f a b = (a.0 ≡ b.0) × (f ≡ Clash Duplicate b.1 a.1)
 
 -- with so many bits before, the bits of these ports pass the limit, at the first port that passes it
 abbrev pub BeyondBits : ℕ → ℕ → List Placed → MeaningFault → Type 0

@@ -94,6 +94,10 @@ pub data Row : Type 0 where
 abbrev pub name_definition : List Choice
 name_definition = AnIdentifier ∷ AForm Rename ∷ []
 
+-- the name of a port or of a net: a name, or that of an array
+abbrev pub bus_name : List Choice
+bus_name = AnIdentifier ∷ AForm Rename ∷ AForm Array ∷ []
+
 -- a form with this keyword and nothing else
 abbrev pub the : Keyword → List Choice
 the k = AForm k ∷ []
@@ -125,14 +129,14 @@ row CellType = Takes (identifier ∷ []) []
 row View = Takes (name_definition ∷ the ViewType ∷ the Interface ∷ []) (Many Status ∷ One Contents ∷ Many Property ∷ Many Comment ∷ Many UserData ∷ [])
 row ViewType = Takes (identifier ∷ []) []
 row Interface = Takes [] (Many Port ∷ Many Property ∷ Many Comment ∷ Many UserData ∷ [])
-row Port = Takes ((AnIdentifier ∷ AForm Rename ∷ AForm Array ∷ []) ∷ []) (One Direction ∷ One Designator ∷ Many Property ∷ Many Comment ∷ Many UserData ∷ [])
+row Port = Takes (bus_name ∷ []) (One Direction ∷ One Designator ∷ Many Property ∷ Many Comment ∷ Many UserData ∷ [])
 row Array = Takes (name_definition ∷ integer ∷ []) []
 row Direction = Takes (identifier ∷ []) []
 row Designator = Takes (string ∷ []) []
 row Owner = Takes (string ∷ []) []
 row Contents = Takes [] (Many Instance ∷ Many Net ∷ Many Comment ∷ Many UserData ∷ [])
 row Instance = Takes (name_definition ∷ the ViewRef ∷ []) (One Designator ∷ Many Property ∷ Many Comment ∷ Many UserData ∷ [])
-row Net = Takes (name_definition ∷ the Joined ∷ []) (Many Property ∷ Many Comment ∷ Many UserData ∷ [])
+row Net = Takes (bus_name ∷ the Joined ∷ []) (Many Property ∷ Many Comment ∷ Many UserData ∷ [])
 row Joined = Takes [] (Many PortRef ∷ [])
 row PortRef = Takes ((AnIdentifier ∷ AForm Member ∷ []) ∷ []) (One InstanceRef ∷ [])
 row Member = Takes (identifier ∷ integer ∷ []) []

@@ -6,6 +6,7 @@ pub mod Examples
 pub mod Faults
 pub mod Keyword
 pub mod Means
+pub mod Nets
 pub mod PropertyText
 pub mod Rows
 pub mod Stands

@@ -1,5 +1,6 @@
 -- What a tree means as a design: a definition for each row of the table of forms.
 use Rattle.std.specs.Prelude.{◌≡◌, ℕ, suc, ◌<◌, pos, FitsSigned, List, [], ◌∷◌, ◌++◌, take, length, filter, count_by, Bool, true, false, ◌||◌, ◌&&◌, Option, Some, None, IsTrue, option_map, unwrap_or, slice_get, ◌⊎◌, codes, nat_eq, if◌then◌else◌}
+use Rattle.std.specs.List.{AllByRecursion, flat_map}
 use Rattle.spelling_spec.specs.Tree.{Bare, Form', Word', More, form, word, integer, string}
 use Rattle.edif_spec.specs.Keyword.{spelling_of, same}
 use Rattle.edif_spec.specs.Rows.{has_keyword, those, IsFormOf, Each, EachAfter, Perhaps, Just}
@@ -10,6 +11,7 @@ use Rattle.netlist_schema.specs.Width.{IsWidth}
 use Rattle.std.specs.Int.{w32}
 use Rattle.edif_spec.specs.Design as design
 use Rattle.edif_spec.specs.Canonical.{direction_word, kind_word, library_keyword, ports_of_end}
+use Rattle.edif_spec.specs.Nets.{NetForm, Stretch, nets_of, row_size}
 use Rattle.netlist_schema.specs.declared.property.Num.TheVariants as numbers
 use Rattle.netlist_schema.specs.declared.property.Value.TheVariants as values
 
@@ -89,17 +91,17 @@ MeansProperties inner ps = Each MeansProperty (those keywords.Property inner) ps
 abbrev pub MeansDirection : Bare → design.Direction → Type 0
 MeansDirection t d = (w : List ℕ) × IsFormOf keywords.Direction t (word w ∷ []) [] × IsTrue (same w (direction_word d))
 
--- the name of a scalar port, or that of an array with its width
-abbrev pub MeansPortName : Bare → design.Name → Option ℕ → Type 0
-MeansPortName t name None = MeansName t name
-MeansPortName t name (Some n) = (u : Bare) × IsFormOf keywords.Array t (u ∷ integer (pos n) ∷ []) [] × MeansName u name × IsWidth n
+-- the name of a port or of a net, or that of an array with its width
+abbrev pub MeansBusName : Bare → design.Name → Option ℕ → Type 0
+MeansBusName t name None = MeansName t name
+MeansBusName t name (Some n) = (u : Bare) × IsFormOf keywords.Array t (u ∷ integer (pos n) ∷ []) [] × MeansName u name × IsWidth n
 
 -- a port is its name, perhaps a direction and a designator, and its properties
 pub record MeansPort (t : Bare) (p : design.Port) : Type 0 where
   pub name_part : Bare
   pub inner : List Bare
   pub form : IsFormOf keywords.Port t (name_part ∷ []) inner
-  pub name : MeansPortName name_part p.name p.array
+  pub name : MeansBusName name_part p.name p.array
   pub direction : Perhaps MeansDirection (those keywords.Direction inner) p.direction
   pub designator : Perhaps (MeansText keywords.Designator) (those keywords.Designator inner) p.designator
   pub properties : MeansProperties inner p.properties
@@ -152,38 +154,41 @@ MeansInstRef insts t i = (w : List ℕ) × IsFormOf keywords.InstanceRef t (word
 abbrev pub width_at : List design.Port → ℕ → ℕ
 width_at ports i = unwrap_or (option_map design.port_width (slice_get ports i)) 0
 
--- a scalar port by its name, or a member of a port
-abbrev pub MeansBit : List design.Port → Bare → ℕ → ℕ → Type 0
-MeansBit ports t port bit =
-    ((w : List ℕ) × (t ≡ word w) × (meant (design.port_ids ports) w ≡ Found port) × (width_at ports port ≡ 1) × (bit ≡ 0))
-    ⊎ ((w : List ℕ) × IsFormOf keywords.Member t (word w ∷ integer (pos bit) ∷ []) [] × (meant (design.port_ids ports) w ≡ Found port) × (bit < width_at ports port))
+-- a port by its name means all its bits, and a member of a port the bit of its number
+abbrev pub MeansBits : List design.Port → Bare → ℕ → ℕ → ℕ → Type 0
+MeansBits ports t port first width =
+    ((w : List ℕ) × (t ≡ word w) × (meant (design.port_ids ports) w ≡ Found port) × (first ≡ 0) × (width ≡ width_at ports port))
+    ⊎ ((w : List ℕ) × IsFormOf keywords.Member t (word w ∷ integer (pos first) ∷ []) [] × (meant (design.port_ids ports) w ≡ Found port) × (first < width_at ports port) × (width ≡ 1))
 
--- an end is a bit of the cell's own port, or of a port of an instance
-pub record MeansEnd (libs : List design.Lib) (ports : List design.Port) (insts : List design.Inst) (t : Bare) (e : design.End) : Type 0 where
-  pub bit_part : Bare
+-- an end is a stretch of bits of the cell's own port, or of a port of an instance
+pub record MeansEnd (libs : List design.Lib) (ports : List design.Port) (insts : List design.Inst) (t : Bare) (s : Stretch) : Type 0 where
+  pub bits_part : Bare
   pub inner : List Bare
-  pub form : IsFormOf keywords.PortRef t (bit_part ∷ []) inner
-  pub inst : Perhaps (MeansInstRef insts) (those keywords.InstanceRef inner) e.inst
-  pub bit : MeansBit (ports_of_end libs ports insts e.inst) bit_part e.port e.bit
+  pub form : IsFormOf keywords.PortRef t (bits_part ∷ []) inner
+  pub inst : Perhaps (MeansInstRef insts) (those keywords.InstanceRef inner) s.inst
+  pub bits : MeansBits (ports_of_end libs ports insts s.inst) bits_part s.port s.first s.width
 
--- a net is its name, the ends that it joins, and its properties
-pub record MeansNet (libs : List design.Lib) (ports : List design.Port) (insts : List design.Inst) (t : Bare) (n : design.Net) : Type 0 where
+-- a net is its name, or that of an array, the ends that it joins, each as wide as its row, and its properties
+pub record MeansNet (libs : List design.Lib) (ports : List design.Port) (insts : List design.Inst) (t : Bare) (n : NetForm) : Type 0 where
   pub name_part : Bare
   pub joined_part : Bare
   pub refs : List Bare
   pub inner : List Bare
   pub form : IsFormOf keywords.Net t (name_part ∷ joined_part ∷ []) inner
   pub joined : IsFormOf keywords.Joined joined_part [] refs
-  pub name : MeansName name_part n.name
-  pub ends : Each (MeansEnd libs ports insts) refs n.ends
+  pub name : MeansBusName name_part n.name n.array
+  pub ends : Each (MeansEnd libs ports insts) refs n.joined
+  pub wide : AllByRecursion (λ s. s.width ≡ row_size n.array) n.joined
   pub properties : MeansProperties inner n.properties
 
--- contents are instances and nets, in any order among each other
+-- contents are instances and nets, in any order among each other; each form of a net means the nets of its row
 pub record MeansContents (libs : List design.Lib) (own : Option ℕ) (ports : List design.Port) (t : Bare) (c : design.Contents) : Type 0 where
   pub inner : List Bare
   pub form : IsFormOf keywords.Contents t [] inner
   pub insts : Each (MeansInst libs own) (those keywords.Instance inner) c.insts
-  pub nets : Each (MeansNet libs ports c.insts) (those keywords.Net inner) c.nets
+  pub rows : List NetForm
+  pub written : Each (MeansNet libs ports c.insts) (those keywords.Net inner) rows
+  pub nets : c.nets ≡ flat_map nets_of rows
 
 -- the view is a netlist
 abbrev pub IsNetlist : Bare → Type 0

@@ -1,6 +1,6 @@
 -- Which faults stand in a tree: a definition for each row of the table of forms, beside what the row means. A reference is judged
 -- by what the forms before it mean.
-use Rattle.std.specs.Prelude.{◌≡◌, ◌≢◌, ℕ, ◌<◌, ◌⊎◌, pos, ℤ, FitsSigned, List, [], ◌∷◌, ◌++◌, map, length, filter, drop, Bool, false, ◌||◌, Option, Some, None, IsTrue, slice_get, codes, if◌then◌else◌}
+use Rattle.std.specs.Prelude.{◌≡◌, ◌≢◌, ℕ, ◌<◌, ◌⊎◌, pos, ℤ, FitsSigned, List, [], ◌∷◌, ◌++◌, map, length, filter, drop, Bool, true, false, ◌||◌, Option, Some, None, IsTrue, slice_get, codes, if◌then◌else◌}
 use Rattle.std.specs.Int.{w32}
 use Rattle.std.specs.List.{flat_map}
 use Rattle.spelling_spec.specs.Tree.{Bare, Placed, Word', Integer', bare, word}
@@ -9,13 +9,15 @@ use Rattle.netlist_schema.specs.declared.limits.TheConstants.{MOST_LIBS, MOST_CE
 use Rattle.edif_spec.specs.Keyword.{same, identifier, the, Choice, Row, Takes}
 use Rattle.edif_spec.specs.Rows.{has_keyword, Each, EachAfter, Perhaps}
 use Rattle.edif_spec.specs.Canonical.{ports_of_end}
-use Rattle.edif_spec.specs.Means.{meant, Found, Absent, Several, width_at, is_library, is_note, MeansName, MeansPort, MeansLibraryRef, MeansCellRef, MeansInst, MeansInstRef, MeansEnd, MeansCell, MeansLibrary, MeansPath}
-use Rattle.edif_spec.specs.Faults.{AtTwo, place_of, arguments, followers, parts, Among, InPart, InForm, misplaced, FixedFault, FollowerFault, RowFault, defined, Repeats, Beyond, BeyondBits}
+use Rattle.edif_spec.specs.Means.{meant, Found, Absent, Several, width_at, is_library, is_note, MeansName, MeansPort, MeansLibraryRef, MeansCellRef, MeansBusName, MeansInst, MeansInstRef, MeansEnd, MeansCell, MeansLibrary, MeansPath}
+use Rattle.edif_spec.specs.Faults.{AtTwo, place_of, arguments, followers, parts, Among, InPart, InForm, misplaced, FixedFault, FollowerFault, RowFault, declared_width, defined, repeated, Repeats, SameOfTwo, Beyond, BeyondBits}
 use Rattle.edif_spec.specs.Design as design
+use Rattle.edif_spec.specs.Nets.{Stretch, end_of, row_size}
+use Rattle.bus_spec.specs.Members.{member_id, numbered}
 use Rattle.edif_spec.specs.declared.keyword.Keyword.{Keyword}
 use Rattle.edif_spec.specs.declared.keyword.Keyword.TheVariants as keywords
 use Rattle.edif_spec.specs.declared.fault.Kind.{Kind}
-use Rattle.edif_spec.specs.declared.fault.Kind.TheVariants.{BadForm, BadVersion, BadLevel, NotNetlist, Unresolved, Ambiguous, BadIndex, WholeArray, BadPath}
+use Rattle.edif_spec.specs.declared.fault.Kind.TheVariants.{BadForm, BadVersion, BadLevel, NotNetlist, Unresolved, Ambiguous, BadIndex, WholeArray, BadWidth, BadPath}
 use Rattle.edif_spec.specs.declared.fault.ClashKind.TheVariants.{Duplicate, EndTwice}
 use Rattle.edif_spec.specs.declared.fault.MeaningFault.{MeaningFault}
 use Rattle.edif_spec.specs.declared.fault.MeaningFault.TheVariants.{At, Clash}
@@ -85,17 +87,17 @@ pub data DirectionFault (t : Placed) (f : MeaningFault) : Type 0 where
 abbrev pub SizeFault : Placed → MeaningFault → Type 0
 SizeFault u f = (z : ℤ) × (p : ℕ) × (u ≡ Integer' p z) × ((n : ℕ) → z ≡ pos n → IsWidth n → ⊥) × (f ≡ At BadIndex p)
 
--- in the name of a port, or in its array
-pub data PortNameFault (t : Placed) (f : MeaningFault) : Type 0 where
-  scalar_name : NameFault t f → PortNameFault t f
-  array_row : IsTrue (has_keyword keywords.Array (bare t)) → RowFault keywords.Array t f → PortNameFault t f
-  array_name : IsTrue (has_keyword keywords.Array (bare t)) → InPart 0 NameFault t f → PortNameFault t f
-  array_size : IsTrue (has_keyword keywords.Array (bare t)) → InPart 1 SizeFault t f → PortNameFault t f
+-- in the name of a port or of a net, or in its array
+pub data BusNameFault (t : Placed) (f : MeaningFault) : Type 0 where
+  scalar_name : NameFault t f → BusNameFault t f
+  array_row : IsTrue (has_keyword keywords.Array (bare t)) → RowFault keywords.Array t f → BusNameFault t f
+  array_name : IsTrue (has_keyword keywords.Array (bare t)) → InPart 0 NameFault t f → BusNameFault t f
+  array_size : IsTrue (has_keyword keywords.Array (bare t)) → InPart 1 SizeFault t f → BusNameFault t f
 
 -- in a port: its row, its name, its direction, its designator, its properties
 pub data PortFault (t : Placed) (f : MeaningFault) : Type 0 where
   port_row : RowFault keywords.Port t f → PortFault t f
-  port_name : InPart 0 PortNameFault t f → PortFault t f
+  port_name : InPart 0 BusNameFault t f → PortFault t f
   port_direction : Among DirectionFault (parts keywords.Port keywords.Direction t) f → PortFault t f
   port_designator : Among (RowFault keywords.Designator) (parts keywords.Port keywords.Designator t) f → PortFault t f
   port_properties : PropertiesFault (parts keywords.Port keywords.Property t) f → PortFault t f
@@ -145,16 +147,6 @@ pub data InstRefFault (insts : List design.Inst) (t : Placed) (f : MeaningFault)
   inst_ref_row : RowFault keywords.InstanceRef t f → InstRefFault insts t f
   inst_ref_name : InPart 0 (Dangles (design.inst_ids insts)) t f → InstRefFault insts t f
 
--- a port of several bits, or of none, where one bit is wanted
-pub record WholeFault (ports : List design.Port) (t : Placed) (f : MeaningFault) : Type 0 where
-  pub spelled : List ℕ
-  pub place : ℕ
-  pub port : ℕ
-  pub is : t ≡ Word' place spelled
-  pub means : meant (design.port_ids ports) spelled ≡ Found port
-  pub wide : width_at ports port ≢ 1
-  pub fault : f ≡ At WholeArray place
-
 -- an index that the port does not have: below 0, or not below its width
 pub record IndexFault (ports : List design.Port) (t : Placed) (f : MeaningFault) : Type 0 where
   pub spelled : List ℕ
@@ -168,15 +160,14 @@ pub record IndexFault (ports : List design.Port) (t : Placed) (f : MeaningFault)
   pub beyond : (n : ℕ) → index ≡ pos n → n < width_at ports port → ⊥
   pub fault : f ≡ At BadIndex place
 
--- in what names a bit among these ports: a port, or a member of one
+-- in what names bits among these ports: a port, or a member of one
 pub data BitFault (ports : List design.Port) (t : Placed) (f : MeaningFault) : Type 0 where
   bit_port : Dangles (design.port_ids ports) t f → BitFault ports t f
-  bit_whole : WholeFault ports t f → BitFault ports t f
   member_row : IsTrue (has_keyword keywords.Member (bare t)) → RowFault keywords.Member t f → BitFault ports t f
   member_port : IsTrue (has_keyword keywords.Member (bare t)) → InPart 0 (Dangles (design.port_ids ports)) t f → BitFault ports t f
   member_index : IsTrue (has_keyword keywords.Member (bare t)) → IndexFault ports t f → BitFault ports t f
 
--- in an end: its row, its instance, and its bit among the ports of the cell or of the instance that is meant
+-- in an end: its row, its instance, and its bits among the ports of the cell or of the instance that is meant
 pub data EndFault (libs : List design.Lib) (ports : List design.Port) (insts : List design.Inst) (t : Placed) (f : MeaningFault) : Type 0 where
   end_row : RowFault keywords.PortRef t f → EndFault libs ports insts t f
   end_inst : Among (InstRefFault insts) (parts keywords.PortRef keywords.InstanceRef t) f → EndFault libs ports insts t f
@@ -187,11 +178,44 @@ pub data JoinedFault (libs : List design.Lib) (ports : List design.Port) (insts 
   joined_row : RowFault keywords.Joined t f → JoinedFault libs ports insts t f
   joined_end : Among (EndFault libs ports insts) (parts keywords.Joined keywords.PortRef t) f → JoinedFault libs ports insts t f
 
--- in a net: its row, its name, what it joins, its properties
+-- the ends of what a net joins, none where it is no form of that keyword
+abbrev pub ends_joined : Option Placed → List Placed
+ends_joined None = []
+ends_joined (Some u) = if has_keyword keywords.Joined (bare u) then parts keywords.Joined keywords.PortRef u else []
+
+-- the ends of a net
+abbrev pub ends_in : Placed → List Placed
+ends_in t = ends_joined (slice_get (arguments t) 1)
+
+-- what an end of another width than its net is: a whole array where one bit is wanted, or a bad width in a net with an array
+abbrev pub width_kind : Option ℕ → Kind
+width_kind None = WholeArray
+width_kind (Some n) = BadWidth
+
+-- An end of another width than the net, at what names its bits: the identifier of a port, or the `(` of a member.
+pub record WidthFault (libs : List design.Lib) (ports : List design.Port) (insts : List design.Inst) (array : Option ℕ) (t : Placed) (f : MeaningFault) : Type 0 where
+  pub bits : Placed
+  pub there : slice_get (arguments t) 0 ≡ Some bits
+  pub stretch : Stretch
+  pub means : MeansEnd libs ports insts (bare t) stretch
+  pub other : stretch.width ≢ row_size array
+  pub fault : f ≡ At (width_kind array) (place_of bits)
+
+-- in a net whose name is meant, an end of another width
+pub record NetWidthFault (libs : List design.Lib) (ports : List design.Port) (insts : List design.Inst) (t : Placed) (f : MeaningFault) : Type 0 where
+  pub name_part : Placed
+  pub name : design.Name
+  pub array : Option ℕ
+  pub there : slice_get (arguments t) 0 ≡ Some name_part
+  pub means : MeansBusName (bare name_part) name array
+  pub fault : Among (WidthFault libs ports insts array) (ends_in t) f
+
+-- in a net: its row, its name, what it joins, the width of an end, its properties
 pub data NetFault (libs : List design.Lib) (ports : List design.Port) (insts : List design.Inst) (t : Placed) (f : MeaningFault) : Type 0 where
   net_row : RowFault keywords.Net t f → NetFault libs ports insts t f
-  net_name : InPart 0 NameFault t f → NetFault libs ports insts t f
+  net_name : InPart 0 BusNameFault t f → NetFault libs ports insts t f
   net_joined : InForm 1 keywords.Joined (JoinedFault libs ports insts) t f → NetFault libs ports insts t f
+  net_width : NetWidthFault libs ports insts t f → NetFault libs ports insts t f
   net_properties : PropertiesFault (parts keywords.Net keywords.Property t) f → NetFault libs ports insts t f
 
 -- in a member, the shape alone
@@ -212,18 +236,9 @@ pub data JoinedShapeFault (t : Placed) (f : MeaningFault) : Type 0 where
 -- in a net, whatever its ends mean: its row, its name, the shape of what it joins, its properties
 pub data NetShapeFault (t : Placed) (f : MeaningFault) : Type 0 where
   net_shape_row : RowFault keywords.Net t f → NetShapeFault t f
-  net_shape_name : InPart 0 NameFault t f → NetShapeFault t f
+  net_shape_name : InPart 0 BusNameFault t f → NetShapeFault t f
   net_shape_joined : InForm 1 keywords.Joined JoinedShapeFault t f → NetShapeFault t f
   net_shape_properties : PropertiesFault (parts keywords.Net keywords.Property t) f → NetShapeFault t f
-
--- the ends of what a net joins, none where it is no form of that keyword
-abbrev pub ends_joined : Option Placed → List Placed
-ends_joined None = []
-ends_joined (Some u) = if has_keyword keywords.Joined (bare u) then parts keywords.Joined keywords.PortRef u else []
-
--- the ends of a net
-abbrev pub ends_in : Placed → List Placed
-ends_in t = ends_joined (slice_get (arguments t) 1)
 
 -- the instances of contents
 abbrev pub insts_in : Placed → List Placed
@@ -233,27 +248,60 @@ insts_in t = parts keywords.Contents keywords.Instance t
 abbrev pub nets_in : Placed → List Placed
 nets_in t = parts keywords.Contents keywords.Net t
 
--- two ends that mean the same bit, at both
-abbrev pub SameEnd : List design.Lib → List design.Port → List design.Inst → MeaningFault → Placed → Placed → Type 0
-SameEnd libs ports insts f a b = (e : design.End) × MeansEnd libs ports insts (bare a) e × MeansEnd libs ports insts (bare b) e × (f ≡ Clash EndTwice (place_of b) (place_of a))
+-- whether the name of a net is that of an array
+abbrev pub is_arrayed : Option Placed → Bool
+is_arrayed None = false
+is_arrayed (Some u) = has_keyword keywords.Array (bare u)
+
+-- the name of a member of an array, at the array's identifier
+abbrev pub member_at : List ℕ × ℕ → ℕ → List ℕ × ℕ
+member_at name k = (member_id name.0 k, name.1)
+
+-- the names of so many nets: those of the members of an array, or one by itself
+abbrev pub names_from : Bool → ℕ → Option (List ℕ × ℕ) → List (List ℕ × ℕ)
+names_from array size None = []
+names_from false size (Some name) = name ∷ []
+names_from true size (Some name) = numbered (member_at name) 0 size
+
+-- the names that a form of a net defines, and their places
+abbrev pub net_names_in : Placed → List (List ℕ × ℕ)
+net_names_in t = names_from (is_arrayed (slice_get (arguments t) 0)) (declared_width t) (defined t)
+
+-- the ends of the row of a net, net by net: each form with the number of its net and how many nets are in the row
+abbrev pub row_ends : Placed → List (Placed × ℕ × ℕ)
+row_ends t = flat_map (λ k. map (λ u. (u, k, declared_width t)) (ends_in t)) (numbered (λ k. k) 0 (declared_width t))
+
+-- in a row of this size, an end that is as wide means this bit in the net of this number
+abbrev pub MeansRowEnd : List design.Lib → List design.Port → List design.Inst → Placed × ℕ × ℕ → design.End → Type 0
+MeansRowEnd libs ports insts u e = (s : Stretch) × MeansEnd libs ports insts (bare u.0) s × (s.width ≡ u.2) × (e ≡ end_of u.1 s)
+
+-- Two ends that mean the same bit, at both. In the row of an array of several nets each end is a whole port, so that two of them
+-- mean one bit in one net alone.
+abbrev pub SameEnd : List design.Lib → List design.Port → List design.Inst → MeaningFault → Placed × ℕ × ℕ → Placed × ℕ × ℕ → Type 0
+SameEnd libs ports insts f a b = (e : design.End) × MeansRowEnd libs ports insts a e × MeansRowEnd libs ports insts b e × (f ≡ Clash EndTwice (place_of b.0) (place_of a.0))
+
+-- the ends of a net, each as often as there are nets in the row
+abbrev pub counted_ends : Placed → List Placed
+counted_ends t = repeated (λ u. declared_width t) (ends_in t)
 
 -- where the instances are meant: in a net, or an end that is joined twice
 pub data NetsFault (libs : List design.Lib) (own : Option ℕ) (ports : List design.Port) (t : Placed) (f : MeaningFault) : Type 0 where
   one_net : (insts : List design.Inst) → Each (MeansInst libs own) (map bare (insts_in t)) insts → Among (NetFault libs ports insts) (nets_in t) f → NetsFault libs own ports t f
-  end_again : (insts : List design.Inst) → Each (MeansInst libs own) (map bare (insts_in t)) insts → AtTwo (SameEnd libs ports insts f) (flat_map ends_in (nets_in t)) → NetsFault libs own ports t f
+  end_again : (insts : List design.Inst) → Each (MeansInst libs own) (map bare (insts_in t)) insts → AtTwo (SameEnd libs ports insts f) (flat_map row_ends (nets_in t)) → NetsFault libs own ports t f
 
 -- In contents: its row; its instances; the shape of its nets; its nets and their ends, where the instances are meant; a name of
--- an instance or of a net that repeats; more instances, nets or ends than allowed.
+-- an instance or of a net that repeats; more instances, nets or ends than allowed, where a net and its ends count as often as
+-- there are nets in its row.
 pub data ContentsFault (libs : List design.Lib) (own : Option ℕ) (ports : List design.Port) (t : Placed) (f : MeaningFault) : Type 0 where
   contents_row : RowFault keywords.Contents t f → ContentsFault libs own ports t f
   contents_inst : Among (InstFault libs own) (insts_in t) f → ContentsFault libs own ports t f
   contents_net_shape : Among NetShapeFault (nets_in t) f → ContentsFault libs own ports t f
   contents_nets : NetsFault libs own ports t f → ContentsFault libs own ports t f
   inst_again : Repeats (insts_in t) f → ContentsFault libs own ports t f
-  net_again : Repeats (nets_in t) f → ContentsFault libs own ports t f
+  net_again : AtTwo (SameOfTwo f) (flat_map net_names_in (nets_in t)) → ContentsFault libs own ports t f
   many_insts : Beyond MOST_INSTS (insts_in t) f → ContentsFault libs own ports t f
-  many_nets : Beyond MOST_NETS (nets_in t) f → ContentsFault libs own ports t f
-  many_ends : Beyond MOST_ENDS (flat_map ends_in (nets_in t)) f → ContentsFault libs own ports t f
+  many_nets : Beyond MOST_NETS (repeated declared_width (nets_in t)) f → ContentsFault libs own ports t f
+  many_ends : Beyond MOST_ENDS (flat_map counted_ends (nets_in t)) f → ContentsFault libs own ports t f
 
 -- the word of the one type of view, ignoring case
 abbrev pub is_netlist : List ℕ → Bool

@@ -1,6 +1,7 @@
 -- What a fault says of the tree in which it stands: which node is at its place, and in which form.
 use Rattle.std.specs.Prelude.{◌≡◌, ◌⊎◌, ℕ, List, false, IsTrue, Some, slice_get}
 use Rattle.spelling_spec.specs.Tree.{Placed, Trees, Form', Word', More, bare}
+use Rattle.bus_spec.specs.Members.{member_id}
 use Rattle.edif_spec.specs.Keyword.{row}
 use Rattle.edif_spec.specs.Rows.{has_keyword}
 use Rattle.edif_spec.specs.Faults.{arguments, place_of, row_has}
@@ -41,6 +42,7 @@ IsFaulty kinds.Unresolved t u = IsIn t u × ((name : List ℕ) × (u ≡ Word' (
 IsFaulty kinds.Ambiguous t u = IsIn t u × ((name : List ℕ) × (u ≡ Word' (place_of u) name))
 IsFaulty kinds.BadIndex t u = IsUnder t keywords.Array u ⊎ IsUnder t keywords.Member u
 IsFaulty kinds.WholeArray t u = IsUnder t keywords.PortRef u
+IsFaulty kinds.BadWidth t u = IsUnder t keywords.PortRef u
 IsFaulty kinds.BadPath t u = (IsIn t u × IsTrue (has_keyword keywords.Path (bare u))) ⊎ IsUnder t keywords.Path u
 
 -- two forms of one keyword under one form of the tree
@@ -54,12 +56,16 @@ pub record AreTwo (t : Placed) (k : Keyword) (a b : Placed) : Type 0 where
   pub keyword_a : IsTrue (has_keyword k (bare a))
   pub keyword_b : IsTrue (has_keyword k (bare b))
 
+-- a word gives a name: that which it spells, or that of a member of an array which it names
+abbrev pub Gives : List ℕ → List ℕ → Type 0
+Gives spelled name = (name ≡ spelled) ⊎ ((k : ℕ) × (name ≡ member_id spelled k))
+
 -- The fault tells of what is there.
 abbrev pub Told : Placed → MeaningFault → Type 0
 Told t (NotInProfile name place) = IsOutside t name place
 Told t (At kind place) = (u : Placed) × (place_of u ≡ place) × IsFaulty kind t u
 Told t (Clash clashes.SecondView place earlier) = (a : Placed) × (b : Placed) × (place_of a ≡ earlier) × (place_of b ≡ place) × AreTwo t keywords.View a b
 Told t (Clash clashes.SecondDesign place earlier) = (a : Placed) × (b : Placed) × (place_of a ≡ earlier) × (place_of b ≡ place) × AreTwo t keywords.Design a b
-Told t (Clash clashes.Duplicate place earlier) = (name : List ℕ) × IsIn t (Word' earlier name) × IsIn t (Word' place name)
+Told t (Clash clashes.Duplicate place earlier) = (name : List ℕ) × (first : List ℕ) × (second : List ℕ) × (IsIn t (Word' earlier first) × Gives first name) × (IsIn t (Word' place second) × Gives second name)
 Told t (Clash clashes.EndTwice place earlier) = (a : Placed) × (b : Placed) × (place_of a ≡ earlier) × (place_of b ≡ place) × (IsIn t a × IsTrue (has_keyword keywords.PortRef (bare a))) × (IsIn t b × IsTrue (has_keyword keywords.PortRef (bare b)))
 Told t (OverLimit limit place) = (u : Placed) × (place_of u ≡ place) × IsIn t u

@@ -23,6 +23,8 @@ pub enum Kind {
     BadIndex,
     /// A port of several bits where one bit is wanted, at the identifier.
     WholeArray,
+    /// An end of another width than that of the array of its net, at the identifier of a port or at the `(` of a member.
+    BadWidth,
     /// A path without steps, at its `(`, or a step of a path that means no instance or several, at the step.
     BadPath,
 }
@@ -34,7 +36,8 @@ pub enum ClashKind {
     SecondView,
     /// A second design, at the `(` of both.
     SecondDesign,
-    /// A definition of a name that its scope has already byte for byte, at the identifiers of both.
+    /// A definition of a name that its scope has already byte for byte, at the identifiers of both. The nets of an array are
+    /// defined at the array's identifier.
     Duplicate,
     /// A bit that is joined already in the same contents, at the `(` of both ends.
     EndTwice,

@@ -1,9 +1,9 @@
 //! Small files, and the fault that stands in each.
 ghost use Rattle.std.specs.Prelude.{◌<◌, ℕ, codes};
-ghost use Rattle.edif_spec.specs.Examples.{bad_version, bad_level, two_libraries, other_view_type, two_views, port_bundle, large_exponent, joined_twice, later_cell, whole_array, high_index, two_alike, two_designs, no_view, empty_path, many_libraries, many_bits};
+ghost use Rattle.edif_spec.specs.Examples.{bad_version, bad_level, two_libraries, other_view_type, two_views, port_bundle, large_exponent, joined_twice, later_cell, whole_array, bad_width, high_index, member_again, two_alike, two_designs, no_view, empty_path, many_libraries, many_bits};
 ghost use Rattle.edif_spec.specs.Stands.{Stands};
 ghost use Rattle.edif_spec.specs.declared.fault.ClashKind.TheVariants.{Duplicate, EndTwice, SecondDesign, SecondView};
-ghost use Rattle.edif_spec.specs.declared.fault.Kind.TheVariants.{Ambiguous, BadForm, BadIndex, BadLevel, BadPath, BadVersion, NotNetlist, Unresolved, WholeArray};
+ghost use Rattle.edif_spec.specs.declared.fault.Kind.TheVariants.{Ambiguous, BadForm, BadIndex, BadLevel, BadPath, BadVersion, BadWidth, NotNetlist, Unresolved, WholeArray};
 ghost use Rattle.edif_spec.specs.declared.fault.MeaningFault.TheVariants.{At, Clash, NotInProfile, OverLimit};
 
 /// In each of the small files of `specs/Examples.antt` the fault stands that its writer meant, at the byte that was counted in
@@ -19,6 +19,8 @@ pub fn faults_of_small_files()
     ensures ends { Stands joined_twice (Clash EndTwice 222 210) }
     ensures cell { Stands later_cell (At Unresolved 218) }
     ensures array { Stands whole_array (At WholeArray 266) }
+    ensures width { Stands bad_width (At BadWidth 276) }
+    ensures member { Stands member_again (Clash Duplicate 218 198) }
     ensures index { Stands high_index (At BadIndex 276) }
     ensures alike { Stands two_alike (At Ambiguous 230) }
     ensures designs { Stands two_designs (Clash SecondDesign 110 72) }

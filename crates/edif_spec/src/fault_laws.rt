@@ -8,7 +8,7 @@ ghost use Rattle.edif_spec.specs.Means.{MeansFile};
 ghost use Rattle.edif_spec.specs.Faults.{place_of};
 ghost use Rattle.edif_spec.specs.Rows.{has_keyword};
 ghost use Rattle.edif_spec.specs.Stands.{Stands};
-ghost use Rattle.edif_spec.specs.Told.{AreTwo, IsFaulty, IsIn, IsOutside};
+ghost use Rattle.edif_spec.specs.Told.{AreTwo, Gives, IsFaulty, IsIn, IsOutside};
 ghost use Rattle.edif_spec.specs.declared.fault.ClashKind.TheVariants.{Duplicate, EndTwice, SecondDesign, SecondView};
 ghost use Rattle.edif_spec.specs.declared.fault.Kind.{Kind};
 ghost use Rattle.edif_spec.specs.declared.fault.MeaningFault.TheVariants.{At, Clash, NotInProfile, OverLimit};
@@ -31,14 +31,14 @@ pub fn spelled_tree_is_writable()
 /// A fault that stands names what is there. Outside the profile is a form with the keyword that is named, at the place that is
 /// named, in a form whose row does not have it, or as the tree itself. A fault of one place is a node of the tree: the argument of
 /// a version, a level, a view's type, an array or a member, a port reference or a path for the kinds that are about these, and an
-/// identifier for a reference that means nothing. A clash is two views or two designs of one form, two words of one spelling, or
-/// two port references. What is beyond a limit is a node of the tree.
+/// identifier for a reference that means nothing. A clash is two views or two designs of one form, two words that give one name,
+/// which they spell or which a net of an array has, or two port references. What is beyond a limit is a node of the tree.
 pub fn fault_is_there()
     ensures outside { (t : Placed) (name : List ℕ) (place : ℕ) → Stands t (NotInProfile name place) → IsOutside t name place }
     ensures at { (t : Placed) (kind : Kind) (place : ℕ) → Stands t (At kind place) → (u : Placed) × (place_of u ≡ place) × IsFaulty kind t u }
     ensures views { (t : Placed) (place earlier : ℕ) → Stands t (Clash SecondView place earlier) → (a : Placed) × (b : Placed) × (place_of a ≡ earlier) × (place_of b ≡ place) × AreTwo t View a b }
     ensures designs { (t : Placed) (place earlier : ℕ) → Stands t (Clash SecondDesign place earlier) → (a : Placed) × (b : Placed) × (place_of a ≡ earlier) × (place_of b ≡ place) × AreTwo t DesignWord a b }
-    ensures names { (t : Placed) (place earlier : ℕ) → Stands t (Clash Duplicate place earlier) → (name : List ℕ) × IsIn t (Word' earlier name) × IsIn t (Word' place name) }
+    ensures names { (t : Placed) (place earlier : ℕ) → Stands t (Clash Duplicate place earlier) → (name : List ℕ) × (first : List ℕ) × (second : List ℕ) × (IsIn t (Word' earlier first) × Gives first name) × (IsIn t (Word' place second) × Gives second name) }
     ensures ends { (t : Placed) (place earlier : ℕ) → Stands t (Clash EndTwice place earlier) → (a : Placed) × (b : Placed) × (place_of a ≡ earlier) × (place_of b ≡ place) × (IsIn t a × IsTrue (has_keyword PortRef (bare a))) × (IsIn t b × IsTrue (has_keyword PortRef (bare b))) }
     ensures limits { (t : Placed) (limit place : ℕ) → Stands t (OverLimit limit place) → (u : Placed) × (place_of u ≡ place) × IsIn t u }
 {}

@@ -31,6 +31,12 @@ returns-clause-cell c = FaultExamples.later_cell_stands
 pub returns-clause-array : goal.returns-clause-array
 returns-clause-array c = FaultExamples.whole_array_stands
 
+pub returns-clause-width : goal.returns-clause-width
+returns-clause-width c = FaultExamples.bad_width_stands
+
+pub returns-clause-member : goal.returns-clause-member
+returns-clause-member c = FaultExamples.member_again_stands
+
 pub returns-clause-index : goal.returns-clause-index
 returns-clause-index c = FaultExamples.high_index_stands
 
