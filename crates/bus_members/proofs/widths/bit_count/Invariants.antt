@@ -2,7 +2,7 @@ use Rattle.std.proofs.Common.{◌≡◌, ◌*◌, ◌≤◌, take}
 use Rattle.std.specs.Prelude.{sum_by}
 use Rattle.netlist_schema.specs.Design.{port_width}
 use Rattle.netlist_schema.specs.declared.limits.TheConstants.{MOST_WIDTH}
-use Rattle.bus_members.proofs.bit_count.Given as goal
+use Rattle.bus_members.proofs.widths.bit_count.Given as goal
 
 -- the bits of the ports so far, at most as many for each as a port may have
 abbrev pub invariant-loop-port : goal.invariant-loop-port

@@ -1,0 +1,20 @@
+use Rattle.std.proofs.Common.{◌≡◌, ℕ, Option, Some, drop, length, ap, ◌∙◌, arith}
+use Rattle.std.specs.Prelude.{option_map, unwrap_or}
+use Rattle.std.specs.List.{between}
+use Rattle.std.proofs.lemmas.Slice.{between_to_end}
+use Rattle.netlist_schema.specs.Types.{CellBody}
+use Rattle.bus_members.specs.Widths.{ports_among, width_from}
+use Rattle.bus_spec.specs.Runs.{run_width}
+use Rattle.bus_members.proofs.runs.run_at.Goals as goal
+
+pub returns : goal.returns
+returns g c =
+    let F : Option CellBody → ℕ = λ o. unwrap_or (option_map (λ (body : CellBody). width_from (g.S.Shown.design c.args.design.now) body c.args.net) o) 1 in
+    let own = c.as_slice.ensures in
+    let insts = c.insts_of.ensures in
+    let nets = c.nets_of-nets.ensures in
+    let listed = c.nets_of-nets.result.now in
+    let rest : between c.args.net (length listed) listed ≡ drop c.args.net listed = between_to_end listed c.args.net (length listed) (omega arith) in
+    let same : c.run_from.result ≡ F (Some c.in-Some.body.now) = c.run_from.ensures ∙ (ap (run_width (ports_among (g.S.Shown.design c.args.design.now) c.as_slice.result.now c.insts_of.result.now)) rest
+    ∙ (λ j. run_width (ports_among (g.S.Shown.design c.args.design.now) (own j) (insts j)) (drop c.args.net (nets j)))) in
+    same ∙ ap F c.in-Some.ensures.value
