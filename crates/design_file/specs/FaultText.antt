@@ -37,6 +37,7 @@ kind_word kinds.Unresolved = codes "Unresolved"
 kind_word kinds.Ambiguous = codes "Ambiguous"
 kind_word kinds.BadIndex = codes "BadIndex"
 kind_word kinds.WholeArray = codes "WholeArray"
+kind_word kinds.BadWidth = codes "BadWidth"
 kind_word kinds.BadPath = codes "BadPath"
 
 abbrev pub clash_word : ClashKind → List ℕ

@@ -108,6 +108,7 @@ fn kind_text(kind: Kind) -> &'static [u8]
         Kind::Ambiguous => b"Ambiguous",
         Kind::BadIndex => b"BadIndex",
         Kind::WholeArray => b"WholeArray",
+        Kind::BadWidth => b"BadWidth",
         Kind::BadPath => b"BadPath",
     }
 }

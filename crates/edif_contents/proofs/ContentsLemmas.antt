@@ -53,10 +53,10 @@ pub contents_read : (rows : List Row) (s : Surroundings) (own : Option ℕ) (t :
     → ReadNets s (followers keywords.Contents t) nets → i.contents.insts ≡ r.list.items → i.contents.nets ≡ nets → i.insts ≡ r.names → ReadContents s.libs.now.libs own s.ports.now t i
 contents_read rows s own t p r nets i a x e y d n m =
     let f = fit0 (Some keywords.View) keywords.Contents follows t refl refl refl a.fits in
-    let P : List design.Inst → Type 0 = λ v. Each (MeansNet s.libs.now.libs s.ports.now v) (those keywords.Net (map bare (followers keywords.Contents t))) nets in
+    let P : List design.Inst → Type 0 = λ v. Each (MeansNet s.libs.now.libs s.ports.now v) (those keywords.Net (map bare (followers keywords.Contents t))) y.rows in
     let made : Inside = record { contents = record { insts = r.list.items; nets = nets }; insts = r.names } in
     let whole : ReadContents s.libs.now.libs own s.ports.now t made = record {
-      mean = record { inner = map bare (followers keywords.Contents t); form = f.form; insts = x.mean; nets = subst P e y.mean };
+      mean = record { inner = map bare (followers keywords.Contents t); form = f.form; insts = x.mean; rows = y.rows; written = subst P e y.mean; nets = y.nets };
       typed = record { insts = λ k z l. (x.fine k z l).0; nets = λ k z l. (y.fine k z l).0 };
       insts = x.count;
       nets = y.count;

@@ -1,46 +1,53 @@
 -- The loops over the instances and the nets of contents.
-use Rattle.std.proofs.Common.{◌≡◌, ℕ, suc, ◌<◌, ◌≤◌, List, [], ◌∷◌, ◌++◌, map, take, drop, length, refl, sym, ap, ◌∙◌, subst, inl, inr, true, false, Option, None, arith, append-nil, append_assoc, length-append}
-use Rattle.std.specs.List.{AllZip, flat_map}
+use Rattle.std.proofs.Common.{◌≡◌, ℕ, suc, ◌+◌, ◌<◌, ◌≤◌, List, [], ◌∷◌, ◌++◌, map, take, drop, length, replicate, refl, sym, ap, ◌∙◌, subst, inl, inr, true, false, Option, None, arith, length-append}
+use Rattle.std.specs.Prelude.{◌^◌}
+use Rattle.std.specs.List.{All, AllByRecursion, AllZip, flat_map}
+use Rattle.std.proofs.lemmas.List.Elements.{All-from_recursion, recursion_from_All}
 use Rattle.spelling_spec.specs.Tree.{Bare, Placed, bare}
+use Rattle.netlist_schema.specs.Names.{AreDistinct}
 use Rattle.edif_spec.specs.Design as design
-use Rattle.edif_spec.specs.Faults.{Beyond, those_of, place_of}
-use Rattle.edif_spec.specs.Rows.{has_keyword}
-use Rattle.edif_spec.specs.Stands.{ends_in}
+use Rattle.edif_spec.specs.Faults.{AtTwo, Beyond, SameOfTwo, declared_width, place_of, repeated, those_of}
+use Rattle.edif_spec.specs.Means.{MeansEnd, MeansInst}
+use Rattle.edif_spec.specs.Nets.{NetForm, Stretch, net_at, nets_of, row_size}
+use Rattle.edif_spec.specs.Rows.{Each, has_keyword}
+use Rattle.edif_spec.specs.Stands.{SameEnd, counted_ends, ends_in, net_names_in, row_ends}
 use Rattle.edif_spec.specs.declared.keyword.Keyword.{Keyword}
 use Rattle.edif_spec.specs.declared.keyword.Keyword.TheVariants as keywords
 use Rattle.edif_spec.specs.declared.fault.MeaningFault.{MeaningFault}
 use Rattle.edif_spec.specs.declared.fault.MeaningFault.TheVariants.{OverLimit}
-use Rattle.edif_spec.proofs.CellFaultsApart.{net_ends}
-use Rattle.edif_spec.proofs.FaultForms.{map_length}
+use Rattle.edif_spec.proofs.FaultForms.{filter_bare, map_length}
+use Rattle.edif_spec.proofs.NetFaultsApart.{net_declares, zip_append, zip_flat, zip_length}
+use Rattle.edif_spec.proofs.RowForms as row_forms
+use Rattle.edif_spec.proofs.RowForms.{GivesName, flat_append, length_numbered, net_names_are, nets_counted, rows_fine}
 use Rattle.edif_tree.specs.Nodes.{Row}
 use Rattle.edif_tree.specs.declared.node.NodeId.{NodeId}
 use Rattle.edif_grammar.specs.Forms.{Stand}
+use Rattle.edif_grammar.proofs.StandLemmas.{stand_length}
+use Rattle.edif_parts.specs.Names.{DefinesName, ids}
+use Rattle.edif_parts.proofs.NamedForms.{NamedForms, forms_distinct, forms_each, forms_end, forms_push, forms_skip, forms_start, forms_valid}
+use Rattle.edif_parts.proofs.NameLists.{none_distinct}
+use Rattle.edif_parts.proofs.Steps.{Step, here, kept, skipped, take_all}
 use Rattle.edif_contents.specs.Inners as inners
 use Rattle.edif_contents.specs.Inners.{ReadInsts}
-use Rattle.edif_contents.specs.Joins.{AreJoined, EndsFault, bits}
-use Rattle.edif_parts.specs.Names.{DefinesName}
-use Rattle.edif_contents.specs.Nets.{IsFine, MeansNetIn, NetsFaultIn, ReadNet, ReadNets}
+use Rattle.edif_contents.specs.Joins.{AreJoined, RowEndsFault, bits, bits_of_row, row_of}
+use Rattle.edif_contents.specs.Nets.{IsFine, MeansNetIn, NetsFaultIn, ReadNet, ReadNets, RowAdded, RowNameFault, row_names}
 use Rattle.edif_contents.specs.declared.ends.Surroundings.{Surroundings}
+use Rattle.edif_contents.specs.declared.insts.InstAt.{InstAt}
 use Rattle.edif_contents.specs.declared.insts.Insts.{Insts}
 use Rattle.edif_contents.specs.declared.nets.NetAt.{NetAt}
-use Rattle.edif_spec.specs.Means.{MeansEnd, MeansInst}
-use Rattle.netlist_schema.specs.Names.{AreDistinct}
-use Rattle.edif_contents.specs.declared.insts.InstAt.{InstAt}
-use Rattle.edif_contents.proofs.JoinLemmas.{beyond_here, joined_start, zip_count}
-use Rattle.edif_parts.proofs.NamedForms.{NamedForms, forms_distinct, forms_each, forms_end, forms_push, forms_skip, forms_start, forms_valid}
-use Rattle.edif_grammar.proofs.StandLemmas.{stand_length}
-use Rattle.edif_parts.proofs.Steps.{Step, here, kept, skipped}
+use Rattle.edif_contents.proofs.NetLemmas.{each_bare}
+use Rattle.edif_contents.proofs.NetRows.{all_fit, all_push, beyond_one, beyond_row, flat_here, flat_push, names_read, row_bits, wide_ends}
 
 -- as many forms as values
 forms_count : {A : Type 0} (M : Bare → A → Type 0) (V : A → Type 0) (g : A → List ℕ) (k : Keyword) (ts : List Placed) (xs : List A) (ns : List (List ℕ × ℕ)) → NamedForms M V g k ts xs ns → length (those_of k ts) ≡ length xs
-forms_count M V g k ts xs ns f = sym (map_length bare (those_of k ts)) ∙ zip_count M (map bare (those_of k ts)) xs f.means
+forms_count M V g k ts xs ns f = sym (map_length bare (those_of k ts)) ∙ zip_length M (map bare (those_of k ts)) xs f.means
 
 -- a form beyond the limit
 pub forms_beyond : {A : Type 0} (M : Bare → A → Type 0) (V : A → Type 0) (g : A → List ℕ) (k : Keyword) {rows : List Row} {id : NodeId} (ts : List Placed) (i : ℕ) (s : Step rows ts i id) (xs : List A) (ns : List (List ℕ × ℕ)) (limit place : ℕ)
     → has_keyword k (bare s.tree) ≡ true → NamedForms M V g k (take i ts) xs ns → length xs ≤ limit → limit ≤ length xs → place ≡ place_of s.tree → Beyond limit (those_of k ts) (OverLimit limit place)
 forms_beyond M V g k ts i s xs ns limit place h f a b p =
     let P : List Placed → Type 0 = λ v. Beyond limit v (OverLimit limit place) in
-    subst P (sym (here k ts i s h)) (beyond_here limit (length xs) place (those_of k (take i ts)) (those_of k (drop (suc i) ts)) s.tree (forms_count M V g k (take i ts) xs ns f) a b p)
+    subst P (sym (here k ts i s h)) (beyond_one limit (length xs) place (those_of k (take i ts)) (those_of k (drop (suc i) ts)) s.tree (forms_count M V g k (take i ts) xs ns f) a b p)
 
 -- Instances.
 abbrev pub inst_name : design.Inst → List ℕ
@@ -79,15 +86,6 @@ insts_end libs own rows nodes ts i r st e f =
       names = g.named;
     }
 
--- Lists of ends, net by net.
-flat_push : {A B : Type 0} (f : A → List B) (xs : List A) (x : A) → flat_map f (xs ++ x ∷ []) ≡ flat_map f xs ++ f x
-flat_push f [] x = append-nil (f x)
-flat_push f (y ∷ xs) x = ap (λ v. f y ++ v) (flat_push f xs x) ∙ sym (append_assoc (f y) (flat_map f xs) (f x))
-
-flat_here : {A B : Type 0} (f : A → List B) (xs ys : List A) (x : A) → flat_map f (xs ++ x ∷ ys) ≡ (flat_map f xs ++ f x) ++ flat_map f ys
-flat_here f [] ys x = refl
-flat_here f (y ∷ xs) ys x = ap (λ v. f y ++ v) (flat_here f xs ys x) ∙ (sym (append_assoc (f y) (flat_map f xs ++ f x) (flat_map f ys)) ∙ ap (λ v. v ++ flat_map f ys) (sym (append_assoc (f y) (flat_map f xs) (f x))))
-
 -- Nets.
 abbrev pub net_name : design.Net → List ℕ
 net_name n = n.name.id
@@ -95,75 +93,195 @@ net_name n = n.name.id
 abbrev pub ends_of : List design.Net → List design.End
 ends_of ns = flat_map (λ (n : design.Net). n.ends) ns
 
-abbrev pub refs_in : List Placed → List Placed
-refs_in ts = flat_map ends_in (those_of keywords.Net ts)
+abbrev pub refs_in : List Placed → List (Placed × ℕ × ℕ)
+refs_in ts = flat_map row_ends (those_of keywords.Net ts)
 
-abbrev pub AreJoinedIn : Surroundings → List Placed → List design.End → List (design.End × ℕ) → Type 0
+abbrev pub counted_in : List Placed → List Placed
+counted_in ts = flat_map counted_ends (those_of keywords.Net ts)
+
+abbrev pub names_in : List Placed → List (List ℕ × ℕ)
+names_in ts = flat_map net_names_in (those_of keywords.Net ts)
+
+abbrev pub AreJoinedIn : Surroundings → List (Placed × ℕ × ℕ) → List design.End → List (design.End × ℕ) → Type 0
 AreJoinedIn s ts es js = AreJoined s.libs.now.libs s.ports.now s.insts.now ts es js
 
-abbrev pub EndsFaultIn : Surroundings → List Placed → MeaningFault → Type 0
-EndsFaultIn s ts f = EndsFault s.libs.now.libs s.ports.now s.insts.now ts f
+abbrev pub RowEndsFaultIn : Surroundings → List (Placed × ℕ × ℕ) → List Placed → MeaningFault → Type 0
+RowEndsFaultIn s ts counted f = RowEndsFault s.libs.now.libs s.ports.now s.insts.now ts counted f
 
+abbrev pub MeansEndsIn : Surroundings → ℕ → List Placed → List Stretch → Type 0
+MeansEndsIn s size us ss = AllZip (λ u x. MeansEnd s.libs.now.libs s.ports.now s.insts.now (bare u) x × (x.width ≡ size)) us ss
+
+abbrev pub AreMeant : Surroundings → List Placed → List NetForm → Type 0
+AreMeant s ts ns = AllZip (λ u n. MeansNetIn s (bare u) n) ts ns
+
+-- The forms of nets among these mean rows, whose nets are these, and join these ends; their names, with their places, differ.
 pub record NetsSoFar (s : Surroundings) (ts : List Placed) (xs : List design.Net) (ns : List (List ℕ × ℕ)) (js : List (design.End × ℕ)) : Type 0 where
-  pub forms : NamedForms (MeansNetIn s) IsFine net_name keywords.Net ts xs ns
+  pub forms : List NetForm
+  pub mean : AreMeant s (those_of keywords.Net ts) forms
+  pub fine : AllByRecursion row_forms.FineForm forms
+  pub nets : xs ≡ flat_map nets_of forms
+  pub names : ns ≡ names_in ts
+  pub distinct : AreDistinct (ids ns)
   pub count : length xs ≤ 1048576
   pub joins : AreJoinedIn s (refs_in ts) (ends_of xs) js
 
 pub nets_start : (s : Surroundings) → NetsSoFar s [] [] [] []
-nets_start s = record { forms = forms_start (MeansNetIn s) IsFine net_name keywords.Net; count = omega arith; joins = joined_start s.libs.now.libs s.ports.now s.insts.now }
+nets_start s = record {
+  forms = [];
+  mean = tt;
+  fine = tt;
+  nets = refl;
+  names = refl;
+  distinct = none_distinct;
+  count = omega arith;
+  joins = record { mean = tt; ends = refl; distinct = none_distinct; count = omega arith };
+}
 
 -- the ends of a net that is read
-pub net_ends_are : (rows : List Row) (s : Surroundings) (t : Placed) (n : NetAt) (es : List design.End) → es ≡ n.net.ends → ReadNet rows s t n → AllZip (λ u e. MeansEnd s.libs.now.libs s.ports.now s.insts.now (bare u) e) (ends_in t) es
-net_ends_are rows s t n es e r =
-    let P : List design.End → Type 0 = λ v. AllZip (λ u e. MeansEnd s.libs.now.libs s.ports.now s.insts.now (bare u) e) (ends_in t) v in
-    subst P (sym e) (net_ends s.libs.now.libs s.ports.now s.insts.now t n.net r.mean)
+pub net_ends_are : (rows : List Row) (s : Surroundings) (t : Placed) (n : NetAt) (ss : List Stretch) (size : ℕ) → ss ≡ n.form.joined → size ≡ row_size n.form.array → ReadNet rows s t n → MeansEndsIn s size (ends_in t) ss
+net_ends_are rows s t n ss size e d r = wide_ends s.libs.now.libs s.ports.now s.insts.now t n.form ss size d e r.mean
 
-pub net_ends_count : (rows : List Row) (s : Surroundings) (t : Placed) (n : NetAt) (es : List design.End) → es ≡ n.net.ends → ReadNet rows s t n → length n.ends.now ≡ length es
-net_ends_count rows s t n es e r =
-    stand_length rows n.ends.now (ends_in t) r.nodes ∙ zip_count (λ u e. MeansEnd s.libs.now.libs s.ports.now s.insts.now (bare u) e) (ends_in t) es (net_ends_are rows s t n es e r)
+pub net_ends_count : (rows : List Row) (s : Surroundings) (t : Placed) (n : NetAt) (ss : List Stretch) (size : ℕ) → ss ≡ n.form.joined → size ≡ row_size n.form.array → ReadNet rows s t n → length n.ends.now ≡ length ss
+net_ends_count rows s t n ss size e d r =
+    stand_length rows n.ends.now (ends_in t) r.nodes
+    ∙ zip_length (λ u x. MeansEnd s.libs.now.libs s.ports.now s.insts.now (bare u) x × (x.width ≡ size)) (ends_in t) ss (net_ends_are rows s t n ss size e d r)
 
-pub nets_push : (s : Surroundings) {rows : List Row} {id : NodeId} (ts : List Placed) (i : ℕ) (step : Step rows ts i id) (xs : List design.Net) (r : NetAt) (es : List design.End) (ns ms : List (List ℕ × ℕ)) (js ks : List (design.End × ℕ))
-    → has_keyword keywords.Net (bare step.tree) ≡ true → ReadNet rows s step.tree r → DefinesName ns r.net.name.id r.place ms None → length xs < 1048576 → es ≡ r.net.ends → AreJoinedIn s (refs_in (take i ts) ++ ends_in step.tree) (ends_of xs ++ es) ks
-    → NetsSoFar s (take i ts) xs ns js → NetsSoFar s (take (suc i) ts) (xs ++ r.net ∷ []) ms ks
-nets_push s ts i step xs r es ns ms js ks h a d l e j f =
-    let refs : refs_in (take (suc i) ts) ≡ refs_in (take i ts) ++ ends_in step.tree = ap (flat_map ends_in) (kept keywords.Net ts i step h) ∙ flat_push ends_in (those_of keywords.Net (take i ts)) step.tree in
-    let ends : ends_of (xs ++ r.net ∷ []) ≡ ends_of xs ++ es = flat_push (λ (n : design.Net). n.ends) xs r.net ∙ ap (λ v. ends_of xs ++ v) (sym e) in
-    let P : List Placed → Type 0 = λ v. AreJoinedIn s v (ends_of xs ++ es) ks in
+pub net_ends_fit : (rows : List Row) (s : Surroundings) (t : Placed) (n : NetAt) (ss : List Stretch) (size : ℕ) → ss ≡ n.form.joined → size ≡ row_size n.form.array → size < 2 ^ 32 → ReadNet rows s t n → All (λ x. x.first + size ≤ 2 ^ 32) ss
+net_ends_fit rows s t n ss size e d l r =
+    let P : List Stretch → Type 0 = λ v. AllByRecursion (λ x. x.first < 2 ^ 32) v in
+    All-from_recursion (λ x. x.first + size ≤ 2 ^ 32) ss
+    (all_fit s.libs.now.libs s.ports.now s.insts.now (ends_in t) ss size (net_ends_are rows s t n ss size e d r) l (subst P (sym e) (recursion_from_All (λ x. x.first < 2 ^ 32) n.form.joined r.within)))
+
+-- a further row, with its ends
+row_refs : (s : Surroundings) (t : Placed) (n : NetForm) (size : ℕ) → MeansNetIn s (bare t) n → size ≡ row_size n.array → row_ends t ≡ row_of size (ends_in t)
+row_refs s t n size h d = ap (λ v. row_of v (ends_in t)) (net_declares s.libs.now.libs s.ports.now s.insts.now t n h ∙ sym d)
+
+row_counts : (s : Surroundings) (t : Placed) (n : NetForm) (size : ℕ) → MeansNetIn s (bare t) n → size ≡ row_size n.array → counted_ends t ≡ repeated (λ u. size) (ends_in t)
+row_counts s t n size h d = ap (λ v. repeated (λ u. v) (ends_in t)) (net_declares s.libs.now.libs s.ports.now s.insts.now t n h ∙ sym d)
+
+row_ends_joined : (n : NetForm) (ss : List Stretch) (size : ℕ) → ss ≡ n.joined → size ≡ row_size n.array → ends_of (nets_of n) ≡ bits_of_row size ss
+row_ends_joined n ss size e d = row_bits n 0 (row_size n.array) ∙ (ap (λ v. bits_of_row v n.joined) (sym d) ∙ ap (bits_of_row size) (sym e))
+
+pub nets_push : (s : Surroundings) {rows : List Row} {id : NodeId} (ts : List Placed) (i : ℕ) (step : Step rows ts i id) (xs ys : List design.Net) (r : NetAt) (ss : List Stretch) (size : ℕ) (ns ms : List (List ℕ × ℕ)) (js ks : List (design.End × ℕ))
+    → has_keyword keywords.Net (bare step.tree) ≡ true → ReadNet rows s step.tree r → ss ≡ r.form.joined → size ≡ row_size r.form.array → length xs + size ≤ 1048576 → RowAdded r.form r.place ns xs ms ys
+    → AreJoinedIn s (refs_in (take i ts) ++ row_of size (ends_in step.tree)) (ends_of xs ++ bits_of_row size ss) ks → NetsSoFar s (take i ts) xs ns js → NetsSoFar s (take (suc i) ts) ys ms ks
+nets_push s ts i step xs ys r ss size ns ms js ks h a e d l b j f =
+    let more : those_of keywords.Net (take (suc i) ts) ≡ those_of keywords.Net (take i ts) ++ step.tree ∷ [] = kept keywords.Net ts i step h in
+    let refs : refs_in (take (suc i) ts) ≡ refs_in (take i ts) ++ row_of size (ends_in step.tree) =
+    ap (flat_map row_ends) more ∙ (flat_push row_ends (those_of keywords.Net (take i ts)) step.tree ∙ ap (λ v. refs_in (take i ts) ++ v) (row_refs s step.tree r.form size a.mean d)) in
+    let ends : ends_of ys ≡ ends_of xs ++ bits_of_row size ss =
+    ap ends_of b.nets ∙ (flat_append (λ (n : design.Net). n.ends) xs (nets_of r.form) ∙ ap (λ v. ends_of xs ++ v) (row_ends_joined r.form ss size e d)) in
+    let names : names_in (take (suc i) ts) ≡ names_in (take i ts) ++ row_names r.form r.place =
+    ap (flat_map net_names_in) more ∙ (flat_push net_names_in (those_of keywords.Net (take i ts)) step.tree
+    ∙ ap (λ v. names_in (take i ts) ++ v) (names_read s.libs.now.libs s.ports.now s.insts.now step.tree r.form r.place a.mean a.named)) in
+    let M : List Placed → Type 0 = λ v. AreMeant s v (f.forms ++ r.form ∷ []) in
+    let P : List (Placed × ℕ × ℕ) → Type 0 = λ v. AreJoinedIn s v (ends_of xs ++ bits_of_row size ss) ks in
     let Q : List design.End → Type 0 = λ v. AreJoinedIn s (refs_in (take (suc i) ts)) v ks in
+    let c : length ys ≡ length xs + length (nets_of r.form) = ap length b.nets ∙ length-append xs (nets_of r.form) in
+    let k : length (nets_of r.form) ≡ row_size r.form.array = length_numbered (net_at r.form) 0 (row_size r.form.array) in
     record {
-      forms = forms_push (MeansNetIn s) IsFine net_name keywords.Net ts i step xs r.net ns ms r.place h a.mean a.fine a.named d f.forms;
-      count = let c = length-append xs (r.net ∷ []) in omega (arith, c, l);
+      forms = f.forms ++ r.form ∷ [];
+      mean = subst M (sym more) (zip_append (λ u n. MeansNetIn s (bare u) n) (those_of keywords.Net (take i ts)) f.forms (step.tree ∷ []) (r.form ∷ []) f.mean (a.mean, tt));
+      fine = all_push row_forms.FineForm f.forms r.form f.fine (record { name = a.fine.name; array = a.fine.array; properties = a.fine.properties; keys = a.fine.keys });
+      nets = b.nets ∙ (ap (λ v. v ++ nets_of r.form) f.nets ∙ sym (flat_push nets_of f.forms r.form));
+      names = b.names ∙ (ap (λ v. v ++ row_names r.form r.place) f.names ∙ sym names);
+      distinct = b.distinct;
+      count = omega (arith, c, k, d, l);
       joins = subst Q (sym ends) (subst P (sym refs) j);
     }
 
 pub nets_skip : (s : Surroundings) {rows : List Row} {id : NodeId} (ts : List Placed) (i : ℕ) (step : Step rows ts i id) (xs : List design.Net) (ns : List (List ℕ × ℕ)) (js : List (design.End × ℕ))
     → has_keyword keywords.Net (bare step.tree) ≡ false → NetsSoFar s (take i ts) xs ns js → NetsSoFar s (take (suc i) ts) xs ns js
 nets_skip s ts i step xs ns js h f =
-    let refs : refs_in (take (suc i) ts) ≡ refs_in (take i ts) = ap (flat_map ends_in) (skipped keywords.Net ts i step h) in
-    let P : List Placed → Type 0 = λ v. AreJoinedIn s v (ends_of xs) js in
-    record { forms = forms_skip (MeansNetIn s) IsFine net_name keywords.Net ts i step xs ns h f.forms; count = f.count; joins = subst P (sym refs) f.joins }
+    let same : those_of keywords.Net (take (suc i) ts) ≡ those_of keywords.Net (take i ts) = skipped keywords.Net ts i step h in
+    let M : List Placed → Type 0 = λ v. AreMeant s v f.forms in
+    let P : List (Placed × ℕ × ℕ) → Type 0 = λ v. AreJoinedIn s v (ends_of xs) js in
+    record {
+      forms = f.forms;
+      mean = subst M (sym same) f.mean;
+      fine = f.fine;
+      nets = f.nets;
+      names = f.names ∙ ap (flat_map net_names_in) (sym same);
+      distinct = f.distinct;
+      count = f.count;
+      joins = subst P (ap (flat_map row_ends) (sym same)) f.joins;
+    }
 
--- what is wrong with the ends of the next net
-pub ends_fail : (s : Surroundings) {rows : List Row} {id : NodeId} (ts : List Placed) (i : ℕ) (step : Step rows ts i id) (f : MeaningFault) → has_keyword keywords.Net (bare step.tree) ≡ true
-    → ((rest : List Placed) → EndsFaultIn s ((refs_in (take i ts) ++ ends_in step.tree) ++ rest) f) → NetsFaultIn s (those_of keywords.Net ts) f
-ends_fail s ts i step f h b =
-    let rest : List Placed = flat_map ends_in (those_of keywords.Net (drop (suc i) ts)) in
-    let e : refs_in ts ≡ (refs_in (take i ts) ++ ends_in step.tree) ++ rest = ap (flat_map ends_in) (here keywords.Net ts i step h) ∙ flat_here ends_in (those_of keywords.Net (take i ts)) (those_of keywords.Net (drop (suc i) ts)) step.tree in
-    let P : List Placed → Type 0 = λ v. EndsFaultIn s v f in
-    elim (subst P (sym e) (b rest)) [ inl t ↦ inr (inl t) | inr o ↦ inr (inr (inr (inr o))) ]
+-- what is wrong with the ends of the next row
+pub ends_fail : (s : Surroundings) {rows : List Row} {id : NodeId} (ts : List Placed) (i : ℕ) (step : Step rows ts i id) (n : NetForm) (size : ℕ) (f : MeaningFault) → has_keyword keywords.Net (bare step.tree) ≡ true → MeansNetIn s (bare step.tree) n → size ≡ row_size n.array
+    → RowEndsFaultIn s (refs_in (take i ts) ++ row_of size (ends_in step.tree)) (counted_in (take i ts) ++ repeated (λ u. size) (ends_in step.tree)) f → NetsFaultIn s (those_of keywords.Net ts) f
+ends_fail s ts i step n size f h m d b =
+    let before : List Placed = those_of keywords.Net (take i ts) in
+    let after : List Placed = those_of keywords.Net (drop (suc i) ts) in
+    let refs : refs_in ts ≡ (refs_in (take i ts) ++ row_of size (ends_in step.tree)) ++ flat_map row_ends after =
+    ap (flat_map row_ends) (here keywords.Net ts i step h) ∙ (flat_here row_ends before after step.tree ∙ ap (λ v. (refs_in (take i ts) ++ v) ++ flat_map row_ends after) (row_refs s step.tree n size m d)) in
+    let counts : counted_in ts ≡ (counted_in (take i ts) ++ repeated (λ u. size) (ends_in step.tree)) ++ flat_map counted_ends after =
+    ap (flat_map counted_ends) (here keywords.Net ts i step h) ∙ (flat_here counted_ends before after step.tree ∙ ap (λ v. (counted_in (take i ts) ++ v) ++ flat_map counted_ends after) (row_counts s step.tree n size m d)) in
+    let P : List (Placed × ℕ × ℕ) → Type 0 = λ v. AtTwo (SameEnd s.libs.now.libs s.ports.now s.insts.now f) v in
+    let Q : List Placed → Type 0 = λ v. Beyond 4194304 v f in
+    elim (b (flat_map row_ends after) (flat_map counted_ends after)) [ inl t ↦ inr (inl (subst P (sym refs) t)) | inr o ↦ inr (inr (inr (inr (subst Q (sym counts) o)))) ]
+
+-- a name of the next row that is there already
+pub names_fail : (s : Surroundings) {rows : List Row} {id : NodeId} (ts : List Placed) (i : ℕ) (step : Step rows ts i id) (r : NetAt) (ns : List (List ℕ × ℕ)) (f : MeaningFault) → has_keyword keywords.Net (bare step.tree) ≡ true → ReadNet rows s step.tree r → ns ≡ names_in (take i ts)
+    → RowNameFault r.form r.place ns f → NetsFaultIn s (those_of keywords.Net ts) f
+names_fail s ts i step r ns f h a e b =
+    let before : List Placed = those_of keywords.Net (take i ts) in
+    let after : List Placed = those_of keywords.Net (drop (suc i) ts) in
+    let row : net_names_in step.tree ≡ row_names r.form r.place = names_read s.libs.now.libs s.ports.now s.insts.now step.tree r.form r.place a.mean a.named in
+    let names : names_in ts ≡ (ns ++ row_names r.form r.place) ++ flat_map net_names_in after =
+    ap (flat_map net_names_in) (here keywords.Net ts i step h) ∙ (flat_here net_names_in before after step.tree
+    ∙ (ap (λ v. (names_in (take i ts) ++ v) ++ flat_map net_names_in after) row ∙ ap (λ v. (v ++ row_names r.form r.place) ++ flat_map net_names_in after) (sym e))) in
+    let P : List (List ℕ × ℕ) → Type 0 = λ v. AtTwo (SameOfTwo f) v in
+    inr (inr (inl (subst P (sym names) (b (flat_map net_names_in after)))))
+
+-- a row beyond the limit
+pub nets_beyond : (s : Surroundings) {rows : List Row} {id : NodeId} (ts : List Placed) (i : ℕ) (step : Step rows ts i id) (xs : List design.Net) (n : NetForm) (size place : ℕ) (ns : List (List ℕ × ℕ)) (js : List (design.End × ℕ))
+    → has_keyword keywords.Net (bare step.tree) ≡ true → MeansNetIn s (bare step.tree) n → size ≡ row_size n.array → place ≡ place_of step.tree → 1048576 < length xs + size → NetsSoFar s (take i ts) xs ns js → NetsFaultIn s (those_of keywords.Net ts) (OverLimit 1048576 place)
+nets_beyond s ts i step xs n size place ns js h m d p l f =
+    let before : List Placed = those_of keywords.Net (take i ts) in
+    let after : List Placed = those_of keywords.Net (drop (suc i) ts) in
+    let counts : repeated declared_width (those_of keywords.Net ts) ≡ (repeated declared_width before ++ replicate (declared_width step.tree) step.tree) ++ repeated declared_width after =
+    ap (repeated declared_width) (here keywords.Net ts i step h) ∙ flat_here (λ t. replicate (declared_width t) t) before after step.tree in
+    let c : length (repeated declared_width before) ≡ length (flat_map nets_of f.forms) = nets_counted s.libs.now.libs s.ports.now s.insts.now before f.forms f.mean in
+    let k : length xs ≡ length (flat_map nets_of f.forms) = ap length f.nets in
+    let w : declared_width step.tree ≡ row_size n.array = net_declares s.libs.now.libs s.ports.now s.insts.now step.tree n m in
+    let a : length (repeated declared_width before) ≤ 1048576 = let g = f.count in omega (arith, c, k, g) in
+    let b : 1048576 < length (repeated declared_width before) + declared_width step.tree = omega (arith, c, k, w, d, l) in
+    let P : List Placed → Type 0 = λ v. Beyond 1048576 v (OverLimit 1048576 place) in
+    inr (inr (inr (inl (subst P (sym counts) (beyond_row 1048576 (declared_width step.tree) place (repeated declared_width before) (repeated declared_width after) step.tree a b p)))))
+
+-- names alone, beside the nets that they name
+names_are : (ns : List (List ℕ × ℕ)) (xs : List design.Net) → AllZip GivesName ns xs → ids ns ≡ map net_name xs
+names_are [] [] h = refl
+names_are [] (x ∷ xs) h = absurd h
+names_are (n ∷ ns) [] h = absurd h
+names_are (n ∷ ns) (x ∷ xs) h = cc (h.0, names_are ns xs h.1)
 
 pub nets_end : (s : Surroundings) (rows : List Row) (nodes : List NodeId) (ts : List Placed) (i : ℕ) (xs : List design.Net) (ns : List (List ℕ × ℕ)) (js : List (design.End × ℕ)) → Stand rows nodes ts → i ≡ length nodes → NetsSoFar s (take i ts) xs ns js → ReadNets s ts xs
 nets_end s rows nodes ts i xs ns js st e f =
-    let g = forms_end (MeansNetIn s) IsFine net_name keywords.Net rows nodes ts i xs ns st e f.forms in
-    let D : List design.End → Type 0 = AreDistinct in
-    let l : length (bits js) ≡ length js = map_length (λ (j : design.End × ℕ). j.0) js in
-    let m : length (bits js) ≡ length (ends_of xs) = ap length f.joins.ends in
-    let n : length js ≤ 4194304 = f.joins.count in
-    record {
-      mean = forms_each (MeansNetIn s) IsFine net_name keywords.Net ts xs ns g;
-      fine = forms_valid (MeansNetIn s) IsFine net_name keywords.Net ts xs ns g;
-      names = forms_distinct (MeansNetIn s) IsFine net_name keywords.Net ts xs ns g;
-      count = f.count;
-      ends = omega (arith, l, m, n);
-      joined_once = subst D f.joins.ends f.joins.distinct;
-    }
+    let P : List Placed → Type 0 = λ v. NetsSoFar s v xs ns js in
+    all_read s ts xs ns js (subst P (ap (λ n. take n ts) e ∙ take_all rows nodes ts st) f)
+  where
+    all_read : (s : Surroundings) (ts : List Placed) (xs : List design.Net) (ns : List (List ℕ × ℕ)) (js : List (design.End × ℕ)) → NetsSoFar s ts xs ns js → ReadNets s ts xs
+    all_read s ts xs ns js g =
+        let us : List Placed = those_of keywords.Net ts in
+        let D : List design.End → Type 0 = AreDistinct in
+        let N : List (List ℕ) → Type 0 = AreDistinct in
+        let R : List Bare → Type 0 = λ v. Each (MeansNetIn s) v g.forms in
+        let F : List design.Net → Type 0 = λ v. AllByRecursion IsFine v in
+        let l : length (bits js) ≡ length js = map_length (λ (j : design.End × ℕ). j.0) js in
+        let m : length (bits js) ≡ length (ends_of xs) = ap length g.joins.ends in
+        let n : length js ≤ 4194304 = g.joins.count in
+        let z : AllZip GivesName (names_in ts) (flat_map nets_of g.forms) =
+        zip_flat (λ u n. MeansNetIn s (bare u) n) GivesName net_names_in nets_of (λ u n h. net_names_are s.libs.now.libs s.ports.now s.insts.now u n h) us g.forms g.mean in
+        let named : ids ns ≡ map net_name xs = ap ids g.names ∙ (names_are (names_in ts) (flat_map nets_of g.forms) z ∙ ap (map net_name) (sym g.nets)) in
+        record {
+          rows = g.forms;
+          mean = subst R (filter_bare (has_keyword keywords.Net) ts) (each_bare (MeansNetIn s) us g.forms g.mean);
+          nets = g.nets;
+          fine = All-from_recursion IsFine xs (subst F (sym g.nets) (rows_fine g.forms g.fine));
+          names = subst N named g.distinct;
+          count = g.count;
+          ends = omega (arith, l, m, n);
+          joined_once = subst D g.joins.ends g.joins.distinct;
+        }

@@ -1,42 +1,55 @@
--- The ends of a net, as they are joined one after another.
-use Rattle.std.proofs.Common.{◌≡◌, ℕ, zero, suc, ◌<◌, ◌≤◌, List, [], ◌∷◌, ◌++◌, length, take, drop, get_or, refl, sym, ap, ◌∙◌, subst, inl, inr, Some, arith, append-nil, append_assoc, length-append}
+-- The ends of a row of nets, as they are joined one after another.
+use Rattle.std.proofs.Common.{◌≡◌, ℕ, zero, suc, ◌+◌, ◌*◌, ◌-◌, ◌<◌, ◌≤◌, List, [], ◌∷◌, ◌++◌, map, length, take, drop, get_or, replicate, refl, sym, ap, ◌∙◌, subst, inl, inr, Some, arith, append-nil, append_assoc, length-append}
 use Rattle.std.specs.Prelude.{slice_get}
-use Rattle.std.specs.List.{AllZip, Contains}
-use Rattle.std.proofs.lemmas.List.{map-append}
+use Rattle.std.specs.List.{All, AllZip, Contains, flat_map}
+use Rattle.std.proofs.lemmas.Grind.{flat_map-append}
+use Rattle.std.proofs.lemmas.List.{length-replicate, map-append}
+use Rattle.std.proofs.lemmas.List.Elements.{All-weaker}
+use Rattle.std.proofs.Math.Nat.{add-mul, mul_comm, suc-mul}
 use Rattle.spelling_spec.specs.Tree.{Placed, bare}
 use Rattle.netlist_schema.specs.Names.{AreDistinct}
+use Rattle.bus_spec.specs.Members.{numbered}
 use Rattle.edif_spec.specs.Design as design
-use Rattle.edif_spec.specs.Faults.{AtOne, AtTwo, Beyond, place_of}
+use Rattle.edif_spec.specs.Faults.{AtOne, AtTwo, Beyond, place_of, repeated}
 use Rattle.edif_spec.specs.Means.{MeansEnd}
-use Rattle.edif_spec.specs.Stands.{SameEnd}
+use Rattle.edif_spec.specs.Nets.{Stretch, end_of}
+use Rattle.edif_spec.specs.Stands.{MeansRowEnd, SameEnd}
 use Rattle.edif_spec.specs.declared.fault.ClashKind.TheVariants.{EndTwice}
 use Rattle.edif_spec.specs.declared.fault.MeaningFault.{MeaningFault}
 use Rattle.edif_spec.specs.declared.fault.MeaningFault.TheVariants.{Clash, OverLimit}
 use Rattle.edif_tree.specs.Nodes.{Row, IsAt}
 use Rattle.edif_tree.specs.declared.node.NodeId.{NodeId}
 use Rattle.edif_grammar.specs.Forms.{Stand}
-use Rattle.edif_contents.specs.Joins.{bits, Joined, IsTwice, AreJoined, EndsFault}
+use Rattle.edif_contents.specs.Joins.{bits, row_of, Joined, IsTwice, AreJoined}
 use Rattle.edif_parts.proofs.NameLists.{none_distinct, distinct_push}
 
+-- the ends at these forms in the net of one number, of a row of so many
+abbrev pub net_row : ℕ → ℕ → List Placed → List (Placed × ℕ × ℕ)
+net_row k size us = map (λ u. (u, k, size)) us
+
+-- what these forms mean in a row of so many nets
+abbrev pub MeanRow : List design.Lib → List design.Port → List design.Inst → ℕ → List Placed → List Stretch → Type 0
+MeanRow libs ports insts size us ss = AllZip (λ u s. MeansEnd libs ports insts (bare u) s × (s.width ≡ size)) us ss
+
 -- the end at the next node, with what it means
-pub record EndStep (libs : List design.Lib) (ports : List design.Port) (insts : List design.Inst) (rows : List Row) (us : List Placed) (ends : List design.End) (i : ℕ) (id : NodeId) (e : design.End) : Type 0 where
+pub record EndStep (libs : List design.Lib) (ports : List design.Port) (insts : List design.Inst) (rows : List Row) (k size : ℕ) (us : List Placed) (ss : List Stretch) (i : ℕ) (id : NodeId) (s : Stretch) : Type 0 where
   pub tree : Placed
   pub at : IsAt rows id tree
-  pub mean : MeansEnd libs ports insts (bare tree) e
-  pub taken : take (suc i) us ≡ take i us ++ tree ∷ []
-  pub whole : us ≡ take i us ++ tree ∷ drop (suc i) us
-  pub ends_taken : take (suc i) ends ≡ take i ends ++ e ∷ []
+  pub mean : MeansRowEnd libs ports insts (tree, k, size) (end_of k s)
+  pub taken : take (suc i) (net_row k size us) ≡ take i (net_row k size us) ++ (tree, k, size) ∷ []
+  pub whole : net_row k size us ≡ take i (net_row k size us) ++ (tree, k, size) ∷ drop (suc i) (net_row k size us)
+  pub ends_taken : take (suc i) (map (end_of k) ss) ≡ take i (map (end_of k) ss) ++ end_of k s ∷ []
 
-pub end_step : (libs : List design.Lib) (ports : List design.Port) (insts : List design.Inst) (rows : List Row) (ids : List NodeId) (us : List Placed) (ends : List design.End) (i : ℕ) (d : NodeId) (z : design.End)
-    → Stand rows ids us → AllZip (λ u e. MeansEnd libs ports insts (bare u) e) us ends → i < length ends → EndStep libs ports insts rows us ends i (get_or ids i d) (get_or ends i z)
-end_step libs ports insts rows ids [] [] i d z st m l = absurd (omega arith)
-end_step libs ports insts rows ids [] (e ∷ ends) i d z st m l = absurd m
-end_step libs ports insts rows ids (u ∷ us) [] i d z st m l = absurd m
-end_step libs ports insts rows [] (u ∷ us) (e ∷ ends) i d z st m l = absurd st
-end_step libs ports insts rows (id ∷ ids) (u ∷ us) (e ∷ ends) zero d z st m l = record { tree = u; at = st.0; mean = m.0; taken = refl; whole = refl; ends_taken = refl }
-end_step libs ports insts rows (id ∷ ids) (u ∷ us) (e ∷ ends) (suc i) d z st m l =
-    let r = end_step libs ports insts rows ids us ends i d z st.1 m.1 (omega arith) in
-    record { tree = r.tree; at = r.at; mean = r.mean; taken = ap (λ v. u ∷ v) r.taken; whole = ap (λ v. u ∷ v) r.whole; ends_taken = ap (λ v. e ∷ v) r.ends_taken }
+pub end_step : (libs : List design.Lib) (ports : List design.Port) (insts : List design.Inst) (rows : List Row) (ids : List NodeId) (k size : ℕ) (us : List Placed) (ss : List Stretch) (i : ℕ) (d : NodeId) (z : Stretch)
+    → Stand rows ids us → MeanRow libs ports insts size us ss → i < length ss → EndStep libs ports insts rows k size us ss i (get_or ids i d) (get_or ss i z)
+end_step libs ports insts rows ids k size [] [] i d z st m l = absurd (omega arith)
+end_step libs ports insts rows ids k size [] (s ∷ ss) i d z st m l = absurd m
+end_step libs ports insts rows ids k size (u ∷ us) [] i d z st m l = absurd m
+end_step libs ports insts rows [] k size (u ∷ us) (s ∷ ss) i d z st m l = absurd st
+end_step libs ports insts rows (id ∷ ids) k size (u ∷ us) (s ∷ ss) zero d z st m l = record { tree = u; at = st.0; mean = (s, m.0.0, m.0.1, refl); taken = refl; whole = refl; ends_taken = refl }
+end_step libs ports insts rows (id ∷ ids) k size (u ∷ us) (s ∷ ss) (suc i) d z st m l =
+    let r = end_step libs ports insts rows ids k size us ss i d z st.1 m.1 (omega arith) in
+    record { tree = r.tree; at = r.at; mean = r.mean; taken = ap (λ v. (u, k, size) ∷ v) r.taken; whole = ap (λ v. (u, k, size) ∷ v) r.whole; ends_taken = ap (λ v. end_of k s ∷ v) r.ends_taken }
 
 -- Lists.
 pub zip_push : {A B : Type 0} (R : A → B → Type 0) (xs : List A) (ys : List B) (x : A) (y : B) → AllZip R xs ys → R x y → AllZip R (xs ++ x ∷ []) (ys ++ y ∷ [])
@@ -54,6 +67,16 @@ zip_count R (x ∷ xs) (y ∷ ys) h = ap suc (zip_count R xs ys h.1)
 pub take_whole : {A : Type 0} (xs : List A) → take (length xs) xs ≡ xs
 take_whole [] = refl
 take_whole (x ∷ xs) = ap (λ v. x ∷ v) (take_whole xs)
+
+map_count : {A B : Type 0} (f : A → B) (xs : List A) → length (map f xs) ≡ length xs
+map_count f [] = refl
+map_count f (x ∷ xs) = ap suc (map_count f xs)
+
+pub taken_count : {A B : Type 0} (R : A → B → Type 0) (xs : List A) (ys : List B) (i : ℕ) → AllZip R xs ys → i < length xs → length (take i ys) ≡ i
+taken_count R [] ys i h l = absurd (omega (arith, l))
+taken_count R (x ∷ xs) [] i h l = absurd h
+taken_count R (x ∷ xs) (y ∷ ys) zero h l = refl
+taken_count R (x ∷ xs) (y ∷ ys) (suc i) h l = ap suc (taken_count R xs ys i h.1 (omega (arith, l)))
 
 get_here : {A : Type 0} (xs ys : List A) (y : A) → slice_get (xs ++ y ∷ ys) (length xs) ≡ Some y
 get_here [] ys y = refl
@@ -86,69 +109,161 @@ zip_contains {A} {B} R P xs ys y f h c = go xs ys c.0 h c.1 c.2
     go (v ∷ xs) (w ∷ ys) (suc i) h l e = inr (go xs ys i h.1 (omega arith) e)
 
 -- Joined ends.
+abbrev pub StandsFor : List design.Lib → List design.Port → List design.Inst → Placed × ℕ × ℕ → design.End × ℕ → Type 0
+StandsFor libs ports insts u j = MeansRowEnd libs ports insts u j.0 × (j.1 ≡ place_of u.0)
+
 pub joined_start : (libs : List design.Lib) (ports : List design.Port) (insts : List design.Inst) → AreJoined libs ports insts [] [] []
 joined_start libs ports insts = record { mean = tt; ends = refl; distinct = none_distinct; count = omega arith }
 
-pub joined_length : (libs : List design.Lib) (ports : List design.Port) (insts : List design.Inst) (ts : List Placed) (es : List design.End) (js : List (design.End × ℕ)) → AreJoined libs ports insts ts es js → length ts ≡ length js
-joined_length libs ports insts ts es js h = zip_count (λ u (j : design.End × ℕ). MeansEnd libs ports insts (bare u) j.0 × (j.1 ≡ place_of u)) ts js h.mean
+pub joined_length : (libs : List design.Lib) (ports : List design.Port) (insts : List design.Inst) (ts : List (Placed × ℕ × ℕ)) (es : List design.End) (js : List (design.End × ℕ)) → AreJoined libs ports insts ts es js → length ts ≡ length js
+joined_length libs ports insts ts es js h = zip_count (StandsFor libs ports insts) ts js h.mean
 
-joined_push : (libs : List design.Lib) (ports : List design.Port) (insts : List design.Inst) (ts : List Placed) (es : List design.End) (js new : List (design.End × ℕ)) (t : Placed) (e : design.End) (place : ℕ)
-    → AreJoined libs ports insts ts es js → MeansEnd libs ports insts (bare t) e → place ≡ place_of t → Joined js e place new → length js < 4194304 → AreJoined libs ports insts (ts ++ t ∷ []) (es ++ e ∷ []) new
+joined_push : (libs : List design.Lib) (ports : List design.Port) (insts : List design.Inst) (ts : List (Placed × ℕ × ℕ)) (es : List design.End) (js new : List (design.End × ℕ)) (t : Placed × ℕ × ℕ) (e : design.End) (place : ℕ)
+    → AreJoined libs ports insts ts es js → MeansRowEnd libs ports insts t e → place ≡ place_of t.0 → Joined js e place new → length js < 4194304 → AreJoined libs ports insts (ts ++ t ∷ []) (es ++ e ∷ []) new
 joined_push libs ports insts ts es js new t e place h m p n l =
-    let R : Placed → design.End × ℕ → Type 0 = λ u j. MeansEnd libs ports insts (bare u) j.0 × (j.1 ≡ place_of u) in
     let P : List (design.End × ℕ) → Type 0 = λ v. AreJoined libs ports insts (ts ++ t ∷ []) (es ++ e ∷ []) v in
     let more : bits (js ++ (e, place) ∷ []) ≡ bits js ++ e ∷ [] = map-append (λ (j : design.End × ℕ). j.0) js ((e, place) ∷ []) in
     let D : List design.End → Type 0 = AreDistinct in
     subst P (sym n.1) (record {
-      mean = zip_push R ts js t (e, place) h.mean (m, p);
+      mean = zip_push (StandsFor libs ports insts) ts js t (e, place) h.mean (m, p);
       ends = more ∙ ap (λ v. v ++ e ∷ []) h.ends;
       distinct = subst D (sym more) (distinct_push (bits js) e h.distinct n.0);
       count = let c = length-append js ((e, place) ∷ []) in omega (arith, c, l);
     })
 
 -- one more of the ends of a net
-pub joined_step : (libs : List design.Lib) (ports : List design.Port) (insts : List design.Inst) (rows : List Row) (id : NodeId) (ts us : List Placed) (es ends : List design.End) (js new : List (design.End × ℕ)) (i place : ℕ) (e : design.End)
-    → (s : EndStep libs ports insts rows us ends i id e) → AreJoined libs ports insts (ts ++ take i us) (es ++ take i ends) js → place ≡ place_of s.tree → Joined js e place new → length js < 4194304
-    → AreJoined libs ports insts (ts ++ take (suc i) us) (es ++ take (suc i) ends) new
-joined_step libs ports insts rows id ts us es ends js new i place e s h p n l =
-    let a : (ts ++ take i us) ++ s.tree ∷ [] ≡ ts ++ take (suc i) us = append_assoc ts (take i us) (s.tree ∷ []) ∙ ap (λ v. ts ++ v) (sym s.taken) in
-    let b : (es ++ take i ends) ++ e ∷ [] ≡ es ++ take (suc i) ends = append_assoc es (take i ends) (e ∷ []) ∙ ap (λ v. es ++ v) (sym s.ends_taken) in
-    let P : List Placed → Type 0 = λ v. AreJoined libs ports insts v ((es ++ take i ends) ++ e ∷ []) new in
-    let Q : List design.End → Type 0 = λ v. AreJoined libs ports insts (ts ++ take (suc i) us) v new in
-    subst Q b (subst P a (joined_push libs ports insts (ts ++ take i us) (es ++ take i ends) js new s.tree e place h s.mean p n l))
+pub joined_step : (libs : List design.Lib) (ports : List design.Port) (insts : List design.Inst) (rows : List Row) (id : NodeId) (k size : ℕ) (ts : List (Placed × ℕ × ℕ)) (us : List Placed) (es : List design.End) (ss : List Stretch) (js new : List (design.End × ℕ)) (i place : ℕ) (s : Stretch)
+    → (t : EndStep libs ports insts rows k size us ss i id s) → AreJoined libs ports insts (ts ++ take i (net_row k size us)) (es ++ take i (map (end_of k) ss)) js → place ≡ place_of t.tree → Joined js (end_of k s) place new → length js < 4194304
+    → AreJoined libs ports insts (ts ++ take (suc i) (net_row k size us)) (es ++ take (suc i) (map (end_of k) ss)) new
+joined_step libs ports insts rows id k size ts us es ss js new i place s t h p n l =
+    let e = end_of k s in
+    let a : (ts ++ take i (net_row k size us)) ++ (t.tree, k, size) ∷ [] ≡ ts ++ take (suc i) (net_row k size us) = append_assoc ts (take i (net_row k size us)) ((t.tree, k, size) ∷ []) ∙ ap (λ v. ts ++ v) (sym t.taken) in
+    let b : (es ++ take i (map (end_of k) ss)) ++ e ∷ [] ≡ es ++ take (suc i) (map (end_of k) ss) = append_assoc es (take i (map (end_of k) ss)) (e ∷ []) ∙ ap (λ v. es ++ v) (sym t.ends_taken) in
+    let P : List (Placed × ℕ × ℕ) → Type 0 = λ v. AreJoined libs ports insts v ((es ++ take i (map (end_of k) ss)) ++ e ∷ []) new in
+    let Q : List design.End → Type 0 = λ v. AreJoined libs ports insts (ts ++ take (suc i) (net_row k size us)) v new in
+    subst Q b (subst P a (joined_push libs ports insts (ts ++ take i (net_row k size us)) (es ++ take i (map (end_of k) ss)) js new (t.tree, k, size) e place h t.mean p n l))
 
 -- the whole list about the next of the ends
-around_here : (ts us rest : List Placed) (i : ℕ) (t : Placed) → us ≡ take i us ++ t ∷ drop (suc i) us → (ts ++ us) ++ rest ≡ (ts ++ take i us) ++ t ∷ (drop (suc i) us ++ rest)
+around_here : {A : Type 0} (ts us rest : List A) (i : ℕ) (t : A) → us ≡ take i us ++ t ∷ drop (suc i) us → (ts ++ us) ++ rest ≡ (ts ++ take i us) ++ t ∷ (drop (suc i) us ++ rest)
 around_here ts us rest i t e =
     ap (λ v. (ts ++ v) ++ rest) e ∙ (ap (λ v. v ++ rest) (sym (append_assoc ts (take i us) (t ∷ drop (suc i) us))) ∙ append_assoc (ts ++ take i us) (t ∷ drop (suc i) us) rest)
 
-pub over_limit : (libs : List design.Lib) (ports : List design.Port) (insts : List design.Inst) (rows : List Row) (id : NodeId) (ts us rest : List Placed) (es ends : List design.End) (js : List (design.End × ℕ)) (i place : ℕ) (e : design.End)
-    → (s : EndStep libs ports insts rows us ends i id e) → AreJoined libs ports insts (ts ++ take i us) (es ++ take i ends) js → place ≡ place_of s.tree → 4194304 ≤ length js
-    → EndsFault libs ports insts ((ts ++ us) ++ rest) (OverLimit 4194304 place)
-over_limit libs ports insts rows id ts us rest es ends js i place e s h p l =
-    let P : List Placed → Type 0 = λ v. Beyond 4194304 v (OverLimit 4194304 place) in
-    inr (subst P (sym (around_here ts us rest i s.tree s.whole)) (beyond_here 4194304 (length js) place (ts ++ take i us) (drop (suc i) us ++ rest) s.tree (joined_length libs ports insts (ts ++ take i us) (es ++ take i ends) js h) h.count l p))
+-- an end of a net that is joined already
+pub joined_twice : (libs : List design.Lib) (ports : List design.Port) (insts : List design.Inst) (rows : List Row) (id : NodeId) (k size : ℕ) (ts rest : List (Placed × ℕ × ℕ)) (us : List Placed) (es : List design.End) (ss : List Stretch) (js : List (design.End × ℕ)) (i place : ℕ) (s : Stretch) (f : MeaningFault)
+    → (t : EndStep libs ports insts rows k size us ss i id s) → AreJoined libs ports insts (ts ++ take i (net_row k size us)) (es ++ take i (map (end_of k) ss)) js → place ≡ place_of t.tree → IsTwice js (end_of k s) place f
+    → AtTwo (SameEnd libs ports insts f) ((ts ++ net_row k size us) ++ rest)
+joined_twice libs ports insts rows id k size ts rest us es ss js i place s f t h p w =
+    let e = end_of k s in
+    let here : Placed × ℕ × ℕ = (t.tree, k, size) in
+    let S : Placed × ℕ × ℕ → Placed × ℕ × ℕ → Type 0 = SameEnd libs ports insts f in
+    let one : AtOne (λ u. S u here) (ts ++ take i (net_row k size us)) =
+    zip_contains (StandsFor libs ports insts) (λ u. S u here) (ts ++ take i (net_row k size us)) js (e, w.0) (λ u r. (e, r.0, t.mean, w.2 ∙ (ap (λ v. Clash EndTwice v w.0) p ∙ ap (λ v. Clash EndTwice (place_of t.tree) v) r.1))) h.mean w.1 in
+    let P : List (Placed × ℕ × ℕ) → Type 0 = λ v. AtTwo S v in
+    subst P (sym (around_here ts (net_row k size us) rest i here t.whole)) (two_here S (ts ++ take i (net_row k size us)) (drop (suc i) (net_row k size us) ++ rest) here one)
 
-pub joined_twice : (libs : List design.Lib) (ports : List design.Port) (insts : List design.Inst) (rows : List Row) (id : NodeId) (ts us rest : List Placed) (es ends : List design.End) (js : List (design.End × ℕ)) (i place : ℕ) (e : design.End) (f : MeaningFault)
-    → (s : EndStep libs ports insts rows us ends i id e) → AreJoined libs ports insts (ts ++ take i us) (es ++ take i ends) js → place ≡ place_of s.tree → IsTwice js e place f → EndsFault libs ports insts ((ts ++ us) ++ rest) f
-joined_twice libs ports insts rows id ts us rest es ends js i place e f s h p t =
-    let R : Placed → design.End × ℕ → Type 0 = λ u j. MeansEnd libs ports insts (bare u) j.0 × (j.1 ≡ place_of u) in
-    let one : AtOne (λ u. SameEnd libs ports insts f u s.tree) (ts ++ take i us) =
-    zip_contains R (λ u. SameEnd libs ports insts f u s.tree) (ts ++ take i us) js (e, t.0) (λ u r. (e, r.0, s.mean, t.2 ∙ (ap (λ v. Clash EndTwice v t.0) p ∙ ap (λ v. Clash EndTwice (place_of s.tree) v) r.1))) h.mean t.1 in
-    let P : List Placed → Type 0 = λ v. AtTwo (SameEnd libs ports insts f) v in
-    inl (subst P (sym (around_here ts us rest i s.tree s.whole)) (two_here (SameEnd libs ports insts f) (ts ++ take i us) (drop (suc i) us ++ rest) s.tree one))
+-- at the end of a net
+pub joined_all : (libs : List design.Lib) (ports : List design.Port) (insts : List design.Inst) (k size : ℕ) (ts : List (Placed × ℕ × ℕ)) (us : List Placed) (es : List design.End) (ss : List Stretch) (js : List (design.End × ℕ)) (i : ℕ) → MeanRow libs ports insts size us ss → i ≡ length ss
+    → AreJoined libs ports insts (ts ++ take i (net_row k size us)) (es ++ take i (map (end_of k) ss)) js → AreJoined libs ports insts (ts ++ net_row k size us) (es ++ map (end_of k) ss) js
+joined_all libs ports insts k size ts us es ss js i m e h =
+    let n : i ≡ length (net_row k size us) = e ∙ (sym (zip_count (λ u s. MeansEnd libs ports insts (bare u) s × (s.width ≡ size)) us ss m) ∙ sym (map_count (λ u. (u, k, size)) us)) in
+    let o : i ≡ length (map (end_of k) ss) = e ∙ sym (map_count (end_of k) ss) in
+    let P : List (Placed × ℕ × ℕ) → Type 0 = λ v. AreJoined libs ports insts (ts ++ v) (es ++ take i (map (end_of k) ss)) js in
+    let Q : List design.End → Type 0 = λ v. AreJoined libs ports insts (ts ++ net_row k size us) (es ++ v) js in
+    subst Q (ap (λ v. take v (map (end_of k) ss)) o ∙ take_whole (map (end_of k) ss)) (subst P (ap (λ v. take v (net_row k size us)) n ∙ take_whole (net_row k size us)) h)
 
--- at the start and at the end of a net
-pub joined_none : (libs : List design.Lib) (ports : List design.Port) (insts : List design.Inst) (ts us : List Placed) (es ends : List design.End) (js : List (design.End × ℕ)) → AreJoined libs ports insts ts es js → AreJoined libs ports insts (ts ++ take 0 us) (es ++ take 0 ends) js
-joined_none libs ports insts ts us es ends js h =
-    let P : List Placed → Type 0 = λ v. AreJoined libs ports insts v es js in
-    let Q : List design.End → Type 0 = λ v. AreJoined libs ports insts (ts ++ take 0 us) v js in
-    subst Q (sym (append-nil es)) (subst P (sym (append-nil ts)) h)
+-- The nets of a row, one after another: those of so many numbers.
+abbrev pub rows_below : {A : Type 0} → (ℕ → List A) → ℕ → List A
+rows_below f n = flat_map f (numbered (λ k. k) 0 n)
 
-pub joined_all : (libs : List design.Lib) (ports : List design.Port) (insts : List design.Inst) (ts us : List Placed) (es ends : List design.End) (js : List (design.End × ℕ)) (i : ℕ) → AllZip (λ u e. MeansEnd libs ports insts (bare u) e) us ends → i ≡ length ends
-    → AreJoined libs ports insts (ts ++ take i us) (es ++ take i ends) js → AreJoined libs ports insts (ts ++ us) (es ++ ends) js
-joined_all libs ports insts ts us es ends js i m e h =
-    let n : i ≡ length us = e ∙ sym (zip_count (λ u e. MeansEnd libs ports insts (bare u) e) us ends m) in
-    let P : List Placed → Type 0 = λ v. AreJoined libs ports insts (ts ++ v) (es ++ take i ends) js in
-    let Q : List design.End → Type 0 = λ v. AreJoined libs ports insts (ts ++ us) (es ++ v) js in
-    subst Q (ap (λ v. take v ends) e ∙ take_whole ends) (subst P (ap (λ v. take v us) n ∙ take_whole us) h)
+numbers_push : (a n : ℕ) → numbered (λ k. k) a (suc n) ≡ numbered (λ k. k) a n ++ (a + n) ∷ []
+numbers_push a zero = let e : a ≡ a + zero = omega arith in ap (λ v. v ∷ []) e
+numbers_push a (suc n) =
+    let e : suc a + n ≡ a + suc n = omega arith in
+    ap (λ v. a ∷ v) (numbers_push (suc a) n ∙ ap (λ v. numbered (λ k. k) (suc a) n ++ v ∷ []) e)
+
+pub rows_more : {A : Type 0} (f : ℕ → List A) (k : ℕ) → rows_below f (suc k) ≡ rows_below f k ++ f k
+rows_more f k =
+    let e : 0 + k ≡ k = omega arith in
+    ap (flat_map f) (numbers_push 0 k) ∙ (flat_map-append f (numbered (λ k. k) 0 k) ((0 + k) ∷ []) ∙ (ap (λ v. rows_below f k ++ v) (append-nil (f (0 + k))) ∙ ap (λ v. rows_below f k ++ f v) e))
+
+rows_front : {A : Type 0} (f : ℕ → List A) (k n : ℕ) → (later : List A) × (rows_below f (k + n) ≡ rows_below f k ++ later)
+rows_front f k zero = let e : k + zero ≡ k = omega arith in ([], ap (rows_below f) e ∙ sym (append-nil (rows_below f k)))
+rows_front f k (suc n) =
+    let r = rows_front f k n in
+    let e : k + suc n ≡ suc (k + n) = omega arith in
+    (r.0 ++ f (k + n), ap (rows_below f) e ∙ (rows_more f (k + n) ∙ (ap (λ v. v ++ f (k + n)) r.1 ∙ append_assoc (rows_below f k) r.0 (f (k + n)))))
+
+-- a row is its first nets, the net of this number, and later ones
+pub row_around : {A : Type 0} (f : ℕ → List A) (k size : ℕ) → k < size → (later : List A) × (rows_below f size ≡ (rows_below f k ++ f k) ++ later)
+row_around f k size l =
+    let r = rows_front f (suc k) (size - suc k) in
+    let e : size ≡ suc k + (size - suc k) = omega (arith, l) in
+    (r.0, ap (rows_below f) e ∙ (r.1 ∙ ap (λ v. v ++ r.0) (rows_more f k)))
+
+-- one more net of a row
+pub row_step : (libs : List design.Lib) (ports : List design.Port) (insts : List design.Inst) (k size : ℕ) (ts : List (Placed × ℕ × ℕ)) (us : List Placed) (es : List design.End) (ss : List Stretch) (js : List (design.End × ℕ))
+    → AreJoined libs ports insts ((ts ++ rows_below (λ k. net_row k size us) k) ++ net_row k size us) ((es ++ rows_below (λ k. map (end_of k) ss) k) ++ map (end_of k) ss) js
+    → AreJoined libs ports insts (ts ++ rows_below (λ k. net_row k size us) (suc k)) (es ++ rows_below (λ k. map (end_of k) ss) (suc k)) js
+row_step libs ports insts k size ts us es ss js h =
+    let F : ℕ → List (Placed × ℕ × ℕ) = λ k. net_row k size us in
+    let G : ℕ → List design.End = λ k. map (end_of k) ss in
+    let P : List (Placed × ℕ × ℕ) → Type 0 = λ v. AreJoined libs ports insts v ((es ++ rows_below G k) ++ G k) js in
+    let Q : List design.End → Type 0 = λ v. AreJoined libs ports insts (ts ++ rows_below F (suc k)) v js in
+    subst Q (append_assoc es (rows_below G k) (G k) ∙ ap (λ v. es ++ v) (sym (rows_more G k))) (subst P (append_assoc ts (rows_below F k) (F k) ∙ ap (λ v. ts ++ v) (sym (rows_more F k))) h)
+
+-- an end of one net of a row that is joined already
+pub row_twice : (libs : List design.Lib) (ports : List design.Port) (insts : List design.Inst) (k size : ℕ) (ts rest : List (Placed × ℕ × ℕ)) (us : List Placed) (f : MeaningFault) → k < size
+    → ((more : List (Placed × ℕ × ℕ)) → AtTwo (SameEnd libs ports insts f) (((ts ++ rows_below (λ k. net_row k size us) k) ++ net_row k size us) ++ more)) → AtTwo (SameEnd libs ports insts f) ((ts ++ row_of size us) ++ rest)
+row_twice libs ports insts k size ts rest us f l h =
+    let F : ℕ → List (Placed × ℕ × ℕ) = λ k. net_row k size us in
+    let r = row_around F k size l in
+    let e : (ts ++ row_of size us) ++ rest ≡ ((ts ++ rows_below F k) ++ F k) ++ (r.0 ++ rest) =
+    ap (λ v. (ts ++ v) ++ rest) r.1 ∙ (ap (λ v. v ++ rest) (sym (append_assoc ts (rows_below F k ++ F k) r.0)) ∙ (append_assoc (ts ++ (rows_below F k ++ F k)) r.0 rest ∙ ap (λ v. v ++ (r.0 ++ rest)) (sym (append_assoc ts (rows_below F k) (F k))))) in
+    let P : List (Placed × ℕ × ℕ) → Type 0 = λ v. AtTwo (SameEnd libs ports insts f) v in
+    subst P (sym e) (h (r.0 ++ rest))
+
+-- Room for the ends of a row.
+pub room_next : (joined n size k : ℕ) → joined + n * size ≤ 4194304 → k < size → (joined + k * n) + n ≤ 4194304
+room_next joined n size k h l =
+    let d : size ≡ suc k + (size - suc k) = omega (arith, l) in
+    let e : n * size ≡ suc k * n + (size - suc k) * n = mul_comm n size ∙ (ap (λ v. v * n) d ∙ add-mul (suc k) (size - suc k) n) in
+    let m = suc-mul k n in
+    omega (arith, h, e, m)
+
+pub within_next : (ss : List Stretch) (k size : ℕ) → k < size → All (λ s. s.first + size ≤ 4294967296) ss → All (λ s. k + s.first < 4294967296) ss
+within_next ss k size l h = All-weaker (λ (s : Stretch). s.first + size ≤ 4294967296) (λ (s : Stretch). k + s.first < 4294967296) (λ s w. omega (arith, l, w)) ss h
+
+-- the form that the first end beyond the limit has
+skip_front : {A : Type 0} (xs ys : List A) (n : ℕ) → slice_get (xs ++ ys) (length xs + n) ≡ slice_get ys n
+skip_front [] ys n = let e : 0 + n ≡ n = omega arith in ap (slice_get ys) e
+skip_front (x ∷ xs) ys n = let e : suc (length xs) + n ≡ suc (length xs + n) = omega arith in ap (slice_get (x ∷ (xs ++ ys))) e ∙ skip_front xs ys n
+
+get_repeated : {A : Type 0} (x : A) (size n : ℕ) (ys : List A) → n < size → slice_get (replicate size x ++ ys) n ≡ Some x
+get_repeated x zero n ys l = absurd (omega (arith, l))
+get_repeated x (suc size) zero ys l = refl
+get_repeated x (suc size) (suc n) ys l = get_repeated x size n ys (omega (arith, l))
+
+count_repeated : (size : ℕ) (us : List Placed) → length (repeated (λ u. size) us) ≡ length us * size
+count_repeated size [] = omega arith
+count_repeated size (u ∷ us) =
+    let a = length-append (replicate size u) (repeated (λ u. size) us) in
+    let b = length-replicate size u in
+    let r = count_repeated size us in
+    let m = suc-mul (length us) size in
+    omega (arith, a, b, r, m)
+
+pub room_beyond : (limit joined size i place : ℕ) (us before rest : List Placed) (t : Placed) → us ≡ take i us ++ t ∷ drop (suc i) us → length (take i us) ≡ i → length before ≡ joined → joined + i * size ≤ limit → limit < (joined + i * size) + size → place ≡ place_of t
+    → Beyond limit ((before ++ repeated (λ u. size) us) ++ rest) (OverLimit limit place)
+room_beyond limit joined size i place us before rest t whole short told low high p =
+    let R : List Placed → List Placed = repeated (λ u. size) in
+    let A = R (take i us) in
+    let B = replicate size t in
+    let C = R (drop (suc i) us) in
+    let n = limit - (joined + i * size) in
+    let parted : R us ≡ A ++ (B ++ C) = ap R whole ∙ flat_map-append (λ (u : Placed). replicate size u) (take i us) (t ∷ drop (suc i) us) in
+    let all : (before ++ R us) ++ rest ≡ (before ++ A) ++ (B ++ (C ++ rest)) = ap (λ v. (before ++ v) ++ rest) parted ∙ simp append_assoc in
+    let a = length-append before A in
+    let b : length A ≡ i * size = count_repeated size (take i us) ∙ ap (λ v. v * size) short in
+    let e : limit ≡ length (before ++ A) + n = omega (arith, a, b, told, low) in
+    let l : n < size = omega (arith, low, high) in
+    (t, ap (λ v. slice_get ((before ++ R us) ++ rest) v) e ∙ (ap (λ v. slice_get v (length (before ++ A) + n)) all ∙ (skip_front (before ++ A) (B ++ (C ++ rest)) n ∙ get_repeated t size n (C ++ rest) l)), ap (λ v. OverLimit limit v) p)

@@ -7,4 +7,5 @@ pub mod JoinKeys
 pub mod JoinLemmas
 pub mod KnownLemmas
 pub mod NetLemmas
+pub mod NetRows
 pub mod RefLemmas

@@ -1,20 +1,24 @@
 -- What is read of nets.
-use Rattle.std.specs.Prelude.{◌≡◌, ◌≤◌, ◌⊎◌, List, [], Some, map, length}
-use Rattle.std.specs.List.{All, flat_map}
+use Rattle.std.specs.Prelude.{◌≡◌, ◌^◌, ◌<◌, ◌≤◌, ◌⊎◌, ◌++◌, ℕ, IfSome, List, [], ◌∷◌, None, Some, map, length}
+use Rattle.std.specs.List.{All, AllZip, flat_map}
 use Rattle.spelling_spec.specs.Tree.{Bare, Placed, bare}
 use Rattle.netlist_schema.specs.Names.{AreDistinct, HasDistinctKeys}
-use Rattle.netlist_schema.specs.Typed.{IsTypedNet}
+use Rattle.netlist_schema.specs.Typed.{IsTypedName, IsTypedNet, IsTypedProperty}
+use Rattle.netlist_schema.specs.Width.{IsWidth}
 use Rattle.netlist_schema.specs.declared.limits.TheConstants.{MOST_ENDS, MOST_NETS}
 use Rattle.edif_spec.specs.Design as design
-use Rattle.edif_spec.specs.Faults.{Among, AtTwo, Beyond, Repeats, defined, parts}
+use Rattle.edif_spec.specs.Faults.{Among, AtTwo, Beyond, SameOfTwo, declared_width, defined, parts, repeated}
+use Rattle.edif_spec.specs.Nets.{NetForm, name_at, nets_of, row_size}
+use Rattle.bus_spec.specs.Members.{numbered}
 use Rattle.edif_spec.specs.Means.{MeansNet}
 use Rattle.edif_spec.specs.Rows.{Each, IsFormOf, those}
-use Rattle.edif_spec.specs.Stands.{NetFault, SameEnd, ends_in}
+use Rattle.edif_spec.specs.Stands.{NetFault, SameEnd, counted_ends, ends_in, net_names_in, row_ends}
 use Rattle.edif_spec.specs.declared.fault.MeaningFault.{MeaningFault}
 use Rattle.edif_spec.specs.declared.keyword.Keyword.TheVariants as keywords
 use Rattle.edif_tree.specs.Nodes.{Row}
-use Rattle.edif_contents.specs.Ends.{MeansEndIn}
+use Rattle.edif_contents.specs.Ends.{ReadEnd}
 use Rattle.edif_grammar.specs.Forms.{Stand}
+use Rattle.edif_parts.specs.Names.{DefinesName, ids}
 use Rattle.edif_contents.specs.declared.ends.Surroundings.{Surroundings}
 use Rattle.edif_contents.specs.declared.nets.JoinedAt.{JoinedAt}
 use Rattle.edif_contents.specs.declared.nets.NetAt.{NetAt}
@@ -22,30 +26,59 @@ use Rattle.edif_contents.specs.declared.nets.NetAt.{NetAt}
 -- What a net joins: the ends that its forms mean, and the nodes of these.
 pub record ReadJoined (rows : List Row) (s : Surroundings) (t : Placed) (j : JoinedAt) : Type 0 where
   pub form : IsFormOf keywords.Joined (bare t) [] (map bare (parts keywords.Joined keywords.PortRef t))
-  pub ends : Each (MeansEndIn s) (map bare (parts keywords.Joined keywords.PortRef t)) j.ends
+  pub ends : AllZip (ReadEnd s) (parts keywords.Joined keywords.PortRef t) j.ends
   pub nodes : Stand rows j.nodes.now (parts keywords.Joined keywords.PortRef t)
 
--- what a net means, and what is wrong with one
-abbrev pub MeansNetIn : Surroundings → Bare → design.Net → Type 0
+-- what a net means as it is written, and what is wrong with one
+abbrev pub MeansNetIn : Surroundings → Bare → NetForm → Type 0
 MeansNetIn s t n = MeansNet s.libs.now.libs s.ports.now s.insts.now t n
 
 abbrev pub NetFaultIn : Surroundings → Placed → MeaningFault → Type 0
 NetFaultIn s t f = NetFault s.libs.now.libs s.ports.now s.insts.now t f
 
+-- a form of nets that are fit for a design
+pub record FineForm (n : NetForm) : Type 0 where
+  pub name : IsTypedName n.name
+  pub array : IfSome n.array IsWidth
+  pub properties : All IsTypedProperty n.properties
+  pub keys : HasDistinctKeys n.properties
+
 -- a net is fit for a design
 abbrev pub IsFine : design.Net → Type 0
 IsFine n = IsTypedNet n × HasDistinctKeys n.properties
 
--- The net that a form means, the place of its name, and the nodes of its ends.
+-- The net that a form means as it is written, whose bits begin at numbers of 32 bits; the place of its name, and the nodes of its ends.
 pub record ReadNet (rows : List Row) (s : Surroundings) (t : Placed) (n : NetAt) : Type 0 where
-  pub mean : MeansNetIn s (bare t) n.net
-  pub fine : IsFine n.net
-  pub named : defined t ≡ Some (n.net.name.id, n.place)
+  pub mean : MeansNetIn s (bare t) n.form
+  pub fine : FineForm n.form
+  pub within : All (λ s. s.first < 2 ^ 32) n.form.joined
+  pub named : defined t ≡ Some (n.form.name.id, n.place)
   pub nodes : Stand rows n.ends.now (ends_in t)
 
--- The nets that the forms of nets among these mean, within the limits, with names that differ and each bit joined once.
+-- the names of the nets of a form, all at the place of the form's name
+abbrev pub row_names : NetForm → ℕ → List (List ℕ × ℕ)
+row_names n place = numbered (λ k. ((name_at n.name n.array k).id, place)) 0 (row_size n.array)
+
+-- A net is added to those that are there, and its name, which is not there yet.
+pub record NetAdded (n : design.Net) (place : ℕ) (old_names : List (List ℕ × ℕ)) (old_nets : List design.Net) (new_names : List (List ℕ × ℕ)) (new_nets : List design.Net) : Type 0 where
+  pub nets : new_nets ≡ old_nets ++ n ∷ []
+  pub name : DefinesName old_names n.name.id place new_names None
+
+-- The nets of a form are added to those that are there, and their names, which differ from those and from each other.
+pub record RowAdded (n : NetForm) (place : ℕ) (old_names : List (List ℕ × ℕ)) (old_nets : List design.Net) (new_names : List (List ℕ × ℕ)) (new_nets : List design.Net) : Type 0 where
+  pub nets : new_nets ≡ old_nets ++ nets_of n
+  pub names : new_names ≡ old_names ++ row_names n place
+  pub distinct : AreDistinct (ids new_names)
+
+-- whatever follows, a name of a net of a form that stands twice
+abbrev pub RowNameFault : NetForm → ℕ → List (List ℕ × ℕ) → MeaningFault → Type 0
+RowNameFault n place old f = (rest : List (List ℕ × ℕ)) → AtTwo (SameOfTwo f) ((old ++ row_names n place) ++ rest)
+
+-- The nets for which the forms of nets among these stand, within the limits, with names that differ and each bit joined once.
 pub record ReadNets (s : Surroundings) (ts : List Placed) (ns : List design.Net) : Type 0 where
-  pub mean : Each (MeansNetIn s) (those keywords.Net (map bare ts)) ns
+  pub rows : List NetForm
+  pub mean : Each (MeansNetIn s) (those keywords.Net (map bare ts)) rows
+  pub nets : ns ≡ flat_map nets_of rows
   pub fine : All IsFine ns
   pub names : AreDistinct (map (λ (n : design.Net). n.name.id) ns)
   pub count : length ns ≤ MOST_NETS
@@ -54,5 +87,5 @@ pub record ReadNets (s : Surroundings) (ts : List Placed) (ns : List design.Net)
 
 -- what is wrong with nets: in one of them, a bit that is joined twice, a name that repeats, more nets or ends than allowed
 abbrev pub NetsFaultIn : Surroundings → List Placed → MeaningFault → Type 0
-NetsFaultIn s ts f = Among (NetFaultIn s) ts f ⊎ (AtTwo (SameEnd s.libs.now.libs s.ports.now s.insts.now f) (flat_map ends_in ts)
-    ⊎ (Repeats ts f ⊎ (Beyond MOST_NETS ts f ⊎ Beyond MOST_ENDS (flat_map ends_in ts) f)))
+NetsFaultIn s ts f = Among (NetFaultIn s) ts f ⊎ (AtTwo (SameEnd s.libs.now.libs s.ports.now s.insts.now f) (flat_map row_ends ts)
+    ⊎ (AtTwo (SameOfTwo f) (flat_map net_names_in ts) ⊎ (Beyond MOST_NETS (repeated declared_width ts) f ⊎ Beyond MOST_ENDS (flat_map counted_ends ts) f)))

@@ -5,12 +5,12 @@ ghost use Rattle.spelling_spec.specs.Tree.{Placed, Word', bare};
 ghost use Rattle.edif_spec.specs.Design as design;
 ghost use Rattle.edif_spec.specs.Faults.{Among};
 ghost use Rattle.edif_spec.specs.Keyword.{AForm, AnIdentifier};
-ghost use Rattle.edif_spec.specs.Means.{MeansBit, MeansInstRef, meant, width_at};
+ghost use Rattle.edif_spec.specs.Means.{MeansBits, MeansInstRef, meant, width_at};
 ghost use Rattle.edif_spec.specs.Rows.{Perhaps, has_keyword, is_one_of};
 ghost use Rattle.edif_spec.specs.Stands.{BitFault, InstRefFault};
 ghost use Rattle.edif_spec.specs.declared.keyword.Keyword.TheVariants.{InstanceRef, Member, PortRef};
 ghost use Rattle.edif_tree.specs.Nodes.{IsAt, IsNode};
-ghost use Rattle.edif_contents.specs.Ends.{AreNamed, EndFaultIn, MeansEndIn, ports_for};
+ghost use Rattle.edif_contents.specs.Ends.{AreNamed, EndFaultIn, ReadEnd, ports_for};
 ghost use Rattle.edif_grammar.specs.Forms.{Stand};
 ghost use Rattle.edif_parts.specs.Names.{Tells, ids};
 ghost use Rattle.edif_parts.specs.Reading.{Answers};
@@ -22,9 +22,9 @@ use edif_names::Meant;
 use edif_parts::error::{EdifError, fault_at};
 use edif_parts::names::Names;
 use edif_parts::parts::{integer_at, read_parts};
-use edif_spec::{Keyword, Kind};
+use edif_spec::{Keyword, Kind, Stretch};
 use edif_tree::{NodeId, Shape, Tree};
-use netlist_schema::{End, Ident, Inst, Port};
+use netlist_schema::{Ident, Inst, Port};
 use std::alloc::Global;
 
 /// What the ends of nets are judged by: the libraries, the ports of the cell and its instances, with their names.
@@ -42,13 +42,24 @@ pub struct Surroundings<'a> {
     pub inst_names: &'a Names,
 }
 
-/// A bit among some ports.
+/// Bits of a port among some ports.
 #[derive(Clone, Copy)]
-pub struct Bit {
+pub struct Bits {
     /// The place of the port.
     pub port: u32,
-    /// The place of the bit in the port.
-    pub bit: u32,
+    /// The place of the first bit in the port.
+    pub first: u32,
+    /// How many bits.
+    pub width: u32,
+}
+
+/// An end, and where its bits are named.
+#[derive(Clone, Copy)]
+pub struct EndAt {
+    /// The bits.
+    pub stretch: Stretch,
+    /// The number of bytes before the identifier of the port, or before the `(` of a member.
+    pub place: u64,
 }
 
 /// The place of the instance that a reference at a node means.
@@ -132,16 +143,18 @@ fn bit_below(index: i64, width: u32) -> Option<u32>
     }
 }
 
-/// The bit that a port by itself means, which has to be a port of one bit.
-fn whole_port(around: &Surroundings, inst: Option<u32>, name: Reference) -> Result<Bit, EdifError>
+/// The bits that a port by itself means: all of them.
+fn whole_port(around: &Surroundings, inst: Option<u32>, name: Reference) -> Result<Bits, EdifError>
     requires { AreNamed around.now }
-    ensures { (t : Placed) → t ≡ Word' name.entry.place name.entry.name.now → Answers (λ b. MeansBit (ports_for around.now inst) (bare t) b.port b.bit) (BitFault (ports_for around.now inst) t) result }
+    ensures { (t : Placed) → t ≡ Word' name.entry.place name.entry.name.now → Answers (λ b. MeansBits (ports_for around.now inst) (bare t) b.port b.first b.width) (BitFault (ports_for around.now inst) t) result }
 {
     let port = resolve(port_meant(around, inst, name.name), name.place)?;
-    if port_width(around, inst, port) != 1 {
-        return Err(fault_at(Kind::WholeArray, name.place));
-    }
-    Ok(Bit { port, bit: 0 })
+    let width = port_width(around, inst, port);
+    Ok(Bits {
+        port,
+        first: 0,
+        width,
+    })
 }
 
 /// The bit that a member of a port means.
@@ -151,34 +164,38 @@ fn read_member(
     node: NodeId,
     around: &Surroundings,
     inst: Option<u32>,
-) -> Result<Bit, EdifError>
+) -> Result<Bits, EdifError>
     requires node { IsNode tree.now.rows node }
     requires keyword { (t : Placed) → IsAt tree.now.rows node t → has_keyword Member (bare t) ≡ true }
     requires names { AreNamed around.now }
-    ensures { (t : Placed) → IsAt tree.now.rows node t → Answers (λ b. MeansBit (ports_for around.now inst) (bare t) b.port b.bit) (BitFault (ports_for around.now inst) t) result }
+    ensures { (t : Placed) → IsAt tree.now.rows node t → Answers (λ b. MeansBits (ports_for around.now inst) (bare t) b.port b.first b.width) (BitFault (ports_for around.now inst) t) result }
 {
     let parts = read_parts(alloc, tree, node, Keyword::PortRef, Keyword::Member)?;
     let name = reference_at(tree, parts.fixed[0]);
     let port = resolve(port_meant(around, inst, name.name), name.place)?;
     let index = parts.fixed[1];
     match bit_below(integer_at(tree, index), port_width(around, inst, port)) {
-        Some(bit) => Ok(Bit { port, bit }),
+        Some(first) => Ok(Bits {
+            port,
+            first,
+            width: 1,
+        }),
         None => Err(fault_at(Kind::BadIndex, tree.place(index))),
     }
 }
 
-/// The bit that a port, or a member of one, at a node means.
-fn read_bit(
+/// The bits that a port, or a member of one, at a node means.
+fn read_bits(
     alloc: Global,
     tree: &Tree,
     node: NodeId,
     around: &Surroundings,
     inst: Option<u32>,
-) -> Result<Bit, EdifError>
+) -> Result<Bits, EdifError>
     requires node { IsNode tree.now.rows node }
     requires choice { (t : Placed) → IsAt tree.now.rows node t → is_one_of (AnIdentifier ∷ AForm Member ∷ []) (bare t) ≡ true }
     requires names { AreNamed around.now }
-    ensures { (t : Placed) → IsAt tree.now.rows node t → Answers (λ b. MeansBit (ports_for around.now inst) (bare t) b.port b.bit) (BitFault (ports_for around.now inst) t) result }
+    ensures { (t : Placed) → IsAt tree.now.rows node t → Answers (λ b. MeansBits (ports_for around.now inst) (bare t) b.port b.first b.width) (BitFault (ports_for around.now inst) t) result }
 {
     match tree.shape(node) {
         Shape::Word(_) => whole_port(around, inst, reference_at(tree, node)),
@@ -186,24 +203,29 @@ fn read_bit(
     }
 }
 
-/// The end that a form at a node means.
+/// The end that a form at a node means, and where its bits are named.
 pub fn read_end(
     alloc: Global,
     tree: &Tree,
     node: NodeId,
     around: &Surroundings,
-) -> Result<End, EdifError>
+) -> Result<EndAt, EdifError>
     requires node { IsNode tree.now.rows node }
     requires keyword { (t : Placed) → IsAt tree.now.rows node t → has_keyword PortRef (bare t) ≡ true }
     requires names { AreNamed around.now }
-    ensures { (t : Placed) → IsAt tree.now.rows node t → Answers (MeansEndIn around.now (bare t)) (EndFaultIn around.now t) result }
+    ensures { (t : Placed) → IsAt tree.now.rows node t → Answers (ReadEnd around.now t) (EndFaultIn around.now t) result }
 {
     let parts = read_parts(alloc, tree, node, Keyword::Joined, Keyword::PortRef)?;
     let inst = read_inst_among(alloc, tree, parts.inner, around.inst_names)?;
-    let found = read_bit(alloc, tree, parts.fixed[0], around, inst)?;
-    Ok(End {
-        inst,
-        port: found.port,
-        bit: found.bit,
+    let named = parts.fixed[0];
+    let found = read_bits(alloc, tree, named, around, inst)?;
+    Ok(EndAt {
+        stretch: Stretch {
+            inst,
+            port: found.port,
+            first: found.first,
+            width: found.width,
+        },
+        place: tree.place(named),
     })
 }

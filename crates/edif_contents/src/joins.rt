@@ -1,16 +1,19 @@
 //! The bits that the nets of contents join, each at most once.
-ghost use Rattle.std.specs.Prelude.{◌≡◌, ◌++◌, ◌<◌, ◌≤◌, [], ℕ, List, IfErr, OnOk, length};
-ghost use Rattle.std.specs.List.{AllZip};
+ghost use Rattle.std.specs.Prelude.{◌≡◌, ◌++◌, ◌+◌, ◌*◌, ◌^◌, ◌<◌, ◌≤◌, [], ℕ, List, IfErr, OnOk, length, map};
+ghost use Rattle.std.specs.List.{All, AllZip};
 ghost use Rattle.spelling_spec.specs.Tree.{Placed, bare};
+ghost use Rattle.netlist_schema.specs.declared.limits.TheConstants.{MOST_ENDS};
 ghost use Rattle.edif_spec.specs.Design as design;
-ghost use Rattle.edif_spec.specs.Faults.{place_of};
+ghost use Rattle.edif_spec.specs.Faults.{AtTwo, Beyond, repeated};
 ghost use Rattle.edif_spec.specs.Means.{MeansEnd};
+ghost use Rattle.edif_spec.specs.Nets.{end_of};
+ghost use Rattle.edif_spec.specs.Stands.{SameEnd};
 ghost use Rattle.edif_grammar.specs.Forms.{Stand};
-ghost use Rattle.edif_contents.specs.Joins.{AreJoined, EndsFault, IsTwice, Joined};
+ghost use Rattle.edif_contents.specs.Joins.{AreJoined, IsTwice, Joined, RowEndsFault, bits_of_row, row_of};
 ghost use Rattle.edif_parts.specs.Reading.{Answers, Names as FailsBy};
 
 use edif_parts::error::{EdifError, clash, over_limit};
-use edif_spec::ClashKind;
+use edif_spec::{ClashKind, Stretch};
 use edif_tree::{NodeId, Tree};
 use indexmap::IndexMap;
 use netlist_schema::End;
@@ -76,25 +79,84 @@ impl Joins {
     }
 }
 
-/// Joins the bits of the ends at these nodes, which are these. The error is the first that is joined already, or is beyond the limit.
-pub fn join_ends(
+/// Bit `k` of a stretch that has it.
+pub fn end_of(k: u32, stretch: &Stretch) -> End
+    requires { k + stretch.now.first < 2 ^ 32 }
+    ensures { result ≡ end_of k stretch.now }
+{
+    End {
+        inst: stretch.inst,
+        port: stretch.port,
+        bit: k + stretch.first,
+    }
+}
+
+/// Joins the ends of the net of number `k` of a row of this size, at these nodes. The error is the first that is joined already.
+fn join_net(
     tree: &Tree,
     nodes: &[NodeId],
-    ends: &[End],
+    stretches: &[Stretch],
+    size: u32,
+    k: u32,
     joins: &mut Joins,
 ) -> Result<(), EdifError>
     requires nodes { (us : List Placed) × Stand tree.now.rows nodes.now us }
-    requires count { length nodes.now ≡ length ends.now }
-    ensures { (libs : List design.Lib) (ports : List design.Port) (insts : List design.Inst) (ts us : List Placed) (es : List design.End)
-        → Stand tree.now.rows nodes.now us → AllZip (λ u e. MeansEnd libs ports insts (bare u) e) us ends.now → AreJoined libs ports insts ts es joins.old
-        → Answers (λ _. AreJoined libs ports insts (ts ++ us) (es ++ ends.now) joins.new) (λ f. (rest : List Placed) → EndsFault libs ports insts ((ts ++ us) ++ rest) f) result }
+    requires count { length nodes.now ≡ length stretches.now }
+    requires within { All (λ s. k + s.first < 2 ^ 32) stretches.now }
+    requires room { length joins.old + length stretches.now ≤ MOST_ENDS }
+    ensures length { OnOk result (length joins.new ≡ length joins.old + length stretches.now) }
+    ensures joined { (libs : List design.Lib) (ports : List design.Port) (insts : List design.Inst) (ts : List (Placed × ℕ × ℕ)) (us : List Placed) (es : List design.End)
+        → Stand tree.now.rows nodes.now us → AllZip (λ u s. MeansEnd libs ports insts (bare u) s × (s.width ≡ size)) us stretches.now → AreJoined libs ports insts ts es joins.old
+        → Answers (λ _. AreJoined libs ports insts (ts ++ map (λ u. (u, k, size)) us) (es ++ map (end_of k) stretches.now) joins.new)
+        (λ f. (rest : List (Placed × ℕ × ℕ)) → AtTwo (SameEnd libs ports insts f) ((ts ++ map (λ u. (u, k, size)) us) ++ rest)) result }
 {
-    for (index, end) in ends.iter().enumerate() {
-        let place = tree.place(nodes[index]);
-        if joins.len() >= MOST_ENDS {
-            return Err(over_limit(MOST_ENDS as u64, place));
+    for (index, stretch) in stretches.iter().enumerate() {
+        joins.add(end_of(k, stretch), tree.place(nodes[index]))?;
+    }
+    Ok(())
+}
+
+/// Whether there is room for so many ends at each of these nodes, behind those that are joined; else the first node beyond the limit
+/// is named.
+fn ends_room(tree: &Tree, nodes: &[NodeId], size: u32, joined: usize) -> Result<(), EdifError>
+    requires nodes { (us : List Placed) × Stand tree.now.rows nodes.now us }
+    requires joined { joined ≤ MOST_ENDS }
+    ensures ok { OnOk result (joined + length nodes.now * size ≤ MOST_ENDS) }
+    ensures err { IfErr result (λ e. (us before : List Placed) → Stand tree.now.rows nodes.now us → length before ≡ joined
+        → FailsBy (λ f. (more : List Placed) → Beyond MOST_ENDS ((before ++ repeated (λ u. size) us) ++ more) f) e) }
+{
+    let mut count = joined as u64;
+    for node in nodes {
+        count += u64::from(size);
+        if count > MOST_ENDS as u64 {
+            return Err(over_limit(MOST_ENDS as u64, tree.place(*node)));
         }
-        joins.add(*end, place)?;
+    }
+    Ok(())
+}
+
+/// Joins the ends of a row of so many nets, net by net, at these nodes. The error is the first that is joined already, or the first
+/// form beyond the limit.
+pub fn join_row(
+    tree: &Tree,
+    nodes: &[NodeId],
+    stretches: &[Stretch],
+    size: u32,
+    joins: &mut Joins,
+) -> Result<(), EdifError>
+    requires nodes { (us : List Placed) × Stand tree.now.rows nodes.now us }
+    requires count { length nodes.now ≡ length stretches.now }
+    requires within { All (λ s. s.first + size ≤ 2 ^ 32) stretches.now }
+    requires joined { length joins.old ≤ MOST_ENDS }
+    ensures { (libs : List design.Lib) (ports : List design.Port) (insts : List design.Inst) (ts : List (Placed × ℕ × ℕ)) (us before : List Placed) (es : List design.End)
+        → Stand tree.now.rows nodes.now us → AllZip (λ u s. MeansEnd libs ports insts (bare u) s × (s.width ≡ size)) us stretches.now
+        → AreJoined libs ports insts ts es joins.old → length before ≡ length ts
+        → Answers (λ _. AreJoined libs ports insts (ts ++ row_of size us) (es ++ bits_of_row size stretches.now) joins.new)
+        (RowEndsFault libs ports insts (ts ++ row_of size us) (before ++ repeated (λ u. size) us)) result }
+{
+    ends_room(tree, nodes, size, joins.len())?;
+    for k in 0..size {
+        join_net(tree, nodes, stretches, size, k, joins)?;
     }
     Ok(())
 }

@@ -1,45 +1,52 @@
 //! Nets.
-ghost use Rattle.std.specs.Prelude.{◌≡◌, List, map, true};
-ghost use Rattle.std.specs.List.{AllByRecursion};
+ghost use Rattle.std.specs.Prelude.{◌≡◌, ◌+◌, ◌^◌, ◌<◌, ◌≤◌, IfOk, List, None, map, true};
+ghost use Rattle.std.specs.List.{All, AllByRecursion, AllZip};
 ghost use Rattle.spelling_spec.specs.Tree.{Placed, bare};
 ghost use Rattle.edif_spec.specs.Faults.{Among, those_of};
 ghost use Rattle.edif_spec.specs.Rows.{Each, has_keyword};
 ghost use Rattle.edif_spec.specs.Stands.{JoinedFault};
+ghost use Rattle.edif_spec.specs.declared.fault.MeaningFault.TheVariants.{OverLimit};
 ghost use Rattle.edif_spec.specs.declared.keyword.Keyword.TheVariants.{Joined, Net as NetWord, PortRef};
 ghost use Rattle.edif_tree.specs.Nodes.{IsAt, IsNode};
-ghost use Rattle.edif_contents.specs.Ends.{AreNamed, EndFaultIn, MeansEndIn};
+ghost use Rattle.edif_contents.specs.Ends.{AreNamed, EndFaultIn, ReadEnd, WidthFaultIn};
+ghost use Rattle.netlist_schema.specs.Names.{AreDistinct};
+ghost use Rattle.netlist_schema.specs.declared.limits.TheConstants.{MOST_NETS};
+ghost use Rattle.edif_spec.specs.Nets.{end_of, name_at, net_at, row_size};
+ghost use Rattle.edif_spec.specs.Stands.{width_kind};
 ghost use Rattle.edif_grammar.specs.Forms.{Stand};
-ghost use Rattle.edif_contents.specs.Nets.{NetFaultIn, NetsFaultIn, ReadJoined, ReadNet, ReadNets};
+ghost use Rattle.edif_contents.specs.Nets.{NetAdded, NetFaultIn, NetsFaultIn, ReadJoined, ReadNet, ReadNets, RowAdded, RowNameFault};
+ghost use Rattle.edif_parts.specs.Names.{IsAgain, ids};
 ghost use Rattle.edif_parts.specs.Reading.{Answers};
 
-use crate::ends::{Surroundings, read_end};
-use crate::joins::{Joins, join_ends};
-use crate::limits::room;
+use crate::ends::{EndAt, Surroundings, read_end};
+use crate::joins::{Joins, end_of, join_row};
+use bus_members::member_name;
 use edif_grammar::is_form_of;
-use edif_parts::error::EdifError;
-use edif_parts::names::{Names, read_name};
+use edif_parts::error::{EdifError, fault_at, over_limit};
+use edif_parts::names::Names;
 use edif_parts::parts::read_parts;
+use edif_parts::ports::{BusName, read_bus_name};
 use edif_parts::properties::read_properties;
-use edif_spec::Keyword;
+use edif_spec::{Keyword, Kind, NetForm, Stretch};
 use edif_tree::{NodeId, Tree};
 use netlist_schema::limits::MOST_NETS;
-use netlist_schema::{End, Net, Row};
+use netlist_schema::{Copied, End, Name, Net, NoMemory, Row, Width};
 use std::alloc::Global;
 
 /// What a net joins, and the nodes of its ends.
 #[derive(Drop)]
 pub struct JoinedAt<'a> {
     /// The ends, in order.
-    pub ends: Row<End>,
+    pub ends: Row<EndAt>,
     /// Their nodes.
     pub nodes: &'a [NodeId],
 }
 
-/// A net, where its name stands, and the nodes of its ends.
+/// A net as it is written, where its name stands, and the nodes of its ends.
 #[derive(Drop)]
 pub struct NetAt<'a> {
-    /// The net.
-    pub net: Net,
+    /// The net as it is written.
+    pub form: NetForm,
     /// The number of bytes before the identifier of its name.
     pub place: u64,
     /// The nodes of its ends, in order.
@@ -52,10 +59,10 @@ fn read_ends(
     tree: &Tree,
     nodes: &[NodeId],
     around: &Surroundings,
-) -> Result<Row<End>, EdifError>
+) -> Result<Row<EndAt>, EdifError>
     requires nodes { (ts : List Placed) × Stand tree.now.rows nodes.now ts × AllByRecursion (λ u. has_keyword PortRef (bare u) ≡ true) ts }
     requires names { AreNamed around.now }
-    ensures { (ts : List Placed) → Stand tree.now.rows nodes.now ts → Answers (Each (MeansEndIn around.now) (map bare ts)) (Among (EndFaultIn around.now) ts) result }
+    ensures { (ts : List Placed) → Stand tree.now.rows nodes.now ts → Answers (AllZip (ReadEnd around.now) ts) (Among (EndFaultIn around.now) ts) result }
 {
     let mut ends = Vec::new(alloc);
     for node in nodes {
@@ -86,7 +93,60 @@ fn read_joined<'a>(
     })
 }
 
-/// The net that a form at a node means.
+/// The number of nets in the row of a form.
+fn row_size(array: &Option<Width>) -> u32
+    ensures { result ≡ row_size array.now }
+{
+    match array {
+        Some(width) => width.get(),
+        None => 1,
+    }
+}
+
+/// What an end of another width than its net is.
+fn width_kind(array: &Option<Width>) -> Kind
+    ensures { result ≡ width_kind array.now }
+{
+    match array {
+        Some(_) => Kind::BadWidth,
+        None => Kind::WholeArray,
+    }
+}
+
+/// Whether the ends are as wide as their net; else the first that is not is named.
+fn check_widths(ends: &[EndAt], array: &Option<Width>) -> Result<(), EdifError>
+    ensures { (s : Surroundings) (us : List Placed) → AllZip (ReadEnd s) us ends.now
+        → Answers (λ _. AllByRecursion (λ e. e.stretch.width ≡ row_size array.now) ends.now) (Among (WidthFaultIn s array.now) us) result }
+{
+    let size = row_size(array);
+    for end in ends {
+        if end.stretch.width != size {
+            return Err(fault_at(width_kind(array), end.place));
+        }
+    }
+    Ok(())
+}
+
+/// The bits of an end.
+fn stretch_of(end: EndAt) -> Stretch
+    ensures same { result ≡ end.stretch }
+    ensures within { result.first < 2 ^ 32 }
+{
+    end.stretch
+}
+
+/// The bits of these ends.
+fn stretches_of(alloc: Global, ends: &[EndAt]) -> Result<Row<Stretch>, NoMemory>
+    ensures { IfOk result (λ stretches. (stretches ≡ map (λ e. e.stretch) ends.now) × All (λ s. s.first < 2 ^ 32) stretches) }
+{
+    let mut stretches = Vec::new(alloc);
+    for end in ends {
+        stretches.push(stretch_of(*end))?;
+    }
+    Ok(Row::of(stretches))
+}
+
+/// The net that a form at a node means, as it is written.
 pub fn read_net<'a>(
     alloc: Global,
     tree: &'a Tree,
@@ -99,21 +159,135 @@ pub fn read_net<'a>(
     ensures { (t : Placed) → IsAt tree.now.rows node t → Answers (ReadNet tree.now.rows around.now t) (NetFaultIn around.now t) result }
 {
     let parts = read_parts(alloc, tree, node, Keyword::Contents, Keyword::Net)?;
-    let name = read_name(alloc, tree, parts.fixed[0])?;
+    let BusName { name, array, place } = read_bus_name(alloc, tree, parts.fixed[0])?;
     let joined = read_joined(alloc, tree, parts.fixed[1], around)?;
+    check_widths(joined.ends.as_slice(), &array)?;
     let properties = read_properties(alloc, tree, parts.inner)?;
+    let stretches = stretches_of(alloc, joined.ends.as_slice())?;
     Ok(NetAt {
-        net: Net {
-            name: name.name,
-            ends: joined.ends,
+        form: NetForm {
+            name,
+            array,
+            joined: stretches,
             properties,
         },
-        place: name.place,
+        place,
         ends: joined.nodes,
     })
 }
 
-/// The nets among these followers of a form, in order, with names that differ and each bit joined once.
+/// The name of the net of number `k` of the row of a form.
+fn name_at(alloc: Global, form: &NetForm, k: u32) -> Result<Name, NoMemory>
+    ensures { IfOk result (λ name. name ≡ name_at form.now.name form.now.array k) }
+{
+    match form.array {
+        Some(_) => member_name(alloc, &form.name, k),
+        None => Copied::copy(&form.name, alloc),
+    }
+}
+
+/// The ends of the net of number `k` of a row that joins these stretches.
+fn ends_at(alloc: Global, stretches: &[Stretch], k: u32) -> Result<Row<End>, NoMemory>
+    requires within { All (λ s. k + s.first < 2 ^ 32) stretches.now }
+    ensures { IfOk result (λ ends. ends ≡ map (end_of k) stretches.now) }
+{
+    let mut ends = Vec::new(alloc);
+    for stretch in stretches {
+        ends.push(end_of(k, stretch))?;
+    }
+    Ok(Row::of(ends))
+}
+
+/// The net of number `k` of the row of a form.
+fn net_at(alloc: Global, form: &NetForm, k: u32) -> Result<Net, NoMemory>
+    requires within { All (λ s. k + s.first < 2 ^ 32) form.now.joined }
+    ensures { IfOk result (λ net. net ≡ net_at form.now k) }
+{
+    let name = name_at(alloc, form, k)?;
+    let ends = ends_at(alloc, form.joined.as_slice(), k)?;
+    let properties = Copied::copy(&form.properties, alloc)?;
+    Ok(Net {
+        name,
+        ends,
+        properties,
+    })
+}
+
+/// The one net of a form without an array, which takes over its name and its properties.
+fn only_net(alloc: Global, form: NetForm) -> Result<Net, NoMemory>
+    requires array { form.array ≡ None }
+    requires within { All (λ s. s.first < 2 ^ 32) form.joined }
+    ensures { IfOk result (λ net. net ≡ net_at form 0) }
+{
+    let ends = ends_at(alloc, form.joined.as_slice(), 0)?;
+    Ok(Net {
+        name: form.name,
+        ends,
+        properties: form.properties,
+    })
+}
+
+/// Adds a net, whose name stands at this place and is not there yet; else the error says that it is.
+fn add_net(net: Net, place: u64, names: &mut Names, nets: &mut Vec<Net>) -> Result<(), EdifError>
+    ensures { Answers (λ _. NetAdded net place names.old nets.old.items names.new nets.new.items) (IsAgain names.old net.name.id place) result }
+{
+    names.add(&net.name.id, place)?;
+    nets.push(net)?;
+    Ok(())
+}
+
+/// Adds the nets of the row of a form, as `add_row` does, each with a copy of its properties.
+fn add_members(
+    alloc: Global,
+    form: &NetForm,
+    place: u64,
+    names: &mut Names,
+    nets: &mut Vec<Net>,
+) -> Result<(), EdifError>
+    requires within { All (λ s. s.first + row_size form.now.array ≤ 2 ^ 32) form.now.joined }
+    requires distinct { AreDistinct (ids names.old) }
+    ensures { Answers (λ _. RowAdded form.now place names.old nets.old.items names.new nets.new.items) (RowNameFault form.now place names.old) result }
+{
+    for k in 0..row_size(&form.array) {
+        let net = net_at(alloc, form, k)?;
+        add_net(net, place, names, nets)?;
+    }
+    Ok(())
+}
+
+/// Adds the nets of the row of a form, whose name stands at this place, and their names, which differ from those that are there; else
+/// the error names the first that does not.
+fn add_row(
+    alloc: Global,
+    form: NetForm,
+    place: u64,
+    names: &mut Names,
+    nets: &mut Vec<Net>,
+) -> Result<(), EdifError>
+    requires within { All (λ s. s.first + row_size form.array ≤ 2 ^ 32) form.joined }
+    requires distinct { AreDistinct (ids names.old) }
+    ensures { Answers (λ _. RowAdded form place names.old nets.old.items names.new nets.new.items) (RowNameFault form place names.old) result }
+{
+    if form.array.is_some() {
+        return add_members(alloc, &form, place, names, nets);
+    }
+    let net = only_net(alloc, form)?;
+    add_net(net, place, names, nets)
+}
+
+/// Whether there is room for so many nets behind those that are there; else the form of these is the first beyond the limit.
+fn nets_room(count: usize, size: u32, place: u64) -> Result<(), EdifError>
+    requires { count ≤ MOST_NETS }
+    ensures { Answers (λ _. count + size ≤ MOST_NETS) (λ f. (MOST_NETS < count + size) × (f ≡ OverLimit MOST_NETS place)) result }
+{
+    if count as u64 + u64::from(size) > MOST_NETS as u64 {
+        return Err(over_limit(MOST_NETS as u64, place));
+    }
+    Ok(())
+}
+
+/// The nets for which the forms of nets among these followers of a form stand, in order, with names that differ and each bit joined
+/// once.
 pub fn read_nets(
     alloc: Global,
     tree: &Tree,
@@ -129,11 +303,17 @@ pub fn read_nets(
     let mut nets = Vec::new(alloc);
     for node in inner {
         if is_form_of(tree, *node, Keyword::Net) {
-            room(nets.len(), MOST_NETS, tree.place(*node))?;
             let read = read_net(alloc, tree, *node, around)?;
-            join_ends(tree, read.ends, read.net.ends.as_slice(), &mut joins)?;
-            names.add(&read.net.name.id, read.place)?;
-            nets.push(read.net)?;
+            let size = row_size(&read.form.array);
+            nets_room(nets.len(), size, tree.place(*node))?;
+            join_row(
+                tree,
+                read.ends,
+                read.form.joined.as_slice(),
+                size,
+                &mut joins,
+            )?;
+            add_row(alloc, read.form, read.place, &mut names, &mut nets)?;
         }
     }
     Ok(Row::of(nets))

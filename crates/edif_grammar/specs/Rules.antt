@@ -2,7 +2,7 @@
 use Rattle.std.specs.Prelude.{ℕ, List, [], ◌∷◌, map, Bool, true, false, ◌||◌, Option, Some, None}
 use Rattle.std.specs.List.{list_any}
 use Rattle.spelling_spec.specs.Tree.{Bare, Form', Word', Integer', String', More}
-use Rattle.edif_spec.specs.Keyword.{keyword, same, spelling_of, Choice, AnIdentifier, AnInteger, AString, AForm, Follower, Row, Takes, Skips, name_definition, identifier, integer, string, the}
+use Rattle.edif_spec.specs.Keyword.{keyword, same, spelling_of, Choice, AnIdentifier, AnInteger, AString, AForm, Follower, Row, Takes, Skips, name_definition, bus_name, identifier, integer, string, the}
 use Rattle.edif_spec.specs.Keyword as table
 use Rattle.edif_spec.specs.declared.keyword.Keyword.{Keyword}
 use Rattle.edif_spec.specs.declared.keyword.Keyword.TheVariants as keywords
@@ -24,7 +24,7 @@ choices wanted.Integer = integer
 choices wanted.Text = string
 choices (wanted.Form k) = the k
 choices wanted.Name = name_definition
-choices wanted.PortName = AnIdentifier ∷ AForm keywords.Rename ∷ AForm keywords.Array ∷ []
+choices wanted.BusName = bus_name
 choices wanted.Bit = AnIdentifier ∷ AForm keywords.Member ∷ []
 choices wanted.Truth = AForm keywords.True ∷ AForm keywords.False ∷ []
 choices wanted.Number = AnInteger ∷ AForm keywords.E ∷ []

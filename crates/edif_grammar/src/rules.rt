@@ -19,7 +19,7 @@ pub enum Wanted {
     /// An identifier or a `rename`.
     Name,
     /// An identifier, a `rename` or an `array`.
-    PortName,
+    BusName,
     /// An identifier or a `member`.
     Bit,
     /// A `true` or a `false`.
@@ -80,7 +80,7 @@ macro_rules! rows {
                 [Many(K::Status), Once(K::Contents), Many(K::Property), Many(K::Comment), Many(K::UserData)];
             ViewType: [Identifier] [];
             Interface: [] [Many(K::Port), Many(K::Property), Many(K::Comment), Many(K::UserData)];
-            Port: [PortName]
+            Port: [BusName]
                 [Once(K::Direction), Once(K::Designator), Many(K::Property), Many(K::Comment), Many(K::UserData)];
             Array: [Name, Integer] [];
             Direction: [Identifier] [];
@@ -89,7 +89,7 @@ macro_rules! rows {
             Contents: [] [Many(K::Instance), Many(K::Net), Many(K::Comment), Many(K::UserData)];
             Instance: [Name, Form(K::ViewRef)]
                 [Once(K::Designator), Many(K::Property), Many(K::Comment), Many(K::UserData)];
-            Net: [Name, Form(K::Joined)] [Many(K::Property), Many(K::Comment), Many(K::UserData)];
+            Net: [BusName, Form(K::Joined)] [Many(K::Property), Many(K::Comment), Many(K::UserData)];
             Joined: [] [Many(K::PortRef)];
             PortRef: [Bit] [Once(K::InstanceRef)];
             Member: [Identifier, Integer] [];
@@ -119,7 +119,7 @@ pub fn rule_of(keyword: Keyword) -> Rule
     use Inner::{Many, Once};
     use Keyword as K;
     use Rule::{Skips, Takes};
-    use Wanted::{Bit, Form, Identifier, Integer, Name, Number, PortName, Text, Truth, Value};
+    use Wanted::{Bit, BusName, Form, Identifier, Integer, Name, Number, Text, Truth, Value};
     macro_rules! rule {
         ($($variant:ident: [$($fixed:expr),*] [$($inner:expr),*];)*) => {
             match keyword {
@@ -209,7 +209,7 @@ impl Wanted {
             Wanted::Text => argument.is_text(),
             Wanted::Form(keyword) => argument.is_form(keyword),
             Wanted::Name => argument.is_identifier() || argument.is_form(Keyword::Rename),
-            Wanted::PortName => {
+            Wanted::BusName => {
                 argument.is_identifier()
                     || argument.is_form(Keyword::Rename)
                     || argument.is_form(Keyword::Array)

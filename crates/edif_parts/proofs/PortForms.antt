@@ -9,7 +9,7 @@ use Rattle.netlist_schema.specs.Width.{IsWidth}
 use Rattle.edif_spec.specs.Canonical.{direction_word}
 use Rattle.edif_spec.specs.Keyword.{same, identifier, Choice, Follower, Many, One, name_definition}
 use Rattle.edif_spec.specs.Keyword as table
-use Rattle.edif_spec.specs.Means.{MeansName, MeansPortName, MeansDirection, MeansText, MeansProperties, MeansPort}
+use Rattle.edif_spec.specs.Means.{MeansName, MeansBusName, MeansDirection, MeansText, MeansProperties, MeansPort}
 use Rattle.edif_spec.specs.Rows.{Perhaps, those, has_keyword, is_choice, is_one_of, IsFormOf}
 use Rattle.edif_spec.specs.Faults.{InPart, defined, name_of, followers, those_of}
 use Rattle.edif_spec.specs.Stands.{is_direction, DirectionFault, SizeFault}
@@ -21,7 +21,7 @@ use Rattle.edif_spec.specs.declared.keyword.Keyword.TheVariants as keywords
 use Rattle.edif_spec.proofs.KnownRows.{follow_none}
 use Rattle.edif_tree.specs.Nodes as nodes
 use Rattle.edif_parts.specs.Parts.{ArePartsOf}
-use Rattle.edif_parts.specs.Ports.{ReadPortName, port_names}
+use Rattle.edif_parts.specs.Ports.{ReadBusName, bus_name}
 use Rattle.edif_grammar.specs.declared.lent.Parts.{Parts}
 use Rattle.edif_grammar.proofs.FormLemmas.{once_fits}
 use Rattle.edif_parts.proofs.NameForms.{array_names, defined_first}
@@ -47,7 +47,7 @@ pub array_nodes : (rows : List nodes.Row) (parent : Keyword) (t : Placed) (p : P
 array_nodes rows parent t p a = two_nodes rows parent keywords.Array name_definition table.integer [] t p refl refl refl a
 
 pub array_means : (rows : List nodes.Row) (t : Placed) (p : Parts) (n : TwoNodes rows keywords.Array name_definition table.integer t p) (x : Name) (q : ℕ) (z : ℤ) (width place : ℕ) → has_keyword keywords.Array (bare t) ≡ true
-    → MeansName (bare n.a) x → IsTypedName x → name_of n.a ≡ Some (x.id, place) → n.b ≡ Integer' q z → z ≡ pos width → IsWidth width → ReadPortName t (record { name = x; array = Some width; place = place })
+    → MeansName (bare n.a) x → IsTypedName x → name_of n.a ≡ Some (x.id, place) → n.b ≡ Integer' q z → z ≡ pos width → IsWidth width → ReadBusName t (record { name = x; array = Some width; place = place })
 array_means rows t p n x q z width place k m y d e v w =
     let P : Placed → Type 0 = λ u. IsFormOf keywords.Array (bare t) (bare n.a ∷ bare u ∷ []) [] in
     let Q : ℤ → Type 0 = λ u. IsFormOf keywords.Array (bare t) (bare n.a ∷ integer u ∷ []) [] in
@@ -77,7 +77,7 @@ width_some None b z s v e = tt
 width_some (Some w) b z s v e = let P : ℕ → Type 0 = λ n. (z ≡ pos n) × IsWidth n in subst P (sym v) (e, s refl)
 
 -- a name that is no array
-pub plain_choice : (t : Bare) → is_one_of port_names t ≡ true → has_keyword keywords.Array t ≡ false → is_one_of name_definition t ≡ true
+pub plain_choice : (t : Bare) → is_one_of bus_name t ≡ true → has_keyword keywords.Array t ≡ false → is_one_of name_definition t ≡ true
 plain_choice t h n = go (is_choice table.AnIdentifier t) (has_keyword keywords.Rename t) (has_keyword keywords.Array t) h n
   where
     go : (a b d : Bool) → (a || (b || (d || false))) ≡ true → d ≡ false → (a || (b || false)) ≡ true
@@ -86,25 +86,25 @@ plain_choice t h n = go (is_choice table.AnIdentifier t) (has_keyword keywords.R
     go false false true h n = absurd (cc n)
     go false false false h n = h
 
-pub plain_means : (t : Placed) (x : Name) (place : ℕ) → MeansName (bare t) x → IsTypedName x → name_of t ≡ Some (x.id, place) → ReadPortName t (record { name = x; array = None; place = place })
+pub plain_means : (t : Placed) (x : Name) (place : ℕ) → MeansName (bare t) x → IsTypedName x → name_of t ≡ Some (x.id, place) → ReadBusName t (record { name = x; array = None; place = place })
 plain_means t x place m y d = record { means = m; typed = y; width = tt; at = d }
 
 -- ports
 abbrev pub port_followers : List Follower
 port_followers = One keywords.Direction ∷ One keywords.Designator ∷ Many keywords.Property ∷ Many keywords.Comment ∷ Many keywords.UserData ∷ []
 
-pub port_node : (rows : List nodes.Row) (parent : Keyword) (t : Placed) (p : Parts) → ArePartsOf rows parent keywords.Port t p → OneNode rows keywords.Port port_names t p
-port_node rows parent t p a = one_node rows parent keywords.Port port_names port_followers t p refl refl refl a
+pub port_node : (rows : List nodes.Row) (parent : Keyword) (t : Placed) (p : Parts) → ArePartsOf rows parent keywords.Port t p → OneNode rows keywords.Port bus_name t p
+port_node rows parent t p a = one_node rows parent keywords.Port bus_name port_followers t p refl refl refl a
 
 pub one_direction : (rows : List nodes.Row) (parent : Keyword) (t : Placed) (p : Parts) → ArePartsOf rows parent keywords.Port t p → length (those_of keywords.Direction (followers keywords.Port t)) ≤ 1
-one_direction rows parent t p a = once_fits (Some parent) keywords.Port keywords.Direction (port_names ∷ []) port_followers t refl (inl refl) refl a.fits
+one_direction rows parent t p a = once_fits (Some parent) keywords.Port keywords.Direction (bus_name ∷ []) port_followers t refl (inl refl) refl a.fits
 
 pub one_designator : (rows : List nodes.Row) (parent : Keyword) (t : Placed) (p : Parts) → ArePartsOf rows parent keywords.Port t p → length (those_of keywords.Designator (followers keywords.Port t)) ≤ 1
-one_designator rows parent t p a = once_fits (Some parent) keywords.Port keywords.Designator (port_names ∷ []) port_followers t refl (inr (inl refl)) refl a.fits
+one_designator rows parent t p a = once_fits (Some parent) keywords.Port keywords.Designator (bus_name ∷ []) port_followers t refl (inr (inl refl)) refl a.fits
 
-pub port_means : (rows : List nodes.Row) (t : Placed) (p : Parts) (n : OneNode rows keywords.Port port_names t p) (x : Port) → MeansPortName (bare n.a) x.name x.array → Perhaps MeansDirection (those keywords.Direction (map bare (followers keywords.Port t))) x.direction
+pub port_means : (rows : List nodes.Row) (t : Placed) (p : Parts) (n : OneNode rows keywords.Port bus_name t p) (x : Port) → MeansBusName (bare n.a) x.name x.array → Perhaps MeansDirection (those keywords.Direction (map bare (followers keywords.Port t))) x.direction
     → Perhaps (MeansText keywords.Designator) (those keywords.Designator (map bare (followers keywords.Port t))) x.designator → MeansProperties (map bare (followers keywords.Port t)) x.properties → MeansPort (bare t) x
 port_means rows t p n x m d g ps = record { name_part = bare n.a; inner = map bare (followers keywords.Port t); form = n.form; name = m; direction = d; designator = g; properties = ps }
 
-pub port_defines : (rows : List nodes.Row) (t : Placed) (p : Parts) (n : OneNode rows keywords.Port port_names t p) (d : List ℕ × ℕ) → name_of n.a ≡ Some d → defined t ≡ Some d
+pub port_defines : (rows : List nodes.Row) (t : Placed) (p : Parts) (n : OneNode rows keywords.Port bus_name t p) (d : List ℕ × ℕ) → name_of n.a ≡ Some d → defined t ≡ Some d
 port_defines rows t p n d e = defined_first t n.a n.at_a ∙ e

@@ -9,11 +9,11 @@ ghost use Rattle.edif_spec.specs.Faults.{Among, defined, those_of};
 ghost use Rattle.edif_spec.specs.Keyword.{same};
 ghost use Rattle.edif_spec.specs.Means.{MeansDirection, MeansPort};
 ghost use Rattle.edif_spec.specs.Rows.{Perhaps, has_keyword, is_one_of, those};
-ghost use Rattle.edif_spec.specs.Stands.{DirectionFault, PortFault, PortNameFault, is_direction};
+ghost use Rattle.edif_spec.specs.Stands.{DirectionFault, PortFault, BusNameFault, is_direction};
 ghost use Rattle.edif_spec.specs.declared.keyword.Keyword.TheVariants.{Array as ArrayWord, Direction as DirectionWord, Port as PortWord};
 ghost use Rattle.edif_tree.specs.Nodes.{IsAt, IsNode};
 ghost use Rattle.edif_grammar.specs.Forms.{Stand};
-ghost use Rattle.edif_parts.specs.Ports.{ReadPortName, port_names};
+ghost use Rattle.edif_parts.specs.Ports.{ReadBusName, bus_name};
 ghost use Rattle.edif_parts.specs.Reading.{Answers};
 
 use crate::error::{EdifError, bad_form, fault_at};
@@ -36,12 +36,12 @@ pub struct PortAt {
     pub place: u64,
 }
 
-/// The name of a port.
+/// The name of a port or of a net.
 #[derive(Drop)]
-pub struct PortName {
+pub struct BusName {
     /// The name.
     pub name: Name,
-    /// The width of an array.
+    /// The width, where the name is that of an array.
     pub array: Option<Width>,
     /// The number of bytes before the name's identifier.
     pub place: u64,
@@ -55,11 +55,11 @@ pub fn read_port(alloc: Global, tree: &Tree, node: NodeId) -> Result<PortAt, Edi
         → Answers (λ p. MeansPort (bare t) p.port × (IsTypedPort p.port × HasDistinctKeys p.port.properties) × (defined t ≡ Some (p.port.name.id, p.place))) (PortFault t) result }
 {
     let parts = read_parts(alloc, tree, node, Keyword::Interface, Keyword::Port)?;
-    let named = read_port_name(alloc, tree, parts.fixed[0])?;
+    let named = read_bus_name(alloc, tree, parts.fixed[0])?;
     let direction = read_direction_among(alloc, tree, parts.inner)?;
     let designator = read_text_among(alloc, tree, parts.inner, Keyword::Designator)?;
     let properties = read_properties(alloc, tree, parts.inner)?;
-    let PortName { name, array, place } = named;
+    let BusName { name, array, place } = named;
     let port = Port {
         name,
         array,
@@ -70,17 +70,17 @@ pub fn read_port(alloc: Global, tree: &Tree, node: NodeId) -> Result<PortAt, Edi
     Ok(PortAt { port, place })
 }
 
-/// The name of a port at a node.
-fn read_port_name(alloc: Global, tree: &Tree, node: NodeId) -> Result<PortName, EdifError>
+/// The name of a port or of a net at a node.
+pub fn read_bus_name(alloc: Global, tree: &Tree, node: NodeId) -> Result<BusName, EdifError>
     requires node { IsNode tree.now.rows node }
-    requires choice { (t : Placed) → IsAt tree.now.rows node t → IsTrue (is_one_of port_names (bare t)) }
-    ensures { (t : Placed) → IsAt tree.now.rows node t → Answers (ReadPortName t) (PortNameFault t) result }
+    requires choice { (t : Placed) → IsAt tree.now.rows node t → IsTrue (is_one_of bus_name (bare t)) }
+    ensures { (t : Placed) → IsAt tree.now.rows node t → Answers (ReadBusName t) (BusNameFault t) result }
 {
     if is_form_of(tree, node, Keyword::Array) {
         return read_array(alloc, tree, node);
     }
     let NameAt { name, place } = read_name(alloc, tree, node)?;
-    Ok(PortName {
+    Ok(BusName {
         name,
         array: None,
         place,
@@ -88,10 +88,10 @@ fn read_port_name(alloc: Global, tree: &Tree, node: NodeId) -> Result<PortName, 
 }
 
 /// The name of an array at a node.
-fn read_array(alloc: Global, tree: &Tree, node: NodeId) -> Result<PortName, EdifError>
+fn read_array(alloc: Global, tree: &Tree, node: NodeId) -> Result<BusName, EdifError>
     requires node { IsNode tree.now.rows node }
     requires keyword { (t : Placed) → IsAt tree.now.rows node t → has_keyword ArrayWord (bare t) ≡ true }
-    ensures { (t : Placed) → IsAt tree.now.rows node t → Answers (ReadPortName t) (PortNameFault t) result }
+    ensures { (t : Placed) → IsAt tree.now.rows node t → Answers (ReadBusName t) (BusNameFault t) result }
 {
     let parts = read_parts(alloc, tree, node, Keyword::Port, Keyword::Array)?;
     let size = parts.fixed[1];
@@ -99,7 +99,7 @@ fn read_array(alloc: Global, tree: &Tree, node: NodeId) -> Result<PortName, Edif
     let Some(width) = width_of(integer_at(tree, size)) else {
         return Err(fault_at(Kind::BadIndex, tree.place(size)));
     };
-    Ok(PortName {
+    Ok(BusName {
         name,
         array: Some(width),
         place,

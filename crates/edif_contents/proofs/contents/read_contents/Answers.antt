@@ -47,5 +47,5 @@ returns c = λ t at.
     let inner = followers Contents t in
     let s : Surroundings = record { libs = c.args.libs; ports = c.args.ports; port_names = c.args.names; insts = c.as_slice.result; inst_names = c.args.names } in
     let y = c.in_ok-nets.ensures inner a.inner in
-    let z : ReadNets s inner c.in_ok-nets.nets = record { mean = y.mean; fine = y.fine; names = y.names; count = y.count; ends = y.ends; joined_once = y.joined_once } in
+    let z : ReadNets s inner c.in_ok-nets.nets = record { rows = y.rows; mean = y.mean; nets = y.nets; fine = y.fine; names = y.names; count = y.count; ends = y.ends; joined_once = y.joined_once } in
     contents_read c.args.tree.now.rows s c.args.own t c.in_ok-parts.parts c.in_ok-insts.insts c.in_ok-nets.nets _ a (c.in_ok-insts.ensures inner a.inner) c.as_slice.ensures.value z c.of.ensures refl refl

@@ -7,12 +7,12 @@ use Rattle.netlist_schema.specs.Width.{IsWidth}
 use Rattle.edif_spec.specs.Faults.{place_of}
 use Rattle.edif_spec.specs.Keyword.{AnInteger, name_definition}
 use Rattle.edif_spec.specs.Rows.{is_choice, is_one_of}
-use Rattle.edif_spec.specs.Stands.{NameFault, PortNameFault}
+use Rattle.edif_spec.specs.Stands.{NameFault, BusNameFault}
 use Rattle.edif_spec.specs.Stands as stands
 use Rattle.edif_spec.specs.declared.keyword.Keyword.TheVariants as keywords
 use Rattle.edif_spec.proofs.KnownForms.{only}
 use Rattle.edif_tree.proofs.OneTree.{one_at}
-use Rattle.edif_parts.specs.Ports.{ReadPortName}
+use Rattle.edif_parts.specs.Ports.{ReadBusName}
 use Rattle.edif_parts.proofs.Answering.{hand_on}
 use Rattle.edif_parts.proofs.PortForms.{array_nodes, array_means, size_fault}
 use Rattle.edif_parts.proofs.ports.read_array.Goals as goal
@@ -64,7 +64,7 @@ place-requires c =
 pub returns-in_err-name : goal.returns-in_err-name
 returns-in_err-name c = λ t a.
     let n = array_nodes c.args.tree.now.rows keywords.Port t c.in_ok-parts.parts (c.in_ok-parts.ensures t a) in
-    hand_on (ReadPortName t) (NameFault n.a) (PortNameFault t) c.from_residual-in_err-name.result c.in_err-name.field-0.0 c.from_residual-in_err-name.ensures.1
+    hand_on (ReadBusName t) (NameFault n.a) (BusNameFault t) c.from_residual-in_err-name.result c.in_err-name.field-0.0 c.from_residual-in_err-name.ensures.1
     (λ f h. stands.array_name (c.requires.keyword t a) (n.a, n.at_a, h))
     (c.in_err-name.ensures n.a (n.node_a _))
 

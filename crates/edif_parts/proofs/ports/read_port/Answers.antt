@@ -7,11 +7,11 @@ use Rattle.netlist_schema.specs.Typed.{IsTypedPort}
 use Rattle.edif_spec.specs.Faults.{Among, RowFault, defined, followers, parts}
 use Rattle.edif_spec.specs.Means.{MeansPort}
 use Rattle.edif_spec.specs.Rows.{is_one_of}
-use Rattle.edif_spec.specs.Stands.{DirectionFault, PortFault, PortNameFault, PropertiesFault}
+use Rattle.edif_spec.specs.Stands.{DirectionFault, PortFault, BusNameFault, PropertiesFault}
 use Rattle.edif_spec.specs.Stands as stands
 use Rattle.edif_spec.specs.declared.keyword.Keyword.TheVariants as keywords
 use Rattle.edif_tree.proofs.OneTree.{one_at}
-use Rattle.edif_parts.specs.Ports.{port_names}
+use Rattle.edif_parts.specs.Ports.{bus_name}
 use Rattle.edif_parts.proofs.Answering.{hand_on}
 use Rattle.edif_parts.proofs.PortForms.{port_node, one_direction, one_designator, port_means, port_defines}
 use Rattle.edif_parts.proofs.ports.read_port.Goals as goal
@@ -22,17 +22,17 @@ bounds-parts-0 c =
     let n = port_node c.args.tree.now.rows keywords.Interface t.0 c.in_ok-parts.parts (c.in_ok-parts.ensures t.0 t.1) in
     omega (arith, n.count)
 
-pub read_port_name-requires-clause-node : goal.read_port_name-requires-clause-node
-read_port_name-requires-clause-node c =
+pub read_bus_name-requires-clause-node : goal.read_bus_name-requires-clause-node
+read_bus_name-requires-clause-node c =
     let t = c.requires.node in
     let n = port_node c.args.tree.now.rows keywords.Interface t.0 c.in_ok-parts.parts (c.in_ok-parts.ensures t.0 t.1) in
     (n.a, n.node _)
 
-pub read_port_name-requires-clause-choice : goal.read_port_name-requires-clause-choice
-read_port_name-requires-clause-choice c = λ u b.
+pub read_bus_name-requires-clause-choice : goal.read_bus_name-requires-clause-choice
+read_bus_name-requires-clause-choice c = λ u b.
     let t = c.requires.node in
     let n = port_node c.args.tree.now.rows keywords.Interface t.0 c.in_ok-parts.parts (c.in_ok-parts.ensures t.0 t.1) in
-    let P : Placed → Type 0 = λ v. IsTrue (is_one_of port_names (bare v)) in
+    let P : Placed → Type 0 = λ v. IsTrue (is_one_of bus_name (bare v)) in
     subst P (one_at n.a u c.args.tree.now.rows _ (n.node _) b) n.is_a
 
 pub read_direction_among-requires : goal.read_direction_among-requires
@@ -56,7 +56,7 @@ read_properties-requires c =
 pub returns-in_err-named : goal.returns-in_err-named
 returns-in_err-named c = λ t a.
     let n = port_node c.args.tree.now.rows keywords.Interface t c.in_ok-parts.parts (c.in_ok-parts.ensures t a) in
-    hand_on (λ x. MeansPort (bare t) x.port × (IsTypedPort x.port × HasDistinctKeys x.port.properties) × (defined t ≡ Some (x.port.name.id, x.place))) (PortNameFault n.a) (PortFault t) c.from_residual-in_err-named.result c.in_err-named.field-0.0 c.from_residual-in_err-named.ensures.1 (λ f h. stands.port_name (n.a, n.at_a, h)) (c.in_err-named.ensures n.a (n.node _))
+    hand_on (λ x. MeansPort (bare t) x.port × (IsTypedPort x.port × HasDistinctKeys x.port.properties) × (defined t ≡ Some (x.port.name.id, x.place))) (BusNameFault n.a) (PortFault t) c.from_residual-in_err-named.result c.in_err-named.field-0.0 c.from_residual-in_err-named.ensures.1 (λ f h. stands.port_name (n.a, n.at_a, h)) (c.in_err-named.ensures n.a (n.node _))
 
 pub returns-in_err-direction : goal.returns-in_err-direction
 returns-in_err-direction c = λ t a.

@@ -1,11 +1,11 @@
 use Rattle.std.proofs.Common.{sym}
 use Rattle.spelling_spec.specs.Tree.{bare}
-use Rattle.edif_spec.specs.Stands.{NameFault, PortNameFault}
+use Rattle.edif_spec.specs.Stands.{NameFault, BusNameFault}
 use Rattle.edif_spec.specs.Stands as stands
-use Rattle.edif_parts.specs.Ports.{ReadPortName}
+use Rattle.edif_parts.specs.Ports.{ReadBusName}
 use Rattle.edif_parts.proofs.Answering.{hand_on}
 use Rattle.edif_parts.proofs.PortForms.{plain_choice, plain_means}
-use Rattle.edif_parts.proofs.ports.read_port_name.Goals as goal
+use Rattle.edif_parts.proofs.ports.read_bus_name.Goals as goal
 
 pub returns-then-is_form_of : goal.returns-then-is_form_of
 returns-then-is_form_of c = λ t a.
@@ -17,7 +17,7 @@ read_name-requires-clause-choice c = λ u b.
 
 pub returns-in_err-name : goal.returns-in_err-name
 returns-in_err-name c = λ t a.
-    hand_on (ReadPortName t) (NameFault t) (PortNameFault t) c.from_residual.result c.in_err-name.field-0.0 c.from_residual.ensures.1 (λ f h. stands.scalar_name h) (c.in_err-name.ensures t a)
+    hand_on (ReadBusName t) (NameFault t) (BusNameFault t) c.from_residual.result c.in_err-name.field-0.0 c.from_residual.ensures.1 (λ f h. stands.scalar_name h) (c.in_err-name.ensures t a)
 
 pub returns : goal.returns
 returns c = λ t a.

@@ -1,0 +1,182 @@
+-- The row of nets of one form: its nets one after another, their names, and their ends.
+use Rattle.std.proofs.Common.{◌≡◌, ℕ, zero, suc, ◌+◌, ◌<◌, ◌≤◌, List, [], ◌∷◌, ◌++◌, map, replicate, length, get_or, refl, sym, ap, ◌∙◌, subst, inl, inr, Option, Some, None, false, true≢false, add-one, arith, append-nil, append_assoc}
+use Rattle.std.specs.Prelude.{◌^◌, is_some, pos, slice_get}
+use Rattle.std.specs.List.{AllByRecursion, AllZip, Contains, flat_map}
+use Rattle.spelling_spec.specs.Tree.{Placed, bare, integer}
+use Rattle.bus_spec.specs.Members.{numbered}
+use Rattle.edif_spec.specs.Design as design
+use Rattle.edif_spec.specs.Faults.{AtOne, AtTwo, Beyond, SameOfTwo, declared_width, defined, place_of}
+use Rattle.edif_spec.specs.Means.{MeansBusName, MeansEnd, MeansNet}
+use Rattle.edif_spec.specs.Nets.{NetForm, Stretch, end_of, name_at, net_at, nets_of, row_size}
+use Rattle.edif_spec.specs.Rows.{has_keyword}
+use Rattle.edif_spec.specs.Stands.{ends_in, is_arrayed, member_at, names_from, net_names_in}
+use Rattle.edif_spec.specs.declared.keyword.Keyword.TheVariants as keywords
+use Rattle.edif_spec.specs.declared.fault.ClashKind.TheVariants.{Duplicate}
+use Rattle.edif_spec.specs.declared.fault.MeaningFault.{MeaningFault}
+use Rattle.edif_spec.specs.declared.fault.MeaningFault.TheVariants.{Clash, OverLimit}
+use Rattle.edif_spec.proofs.FaultForms.{part_there}
+use Rattle.edif_spec.proofs.FaultsApart.{keyword_of, no_array}
+use Rattle.edif_spec.proofs.NetFaultsApart.{net_declares, net_ends}
+use Rattle.netlist_schema.specs.Names.{AreDistinct}
+use Rattle.edif_parts.specs.Names.{DefinesName, IsAgain, ids}
+use Rattle.edif_parts.proofs.NameLists.{distinct_push, ids_push}
+use Rattle.edif_contents.specs.Nets.{NetAdded, RowAdded, RowNameFault, row_names}
+
+-- Values by their numbers: with one more, and about one of them.
+pub numbered_push : {A : Type 0} (f : ℕ → A) (k count : ℕ) → numbered f k (suc count) ≡ numbered f k count ++ f (k + count) ∷ []
+numbered_push f k zero = let e : k ≡ k + 0 = omega arith in ap (λ v. f v ∷ []) e
+numbered_push f k (suc count) =
+    let e : suc k + count ≡ k + suc count = omega arith in
+    ap (λ v. f k ∷ v) (numbered_push f (suc k) count ∙ ap (λ v. numbered f (suc k) count ++ f v ∷ []) e)
+
+pub numbered_around : {A : Type 0} (f : ℕ → A) (k i count : ℕ) → i < count → (rest : List A) × (numbered f k count ≡ numbered f k i ++ f (k + i) ∷ rest)
+numbered_around f k i zero l = absurd (omega arith)
+numbered_around f k zero (suc count) l = let e : k ≡ k + 0 = omega arith in (numbered f (suc k) count, ap (λ v. f v ∷ numbered f (suc k) count) e)
+numbered_around f k (suc i) (suc count) l =
+    let r = numbered_around f (suc k) i count (omega arith) in
+    let e : suc k + i ≡ k + suc i = omega arith in
+    (r.0, ap (λ v. f k ∷ v) (r.1 ∙ ap (λ v. numbered f (suc k) i ++ f v ∷ r.0) e))
+
+zero_first : (k : ℕ) → 0 + k ≡ k
+zero_first k = omega arith
+
+pub row_more : {A : Type 0} (f : ℕ → A) (k : ℕ) (old now new : List A) (x : A) → now ≡ old ++ numbered f 0 k → x ≡ f k → new ≡ now ++ x ∷ [] → new ≡ old ++ numbered f 0 (k + 1)
+row_more f k old now new x e d n =
+    let more : numbered f 0 (k + 1) ≡ numbered f 0 k ++ f k ∷ [] = ap (numbered f 0) (add-one k) ∙ (numbered_push f 0 k ∙ ap (λ v. numbered f 0 k ++ f v ∷ []) (zero_first k)) in
+    n ∙ (ap (λ v. v ++ x ∷ []) e ∙ (append_assoc old (numbered f 0 k) (x ∷ []) ∙ (ap (λ v. old ++ (numbered f 0 k ++ v ∷ [])) d ∙ ap (λ v. old ++ v) (sym more))))
+
+-- Lists of lists: with one more, and about one of them.
+pub flat_push : {A B : Type 0} (f : A → List B) (xs : List A) (x : A) → flat_map f (xs ++ x ∷ []) ≡ flat_map f xs ++ f x
+flat_push f [] x = append-nil (f x)
+flat_push f (y ∷ xs) x = ap (λ v. f y ++ v) (flat_push f xs x) ∙ sym (append_assoc (f y) (flat_map f xs) (f x))
+
+pub flat_here : {A B : Type 0} (f : A → List B) (xs ys : List A) (x : A) → flat_map f (xs ++ x ∷ ys) ≡ (flat_map f xs ++ f x) ++ flat_map f ys
+flat_here f [] ys x = refl
+flat_here f (y ∷ xs) ys x = ap (λ v. f y ++ v) (flat_here f xs ys x) ∙ (sym (append_assoc (f y) (flat_map f xs ++ f x) (flat_map f ys)) ∙ ap (λ v. v ++ flat_map f ys) (sym (append_assoc (f y) (flat_map f xs) (f x))))
+
+pub all_push : {A : Type 0} (P : A → Type 0) (xs : List A) (x : A) → AllByRecursion P xs → P x → AllByRecursion P (xs ++ x ∷ [])
+all_push P [] x h p = (p, tt)
+all_push P (y ∷ xs) x h p = (h.0, all_push P xs x h.1 p)
+
+-- the bits that the nets of a row join, net by net
+pub row_bits : (n : NetForm) (k count : ℕ) → flat_map (λ (x : design.Net). x.ends) (numbered (net_at n) k count) ≡ flat_map (λ i. map (end_of i) n.joined) (numbered (λ i. i) k count)
+row_bits n k zero = refl
+row_bits n k (suc count) = ap (λ v. map (end_of k) n.joined ++ v) (row_bits n (suc k) count)
+
+-- the names that a form of a net defines are those of the nets of its row
+named_row : (u : Placed) (n : NetForm) (o : Option ℕ) (p size : ℕ) → MeansBusName (bare u) n.name o → size ≡ row_size o → names_from (is_arrayed (Some u)) size (Some (n.name.id, p)) ≡ numbered (λ k. ((name_at n.name o k).id, p)) 0 (row_size o)
+named_row u n None p size h e = ap (λ b. names_from b size (Some (n.name.id, p))) (no_array u n.name (has_keyword keywords.Array (bare u)) refl h)
+named_row u n (Some w) p size h e =
+    ap (λ b. names_from b size (Some (n.name.id, p))) (keyword_of keywords.Array (bare u) (h.0 ∷ integer (pos w) ∷ []) [] h.1) ∙ ap (λ v. numbered (member_at (n.name.id, p)) 0 v) e
+
+pub names_read : (libs : List design.Lib) (ports : List design.Port) (insts : List design.Inst) (t : Placed) (n : NetForm) (place : ℕ) → MeansNet libs ports insts (bare t) n → defined t ≡ Some (n.name.id, place)
+    → net_names_in t ≡ numbered (λ k. ((name_at n.name n.array k).id, place)) 0 (row_size n.array)
+names_read libs ports insts t n place h d =
+    let u = part_there keywords.Net t (h.name_part ∷ h.joined_part ∷ []) h.inner 0 h.name_part h.form refl in
+    let e = net_declares libs ports insts t n h in
+    let m = subst (λ v. MeansBusName v n.name n.array) (sym u.2) h.name in
+    ap (λ v. names_from (is_arrayed v) (declared_width t) (defined t)) u.1 ∙ (ap (λ v. names_from (is_arrayed (Some u.0)) (declared_width t) v) d ∙ named_row u.0 n n.array place (declared_width t) m e)
+
+-- a name that is there, and then again
+at_later : {A : Type 0} (P : A → Type 0) (xs ys : List A) (y : A) → P y → AtOne P (xs ++ y ∷ ys)
+at_later P [] ys y p = inl p
+at_later P (x ∷ xs) ys y p = inr (at_later P xs ys y p)
+
+two_of : {A : Type 0} (R : A → A → Type 0) (xs ys : List A) (y d : A) (i : ℕ) → i < length xs → R (get_or xs i d) y → AtTwo R (xs ++ y ∷ ys)
+two_of R [] ys y d i l r = absurd (omega arith)
+two_of R (x ∷ xs) ys y d zero l r = inl (at_later (R x) xs ys y r)
+two_of R (x ∷ xs) ys y d (suc i) l r = inr (two_of R xs ys y d i (omega arith) r)
+
+pub name_twice : (ns rest : List (List ℕ × ℕ)) (name : List ℕ) (earlier later : ℕ) → Contains ns (name, earlier) → AtTwo (SameOfTwo (Clash Duplicate later earlier)) (ns ++ (name, later) ∷ rest)
+name_twice ns rest name earlier later c =
+    let same : (get_or ns c.0 (name, earlier)).0 ≡ name = ap (λ (v : List ℕ × ℕ). v.0) c.2 in
+    let place : (get_or ns c.0 (name, earlier)).1 ≡ earlier = ap (λ (v : List ℕ × ℕ). v.1) c.2 in
+    two_of (SameOfTwo (Clash Duplicate later earlier)) ns rest (name, later) (name, earlier) c.0 c.1 (same, ap (λ v. Clash Duplicate later v) (sym place))
+
+-- a name of a row that is there already, or that an earlier net of the row has
+pub row_again : (n : NetForm) (place k : ℕ) (old now : List (List ℕ × ℕ)) (name : List ℕ) (f : MeaningFault) → k < row_size n.array → now ≡ old ++ numbered (λ i. ((name_at n.name n.array i).id, place)) 0 k → name ≡ (name_at n.name n.array k).id → IsAgain now name place f
+    → RowNameFault n place old f
+row_again n place k old now name f l e d b rest =
+    let named : ℕ → List ℕ × ℕ = λ i. ((name_at n.name n.array i).id, place) in
+    let r = numbered_around named 0 k (row_size n.array) l in
+    let whole : (old ++ numbered named 0 (row_size n.array)) ++ rest ≡ now ++ (name, place) ∷ (r.0 ++ rest) =
+    ap (λ v. (old ++ v) ++ rest) (r.1 ∙ ap (λ v. numbered named 0 k ++ named v ∷ r.0) (zero_first k)) ∙ (ap (λ v. v ++ rest) (sym (append_assoc old (numbered named 0 k) (named k ∷ r.0)))
+    ∙ (append_assoc (old ++ numbered named 0 k) (named k ∷ r.0) rest ∙ (ap (λ v. v ++ named k ∷ (r.0 ++ rest)) (sym e) ∙ ap (λ v. now ++ (v, place) ∷ (r.0 ++ rest)) (sym d)))) in
+    let P : List (List ℕ × ℕ) → Type 0 = λ v. AtTwo (SameOfTwo (Clash Duplicate place b.0)) v in
+    let Q : MeaningFault → Type 0 = λ v. AtTwo (SameOfTwo v) ((old ++ numbered named 0 (row_size n.array)) ++ rest) in
+    subst Q (sym b.2) (subst P (sym whole) (name_twice now (r.0 ++ rest) name b.0 place b.1))
+
+-- and of names that differ, with another
+pub names_differ : (ns ms : List (List ℕ × ℕ)) (name : List ℕ) (place : ℕ) → AreDistinct (ids ns) → DefinesName ns name place ms None → AreDistinct (ids ms)
+names_differ ns ms name place h d =
+    let S : List (List ℕ × ℕ) → Type 0 = λ v. AreDistinct (ids v) in
+    let Z : List (List ℕ) → Type 0 = AreDistinct in
+    subst S (sym d.1) (subst Z (sym (ids_push ns name place)) (distinct_push (ids ns) name h d.0))
+
+-- the one net of a form without an array
+pub without_array : (o : Option ℕ) → is_some o ≡ false → o ≡ None
+without_array None h = refl
+without_array (Some w) h = absurd (true≢false h)
+
+pub only_added : (n : NetForm) (place : ℕ) (x : design.Net) (names : List (List ℕ × ℕ)) (nets : List design.Net) (more_names : List (List ℕ × ℕ)) (more_nets : List design.Net) → n.array ≡ None → x ≡ net_at n 0 → AreDistinct (ids names)
+    → NetAdded x place names nets more_names more_nets → RowAdded n place names nets more_names more_nets
+only_added n place x names nets more_names more_nets a e d h =
+    let one : nets_of n ≡ net_at n 0 ∷ [] = ap (λ v. numbered (net_at n) 0 (row_size v)) a in
+    let name : row_names n place ≡ ((name_at n.name n.array 0).id, place) ∷ [] = ap (λ v. numbered (λ k. ((name_at n.name n.array k).id, place)) 0 (row_size v)) a in
+    record {
+      nets = h.nets ∙ (ap (λ v. nets ++ v ∷ []) e ∙ ap (λ v. nets ++ v) (sym one));
+      names = h.name.1 ∙ (ap (λ (v : design.Net). names ++ (v.name.id, place) ∷ []) e ∙ ap (λ v. names ++ v) (sym name));
+      distinct = names_differ names more_names x.name.id place d h.name;
+    }
+
+pub only_again : (n : NetForm) (place : ℕ) (x : design.Net) (names : List (List ℕ × ℕ)) (f : MeaningFault) → n.array ≡ None → x ≡ net_at n 0 → IsAgain names x.name.id place f → RowNameFault n place names f
+only_again n place x names f a e b =
+    let z : row_size n.array ≡ 1 = ap row_size a in
+    row_again n place 0 names names x.name.id f (omega (arith, z)) (sym (append-nil names)) (ap (λ (v : design.Net). v.name.id) e) b
+
+-- more nets than allowed, at the form of the first one beyond
+get_copy : {A : Type 0} (count i : ℕ) (t : A) (ys : List A) → i < count → slice_get (replicate count t ++ ys) i ≡ Some t
+get_copy zero i t ys l = absurd (omega arith)
+get_copy (suc count) zero t ys l = refl
+get_copy (suc count) (suc i) t ys l = get_copy count i t ys (omega arith)
+
+get_inside : {A : Type 0} (xs : List A) (count i : ℕ) (t : A) (ys : List A) → length xs ≤ i → i < length xs + count → slice_get ((xs ++ replicate count t) ++ ys) i ≡ Some t
+get_inside [] count i t ys a b = get_copy count i t ys (omega arith)
+get_inside (x ∷ xs) count zero t ys a b = absurd (omega arith)
+get_inside (x ∷ xs) count (suc i) t ys a b = get_inside xs count i t ys (omega arith) (omega arith)
+
+pub beyond_row : (limit count place : ℕ) (ts us : List Placed) (t : Placed) → length ts ≤ limit → limit < length ts + count → place ≡ place_of t → Beyond limit ((ts ++ replicate count t) ++ us) (OverLimit limit place)
+beyond_row limit count place ts us t a b p = (t, get_inside ts count limit t us a b, ap (λ v. OverLimit limit v) p)
+
+pub beyond_one : (limit n place : ℕ) (ts us : List Placed) (t : Placed) → length ts ≡ n → n ≤ limit → limit ≤ n → place ≡ place_of t → Beyond limit (ts ++ t ∷ us) (OverLimit limit place)
+beyond_one limit n place ts us t c a b p =
+    let P : List Placed → Type 0 = λ v. Beyond limit v (OverLimit limit place) in
+    subst P (append_assoc ts (t ∷ []) us) (beyond_row limit 1 place ts us t (omega (arith, c, a)) (omega (arith, c, b)) p)
+
+-- Each bit of a row is within 32 bits, since a stretch of several bits is a whole port.
+fits : (ports : List design.Port) (s : Stretch) (libs : List design.Lib) (insts : List design.Inst) (t : Placed) (size : ℕ) → MeansEnd libs ports insts (bare t) s → s.width ≡ size → size < 2 ^ 32 → s.first < 2 ^ 32 → s.first + size ≤ 2 ^ 32
+fits ports s libs insts t size h w l m = elim h.bits [
+  | inl b ↦ (let e : s.first ≡ 0 = b.3 in omega (arith, e, l))
+  | inr b ↦ (let e : s.width ≡ 1 = b.4 in omega (arith, e, w, m))
+]
+
+pub all_fit : (libs : List design.Lib) (ports : List design.Port) (insts : List design.Inst) (us : List Placed) (ss : List Stretch) (size : ℕ) → AllZip (λ u s. MeansEnd libs ports insts (bare u) s × (s.width ≡ size)) us ss → size < 2 ^ 32 → AllByRecursion (λ s. s.first < 2 ^ 32) ss
+    → AllByRecursion (λ s. s.first + size ≤ 2 ^ 32) ss
+all_fit libs ports insts [] [] size z l m = tt
+all_fit libs ports insts [] (s ∷ ss) size z l m = absurd z
+all_fit libs ports insts (u ∷ us) [] size z l m = absurd z
+all_fit libs ports insts (u ∷ us) (s ∷ ss) size z l m = (fits ports s libs insts u size z.0.0 z.0.1 l m.0, all_fit libs ports insts us ss size z.1 l m.1)
+
+-- the ends of a net, each as wide as the row
+wide_too : (libs : List design.Lib) (ports : List design.Port) (insts : List design.Inst) (us : List Placed) (ss : List Stretch) (wide size : ℕ) → wide ≡ size → AllZip (λ u s. MeansEnd libs ports insts (bare u) s) us ss → AllByRecursion (λ s. s.width ≡ wide) ss
+    → AllZip (λ u s. MeansEnd libs ports insts (bare u) s × (s.width ≡ size)) us ss
+wide_too libs ports insts [] [] wide size e z h = tt
+wide_too libs ports insts [] (s ∷ ss) wide size e z h = absurd z
+wide_too libs ports insts (u ∷ us) [] wide size e z h = absurd z
+wide_too libs ports insts (u ∷ us) (s ∷ ss) wide size e z h = ((z.0, h.0 ∙ e), wide_too libs ports insts us ss wide size e z.1 h.1)
+
+pub wide_ends : (libs : List design.Lib) (ports : List design.Port) (insts : List design.Inst) (t : Placed) (n : NetForm) (ss : List Stretch) (size : ℕ) → size ≡ row_size n.array → ss ≡ n.joined → MeansNet libs ports insts (bare t) n
+    → AllZip (λ u s. MeansEnd libs ports insts (bare u) s × (s.width ≡ size)) (ends_in t) ss
+wide_ends libs ports insts t n ss size e d h =
+    let P : List Stretch → Type 0 = λ v. AllZip (λ u s. MeansEnd libs ports insts (bare u) s × (s.width ≡ size)) (ends_in t) v in
+    subst P (sym d) (wide_too libs ports insts (ends_in t) n.joined (row_size n.array) size (sym e) (net_ends libs ports insts t n h) h.wide)
