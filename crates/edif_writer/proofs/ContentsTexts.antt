@@ -3,9 +3,10 @@ use Rattle.std.proofs.Common.{◌≡◌, ℕ, suc, pos, List, [], ◌∷◌, ◌
 use Rattle.std.specs.Prelude.{codes, option_map, unwrap_or}
 use Rattle.std.specs.Fmt.{signed_decimal}
 use Rattle.spelling_spec.specs.Tree.{Bare, word}
-use Rattle.edif_spec.specs.Canonical.{head_of, large_forms, layout, make, new_line, name_text, name_tree, perhaps, text_tree, property_tree, bit_tree, inst_tree, cell_ref_tree, port_ref_tree, ports_of_end, end_tree, net_tree, contents_tree, note_tree, design_tree}
+use Rattle.edif_spec.specs.Canonical.{head_of, large_forms, layout, make, new_line, name_text, name_tree, perhaps, text_tree, property_tree, bit_tree, bits_tree, inst_tree, cell_ref_tree, port_name_tree, ports_of_end, end_tree, net_tree, contents_tree, note_tree, design_tree}
 use Rattle.edif_spec.specs.Design as design
 use Rattle.edif_spec.specs.Keyword.{spelling_of}
+use Rattle.edif_spec.specs.Nets.{NetForm, Stretch, net_forms}
 use Rattle.edif_spec.specs.declared.keyword.Keyword.{Keyword}
 use Rattle.edif_spec.specs.declared.keyword.Keyword.TheVariants as keywords
 use Rattle.edif_writer.specs.Lines.{spaced, lined, enclosed, instance_ref_tree}
@@ -78,12 +79,12 @@ end_inst_text level insts o place e =
 end_parts : (a r e : List ℕ) → codes " " ++ (a ++ (r ++ e)) ≡ ((32 ∷ a) ++ r) ++ e
 end_parts a r e = simp append_assoc
 
--- an end
-pub end_text : (level : ℕ) (libs : List design.Lib) (own : List design.Port) (insts : List design.Inst) (e : design.End)
-    → codes "(portRef " ++ (layout (suc level) (port_ref_tree (slice_get (ports_of_end libs own insts e.inst) e.port) e.bit) ++ (spaced level (perhaps (instance_ref_tree insts) e.inst) ++ codes ")")) ≡ layout level (end_tree libs own insts e)
-end_text level libs own insts e =
-    let port = port_ref_tree (slice_get (ports_of_end libs own insts e.inst) e.port) e.bit in
-    let inst = perhaps (instance_ref_tree insts) e.inst in
+-- what a net with or without an array joins of a port
+pub end_text : (level : ℕ) (libs : List design.Lib) (own : List design.Port) (insts : List design.Inst) (array : Option ℕ) (s : Stretch)
+    → codes "(portRef " ++ (layout (suc level) (bits_tree array (slice_get (ports_of_end libs own insts s.inst) s.port) s.first) ++ (spaced level (perhaps (instance_ref_tree insts) s.inst) ++ codes ")")) ≡ layout level (end_tree libs own insts array s)
+end_text level libs own insts array s =
+    let port = bits_tree array (slice_get (ports_of_end libs own insts s.inst) s.port) s.first in
+    let inst = perhaps (instance_ref_tree insts) s.inst in
     ap (λ v. codes "(portRef" ++ v) (end_parts (layout (suc level) port) (spaced level inst) (codes ")")) ∙ sym (small_form level keywords.PortRef (port ∷ inst) refl)
 
 joined_parts : (s e : List ℕ) → codes " (joined" ++ (s ++ (codes ")" ++ e)) ≡ codes " " ++ ((codes "(joined" ++ (s ++ codes ")")) ++ e)
@@ -92,32 +93,33 @@ joined_parts s e = simp append_assoc
 net_parts : (a j p e : List ℕ) → codes " " ++ (a ++ (codes " " ++ (j ++ (p ++ e)))) ≡ ((32 ∷ a) ++ ((32 ∷ j) ++ p)) ++ e
 net_parts a j p e = simp append_assoc
 
--- a net
-pub net_text : (level : ℕ) (libs : List design.Lib) (own : List design.Port) (insts : List design.Inst) (n : design.Net)
-    → codes "(net " ++ (layout (suc level) (name_tree n.name) ++ (codes " (joined" ++ (spaced (suc level) (map (end_tree libs own insts) n.ends) ++ (codes ")" ++ (spaced level (map property_tree n.properties) ++ codes ")")))))
-    ≡ layout level (net_tree libs own insts n)
-net_text level libs own insts n =
-    let a = layout (suc level) (name_tree n.name) in
-    let ends = map (end_tree libs own insts) n.ends in
+-- a net as it is written
+pub net_text : (level : ℕ) (libs : List design.Lib) (own : List design.Port) (insts : List design.Inst) (f : NetForm)
+    → codes "(net " ++ (layout (suc level) (port_name_tree f.name f.array) ++ (codes " (joined" ++ (spaced (suc level) (map (end_tree libs own insts f.array) f.joined) ++ (codes ")" ++ (spaced level (map property_tree f.properties) ++ codes ")")))))
+    ≡ layout level (net_tree libs own insts f)
+net_text level libs own insts f =
+    let a = layout (suc level) (port_name_tree f.name f.array) in
+    let ends = map (end_tree libs own insts f.array) f.joined in
     let joined = make keywords.Joined ends in
-    let properties = map property_tree n.properties in
+    let properties = map property_tree f.properties in
     ap (λ v. codes "(net " ++ (a ++ v)) (joined_parts (spaced (suc level) ends) (spaced level properties ++ codes ")"))
     ∙ (ap (λ v. codes "(net " ++ (a ++ (codes " " ++ (v ++ (spaced level properties ++ codes ")"))))) (sym (small_form (suc level) keywords.Joined ends refl))
     ∙ (ap (λ v. codes "(net" ++ v) (net_parts a (layout (suc level) joined) (spaced level properties) (codes ")"))
-    ∙ sym (small_form level keywords.Net (name_tree n.name ∷ joined ∷ properties) refl)))
+    ∙ sym (small_form level keywords.Net (port_name_tree f.name f.array ∷ joined ∷ properties) refl)))
 
 contents_text : (libs : List design.Lib) (own : List design.Port) (c : design.Contents)
-    → codes "(contents" ++ (lined 5 (map (inst_tree libs) c.insts) ++ (lined 5 (map (net_tree libs own c.insts) c.nets) ++ codes ")")) ≡ layout 5 (contents_tree libs own c)
+    → codes "(contents" ++ (lined 5 (map (inst_tree libs) c.insts) ++ (lined 5 (map (net_tree libs own c.insts) (net_forms (ports_of_end libs own c.insts) c.nets)) ++ codes ")")) ≡ layout 5 (contents_tree libs own c)
 contents_text libs own c =
     let insts = map (inst_tree libs) c.insts in
-    let nets = map (net_tree libs own c.insts) c.nets in
+    let nets = map (net_tree libs own c.insts) (net_forms (ports_of_end libs own c.insts) c.nets) in
     ap (λ v. codes "(contents" ++ v) (sym (append_assoc (lined 5 insts) (lined 5 nets) (codes ")")))
     ∙ (ap (λ v. codes "(contents" ++ (v ++ codes ")")) (sym (lined-append 5 insts nets))
     ∙ sym (large_form 5 keywords.Contents [] (insts ++ nets) refl))
 
 -- contents on a line of their own
 pub contents_line_text : (libs : List design.Lib) (own : List design.Port) (o : Option design.Contents) (c : design.Contents) → o ≡ Some c
-    → codes "\n    (contents" ++ (lined 5 (map (inst_tree libs) c.insts) ++ (lined 5 (map (net_tree libs own c.insts) c.nets) ++ codes ")")) ≡ lined 4 (perhaps (contents_tree libs own) o)
+    → codes "\n    (contents" ++ (lined 5 (map (inst_tree libs) c.insts) ++ (lined 5 (map (net_tree libs own c.insts) (net_forms (ports_of_end libs own c.insts) c.nets)) ++ codes ")"))
+    ≡ lined 4 (perhaps (contents_tree libs own) o)
 contents_line_text libs own o c e =
     ap (λ v. new_line 4 ++ v) (contents_text libs own c)
     ∙ (sym (append-nil (new_line 4 ++ layout 5 (contents_tree libs own c))) ∙ ap (λ v. lined 4 (perhaps (contents_tree libs own) v)) (sym e))

@@ -1,6 +1,7 @@
 pub mod ContentsTexts
 pub mod FormTexts
 pub mod ListTexts
+pub mod NetForms
 pub mod Places
 pub mod Renumbered
 pub mod SmallTexts

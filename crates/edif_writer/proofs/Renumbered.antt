@@ -5,8 +5,9 @@ use Rattle.std.specs.List.{AllByRecursion}
 use Rattle.std.proofs.lemmas.Option.{slice_get-map}
 use Rattle.spelling_spec.specs.Tree.{Bare, word}
 use Rattle.edif_spec.specs.Arranged.{order_of, orders_from, new_id, new_inst, new_contents, new_cell, new_cells, new_libs}
-use Rattle.edif_spec.specs.Canonical.{make, perhaps, name_tree, text_tree, property_tree, cell_ref_tree, inst_tree, ports_of_end, port_ref_tree, end_tree, net_tree, contents_tree, interface_tree, kind_word, cell_tree}
+use Rattle.edif_spec.specs.Canonical.{make, perhaps, name_tree, text_tree, property_tree, cell_ref_tree, inst_tree, bits_tree, port_name_tree, ports_of_end, end_tree, net_tree, contents_tree, interface_tree, kind_word, cell_tree}
 use Rattle.edif_spec.specs.Design as design
+use Rattle.edif_spec.specs.Nets.{NetForm, Stretch, net_forms}
 use Rattle.edif_spec.specs.declared.keyword.Keyword.TheVariants as keywords
 use Rattle.edif_spec.proofs.Arrange.{AreWhole, cell_moved}
 use Rattle.edif_spec.proofs.CellPlaces.{some_of, all_at}
@@ -76,26 +77,37 @@ inst_ref_stays : (orders : List (List ℕ)) (is : List design.Inst) (o : Option 
 inst_ref_stays orders is None = refl
 inst_ref_stays orders is (Some place) = ap (λ n. make keywords.InstanceRef (word n ∷ []) ∷ []) (inst_id_stays orders is place)
 
-end_stays : (libs : List design.Lib) (own : List design.Port) (is : List design.Inst) (e : design.End) → AreWhole libs → AreThere libs is → end_tree (moved libs) own (map (new_inst (orders_from 0 libs)) is) e ≡ end_tree libs own is e
-end_stays libs own is e whole there =
-    ap (λ ports. make keywords.PortRef (port_ref_tree (slice_get ports e.port) e.bit ∷ perhaps (λ i. make keywords.InstanceRef (word (design.inst_id (map (new_inst (orders_from 0 libs)) is) i) ∷ [])) e.inst)) (end_ports_stay libs own is e.inst whole there)
-    ∙ ap (λ refs. make keywords.PortRef (port_ref_tree (slice_get (ports_of_end libs own is e.inst) e.port) e.bit ∷ refs)) (inst_ref_stays (orders_from 0 libs) is e.inst)
+end_stays : (libs : List design.Lib) (own : List design.Port) (is : List design.Inst) (array : Option ℕ) (s : Stretch) → AreWhole libs → AreThere libs is
+    → end_tree (moved libs) own (map (new_inst (orders_from 0 libs)) is) array s ≡ end_tree libs own is array s
+end_stays libs own is array s whole there =
+    ap (λ ports. make keywords.PortRef (bits_tree array (slice_get ports s.port) s.first ∷ perhaps (λ i. make keywords.InstanceRef (word (design.inst_id (map (new_inst (orders_from 0 libs)) is) i) ∷ [])) s.inst)) (end_ports_stay libs own is s.inst whole there)
+    ∙ ap (λ refs. make keywords.PortRef (bits_tree array (slice_get (ports_of_end libs own is s.inst) s.port) s.first ∷ refs)) (inst_ref_stays (orders_from 0 libs) is s.inst)
 
-ends_stay : (libs : List design.Lib) (own : List design.Port) (is : List design.Inst) (es : List design.End) → AreWhole libs → AreThere libs is → map (end_tree (moved libs) own (map (new_inst (orders_from 0 libs)) is)) es ≡ map (end_tree libs own is) es
-ends_stay libs own is [] whole there = refl
-ends_stay libs own is (e ∷ es) whole there =
-    ap (λ t. t ∷ map (end_tree (moved libs) own (map (new_inst (orders_from 0 libs)) is)) es) (end_stays libs own is e whole there) ∙ ap (λ ts. end_tree libs own is e ∷ ts) (ends_stay libs own is es whole there)
+ends_stay : (libs : List design.Lib) (own : List design.Port) (is : List design.Inst) (array : Option ℕ) (ss : List Stretch) → AreWhole libs → AreThere libs is
+    → map (end_tree (moved libs) own (map (new_inst (orders_from 0 libs)) is) array) ss ≡ map (end_tree libs own is array) ss
+ends_stay libs own is array [] whole there = refl
+ends_stay libs own is array (s ∷ ss) whole there =
+    ap (λ t. t ∷ map (end_tree (moved libs) own (map (new_inst (orders_from 0 libs)) is) array) ss) (end_stays libs own is array s whole there) ∙ ap (λ ts. end_tree libs own is array s ∷ ts) (ends_stay libs own is array ss whole there)
 
-nets_stay : (libs : List design.Lib) (own : List design.Port) (is : List design.Inst) (ns : List design.Net) → AreWhole libs → AreThere libs is → map (net_tree (moved libs) own (map (new_inst (orders_from 0 libs)) is)) ns ≡ map (net_tree libs own is) ns
-nets_stay libs own is [] whole there = refl
-nets_stay libs own is (n ∷ ns) whole there =
-    ap (λ ends. make keywords.Net (name_tree n.name ∷ make keywords.Joined ends ∷ map property_tree n.properties) ∷ map (net_tree (moved libs) own (map (new_inst (orders_from 0 libs)) is)) ns) (ends_stay libs own is n.ends whole there)
-    ∙ ap (λ ts. net_tree libs own is n ∷ ts) (nets_stay libs own is ns whole there)
+forms_stay : (libs : List design.Lib) (own : List design.Port) (is : List design.Inst) (fs : List NetForm) → AreWhole libs → AreThere libs is
+    → map (net_tree (moved libs) own (map (new_inst (orders_from 0 libs)) is)) fs ≡ map (net_tree libs own is) fs
+forms_stay libs own is [] whole there = refl
+forms_stay libs own is (f ∷ fs) whole there =
+    ap (λ ends. make keywords.Net (port_name_tree f.name f.array ∷ make keywords.Joined ends ∷ map property_tree f.properties) ∷ map (net_tree (moved libs) own (map (new_inst (orders_from 0 libs)) is)) fs) (ends_stay libs own is f.array f.joined whole there)
+    ∙ ap (λ ts. net_tree libs own is f ∷ ts) (forms_stay libs own is fs whole there)
+
+-- runs are told by the ports of ends, which are the same ones
+nets_stay : (libs : List design.Lib) (own : List design.Port) (is : List design.Inst) (ns : List design.Net) → AreWhole libs → AreThere libs is
+    → map (net_tree (moved libs) own (map (new_inst (orders_from 0 libs)) is)) (net_forms (ports_of_end (moved libs) own (map (new_inst (orders_from 0 libs)) is)) ns) ≡ map (net_tree libs own is) (net_forms (ports_of_end libs own is) ns)
+nets_stay libs own is ns whole there =
+    let ports : ports_of_end (moved libs) own (map (new_inst (orders_from 0 libs)) is) ≡ ports_of_end libs own is = λ i o. end_ports_stay libs own is o whole there i in
+    ap (λ p. map (net_tree (moved libs) own (map (new_inst (orders_from 0 libs)) is)) (net_forms p ns)) ports ∙ forms_stay libs own is (net_forms (ports_of_end libs own is) ns) whole there
 
 contents_stay : (libs : List design.Lib) (own : List design.Port) (o : Option design.Contents) → AreWhole libs → IfSome o (λ c. AreThere libs c.insts) → perhaps (contents_tree (moved libs) own) (option_map (new_contents (orders_from 0 libs)) o) ≡ perhaps (contents_tree libs own) o
 contents_stay libs own None whole there = refl
 contents_stay libs own (Some c) whole there =
-    ap (λ ts. make keywords.Contents (ts ++ map (net_tree (moved libs) own (map (new_inst (orders_from 0 libs)) c.insts)) c.nets) ∷ []) (insts_stay libs c.insts whole there)
+    let is = map (new_inst (orders_from 0 libs)) c.insts in
+    ap (λ ts. make keywords.Contents (ts ++ map (net_tree (moved libs) own is) (net_forms (ports_of_end (moved libs) own is) c.nets)) ∷ []) (insts_stay libs c.insts whole there)
     ∙ ap (λ ts. make keywords.Contents (map (inst_tree libs) c.insts ++ ts) ∷ []) (nets_stay libs own c.insts c.nets whole there)
 
 -- a cell has the tree that it had

@@ -1,10 +1,12 @@
 -- The texts of small forms with a fixed number of arguments.
-use Rattle.std.proofs.Common.{◌≡◌, ℕ, suc, ℤ, pos, List, [], ◌∷◌, ◌++◌, Option, Some, None, refl, append_assoc, append-nil}
-use Rattle.std.specs.Prelude.{codes}
+use Rattle.std.proofs.Common.{◌≡◌, ℕ, suc, ℤ, pos, true, false, List, [], ◌∷◌, ◌++◌, Option, Some, None, refl, ap, sym, ◌∙◌, append_assoc, append-nil}
+use Rattle.std.specs.Prelude.{codes, cond}
 use Rattle.std.specs.Fmt.{signed_decimal}
 use Rattle.spelling_spec.specs.Tree.{word}
 use Rattle.edif_spec.specs.Canonical.{layout, make, name_tree, port_name_tree, kind_word, name_with, number_tree, value_tree, name_text, string_text}
 use Rattle.edif_spec.specs.Design as design
+use Rattle.bus_spec.specs.Runs.{array_name}
+use Rattle.bus_spec.specs.Same.{same_bytes}
 use Rattle.edif_writer.specs.Lines.{enclosed}
 use Rattle.edif_spec.specs.declared.keyword.Keyword.TheVariants as keywords
 use Rattle.netlist_schema.specs.declared.cell.CellKind.TheVariants as kinds
@@ -14,6 +16,14 @@ use Rattle.netlist_schema.specs.declared.property.Value.TheVariants as values
 pub rename_text : (level : ℕ) (id : List ℕ) (shown : Option (List ℕ)) (text : List ℕ) → shown ≡ Some text
     → codes "(rename " ++ (name_text id ++ (codes " " ++ (string_text text ++ codes ")"))) ≡ layout level (name_with id shown)
 rename_text level id shown text e = rw e (simp (append_assoc, append-nil))
+
+-- the name of an array, whose text is the identifier or another
+pub plain_text : (level : ℕ) (d text : List ℕ) → same_bytes d text ≡ true → name_text d ≡ layout level (name_tree (array_name d text))
+plain_text level d text e = ap (λ b. layout level (name_with d (cond b None (Some text)))) (sym e)
+
+pub other_text : (level : ℕ) (d text : List ℕ) → same_bytes d text ≡ false
+    → codes "(rename " ++ (name_text d ++ (codes " " ++ (string_text text ++ codes ")"))) ≡ layout level (name_tree (array_name d text))
+other_text level d text e = rename_text level d (Some text) text refl ∙ ap (λ b. layout level (name_with d (cond b None (Some text)))) (sym e)
 
 pub scaled_text : (level : ℕ) (n : design.Num) (m x : ℤ) → n ≡ numbers.Scaled m x
     → codes "(e " ++ (signed_decimal m ++ (codes " " ++ (signed_decimal x ++ codes ")"))) ≡ layout level (number_tree n)

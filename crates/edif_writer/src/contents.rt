@@ -1,8 +1,10 @@
 //! Contents: instances, and nets with their ends.
-ghost use Rattle.std.specs.Prelude.{◌≡◌, ℕ, List, All, IsSome, IfSome, map, slice_get};
+ghost use Rattle.std.specs.Prelude.{◌≡◌, ◌<◌, ◌≤◌, ℕ, List, [], All, IsSome, IfSome, None, Some, length, map, slice_get, unwrap_or};
 ghost use Rattle.std.specs.Option.{option_copied};
-ghost use Rattle.edif_spec.specs.Canonical.{layout, name_text, perhaps, inst_tree, bit_tree, port_ref_tree, ports_of_end, end_tree, net_tree, contents_tree};
+ghost use Rattle.edif_spec.specs.Canonical.{layout, name_text, perhaps, inst_tree, bit_tree, port_ref_tree, name_tree, port_name_tree, whole_port_tree, ports_of_end, end_tree, net_tree, contents_tree};
 ghost use Rattle.edif_spec.specs.Design as design;
+ghost use Rattle.edif_spec.specs.Nets.{bit_of, form_of, net_forms, run_form, single_form, whole_of};
+ghost use Rattle.bus_spec.specs.Runs.{array_name, run_width, stem};
 ghost use Rattle.netlist_schema.specs.Hierarchy.{IsCell};
 ghost use Rattle.edif_writer.specs.Lines.{spaced, lined, instance_ref_tree};
 ghost use Rattle.edif_writer.specs.Placed.{HasInstAt, IsAt, IsPlaced};
@@ -10,13 +12,17 @@ ghost use Rattle.netdb_outside.specs.Buffered.{Writes};
 
 use crate::reference::{write_cell_ref, write_view_id};
 use crate::small::{write_name, write_properties, write_text_form};
-use crate::spelled::{put_ident, put_line, put_number};
+use crate::spelled::{put_bytes, put_ident, put_line, put_name, put_number};
+use bus_members::{run_from, stem};
 use netdb_outside::{BufferedSink, Sink};
-use netlist_schema::{Contents, End, Inst, Net, Port, Row, Shown};
+use netlist_schema::{Contents, End, Inst, Name, Net, Port, Row, Shown, Text};
 use std::alloc::Global;
 
 /// The level of the instances and nets of contents.
 const CONTENTS_LEVEL: usize = 5;
+
+/// The least width of a run.
+const LEAST_RUN: u32 = 2;
 
 /// Writes an instance.
 fn write_inst<S: Shown, K: Sink>(
@@ -152,6 +158,65 @@ fn write_end_inst<K: Sink>(
     }
 }
 
+/// Writes the name of the port of an end.
+fn write_port_of_end<S: Shown, K: Sink>(
+    alloc: Global,
+    design: &S,
+    own: &Row<Port>,
+    insts: &Row<Inst>,
+    end: &End,
+    page: &mut BufferedSink,
+    out: &mut K,
+)
+    requires { IsAt (S.design design.now) own.now insts.now end.now }
+    ensures { (level : ℕ) → Writes K.written K.faults out.old page.old out.new page.new
+        (layout level (whole_port_tree (slice_get (ports_of_end (S.design design.now).libs own.now insts.now end.now.inst) end.now.port))) }
+{
+    if let Some(port) = port_of_end(design, own, insts, end) {
+        put_ident(alloc, &port.name.id, page, out);
+    }
+}
+
+/// Writes the whole port of an end of a net with an array.
+fn write_whole_end<S: Shown, K: Sink>(
+    alloc: Global,
+    design: &S,
+    own: &Row<Port>,
+    insts: &Row<Inst>,
+    end: &End,
+    page: &mut BufferedSink,
+    out: &mut K,
+)
+    requires { IsAt (S.design design.now) own.now insts.now end.now }
+    ensures { (level width : ℕ) → Writes K.written K.faults out.old page.old out.new page.new
+        (layout level (end_tree (S.design design.now).libs own.now insts.now (Some width) (whole_of width end.now))) }
+{
+    page.put(b"(portRef ", out);
+    write_port_of_end(alloc, design, own, insts, end, page, out);
+    write_end_inst(alloc, insts, end.inst, page, out);
+    page.put(b")", out);
+}
+
+/// Writes the whole ports of the ends of a net on its line.
+fn write_whole_ends<S: Shown, K: Sink>(
+    alloc: Global,
+    design: &S,
+    own: &Row<Port>,
+    insts: &Row<Inst>,
+    ends: &Row<End>,
+    page: &mut BufferedSink,
+    out: &mut K,
+)
+    requires { All (IsAt (S.design design.now) own.now insts.now) ends.now }
+    ensures { (level width : ℕ) → Writes K.written K.faults out.old page.old out.new page.new
+        (spaced level (map (end_tree (S.design design.now).libs own.now insts.now (Some width)) (map (whole_of width) ends.now))) }
+{
+    for end in ends.as_slice() {
+        page.put(b" ", out);
+        write_whole_end(alloc, design, own, insts, end, page, out);
+    }
+}
+
 /// Writes an end.
 fn write_end<S: Shown, K: Sink>(
     alloc: Global,
@@ -163,7 +228,7 @@ fn write_end<S: Shown, K: Sink>(
     out: &mut K,
 )
     requires { IsAt (S.design design.now) own.now insts.now end.now }
-    ensures { (level : ℕ) → Writes K.written K.faults out.old page.old out.new page.new (layout level (end_tree (S.design design.now).libs own.now insts.now end.now)) }
+    ensures { (level : ℕ) → Writes K.written K.faults out.old page.old out.new page.new (layout level (end_tree (S.design design.now).libs own.now insts.now None (bit_of end.now))) }
 {
     page.put(b"(portRef ", out);
     write_end_bit(alloc, design, own, insts, end, page, out);
@@ -182,7 +247,7 @@ fn write_ends<S: Shown, K: Sink>(
     out: &mut K,
 )
     requires { All (IsAt (S.design design.now) own.now insts.now) ends.now }
-    ensures { (level : ℕ) → Writes K.written K.faults out.old page.old out.new page.new (spaced level (map (end_tree (S.design design.now).libs own.now insts.now) ends.now)) }
+    ensures { (level : ℕ) → Writes K.written K.faults out.old page.old out.new page.new (spaced level (map (end_tree (S.design design.now).libs own.now insts.now None) (map bit_of ends.now))) }
 {
     for end in ends.as_slice() {
         page.put(b" ", out);
@@ -190,7 +255,7 @@ fn write_ends<S: Shown, K: Sink>(
     }
 }
 
-/// Writes a net.
+/// Writes a net by itself.
 fn write_net<S: Shown, K: Sink>(
     alloc: Global,
     design: &S,
@@ -201,7 +266,7 @@ fn write_net<S: Shown, K: Sink>(
     out: &mut K,
 )
     requires { All (IsAt (S.design design.now) own.now insts.now) net.now.ends }
-    ensures { (level : ℕ) → Writes K.written K.faults out.old page.old out.new page.new (layout level (net_tree (S.design design.now).libs own.now insts.now net.now)) }
+    ensures { (level : ℕ) → Writes K.written K.faults out.old page.old out.new page.new (layout level (net_tree (S.design design.now).libs own.now insts.now (single_form net.now))) }
 {
     page.put(b"(net ", out);
     write_name(alloc, &net.name, page, out);
@@ -212,7 +277,116 @@ fn write_net<S: Shown, K: Sink>(
     page.put(b")", out);
 }
 
-/// Writes nets on lines of their own.
+/// What is shown of the name of an array, by that of its first net: the shown text without its last three bytes.
+fn shown_stem(shown: &Option<Text>) -> &[u8]
+    ensures { result.now ≡ stem (unwrap_or shown.now []) }
+{
+    match shown {
+        Some(text) => stem(text.as_slice()),
+        None => &[],
+    }
+}
+
+/// Writes the name of an array: its identifier, renamed where the text is another.
+fn write_array_name<K: Sink>(
+    alloc: Global,
+    id: &[u8],
+    text: &[u8],
+    page: &mut BufferedSink,
+    out: &mut K,
+)
+    ensures { (level : ℕ) → Writes K.written K.faults out.old page.old out.new page.new (layout level (name_tree (array_name id.now text.now))) }
+{
+    if id == text {
+        put_name(id, page, out);
+    } else {
+        page.put(b"(rename ", out);
+        put_name(id, page, out);
+        page.put(b" ", out);
+        put_bytes(alloc, text, page, out);
+        page.put(b")", out);
+    }
+}
+
+/// Writes the array of a run of this width, by the name of its first net.
+fn write_array<K: Sink>(
+    alloc: Global,
+    name: &Name,
+    width: u32,
+    page: &mut BufferedSink,
+    out: &mut K,
+)
+    ensures { (level : ℕ) → Writes K.written K.faults out.old page.old out.new page.new
+        (layout level (port_name_tree (array_name (stem name.now.id) (stem (unwrap_or name.now.shown []))) (Some width))) }
+{
+    page.put(b"(array ", out);
+    write_array_name(
+        alloc,
+        stem(name.id.as_slice()),
+        shown_stem(&name.shown),
+        page,
+        out,
+    );
+    page.put(b" ", out);
+    put_number(alloc, width, page, out);
+    page.put(b")", out);
+}
+
+/// Writes a run of this width, by its first net.
+fn write_run<S: Shown, K: Sink>(
+    alloc: Global,
+    design: &S,
+    own: &Row<Port>,
+    insts: &Row<Inst>,
+    net: &Net,
+    width: u32,
+    page: &mut BufferedSink,
+    out: &mut K,
+)
+    requires { All (IsAt (S.design design.now) own.now insts.now) net.now.ends }
+    ensures { (level : ℕ) → Writes K.written K.faults out.old page.old out.new page.new (layout level (net_tree (S.design design.now).libs own.now insts.now (run_form width net.now))) }
+{
+    page.put(b"(net ", out);
+    write_array(alloc, &net.name, width, page, out);
+    page.put(b" (joined", out);
+    write_whole_ends(alloc, design, own, insts, &net.ends, page, out);
+    page.put(b")", out);
+    write_properties(alloc, &net.properties, page, out);
+    page.put(b")", out);
+}
+
+/// Writes the form of a net at which the greatest run has this width: the run, or the net by itself.
+fn write_form<S: Shown, K: Sink>(
+    alloc: Global,
+    design: &S,
+    own: &Row<Port>,
+    insts: &Row<Inst>,
+    net: &Net,
+    width: u32,
+    page: &mut BufferedSink,
+    out: &mut K,
+)
+    requires { All (IsAt (S.design design.now) own.now insts.now) net.now.ends }
+    ensures { (level : ℕ) → Writes K.written K.faults out.old page.old out.new page.new (layout level (net_tree (S.design design.now).libs own.now insts.now (form_of width net.now))) }
+{
+    if width < LEAST_RUN {
+        write_net(alloc, design, own, insts, net, page, out);
+    } else {
+        write_run(alloc, design, own, insts, net, width, page, out);
+    }
+}
+
+/// The width of the greatest run that begins with the first of these nets: 1 where none does.
+fn width_from<S: Shown>(design: &S, own: &Row<Port>, insts: &Row<Inst>, nets: &[Net]) -> u32
+    requires { 0 < length nets.now }
+    ensures width { result ≡ run_width (ports_of_end (S.design design.now).libs own.now insts.now) nets.now }
+    ensures least { 1 ≤ result }
+    ensures most { result ≤ length nets.now }
+{
+    run_from(design, own.as_slice(), insts.as_slice(), nets)
+}
+
+/// Writes nets on lines of their own, each greatest run as one net with an array.
 fn write_net_lines<S: Shown, K: Sink>(
     alloc: Global,
     design: &S,
@@ -222,11 +396,15 @@ fn write_net_lines<S: Shown, K: Sink>(
     out: &mut K,
 )
     requires { IsPlaced (S.design design.now) own.now contents.now }
-    ensures { Writes K.written K.faults out.old page.old out.new page.new (lined 5 (map (net_tree (S.design design.now).libs own.now contents.now.insts) contents.now.nets)) }
+    ensures { Writes K.written K.faults out.old page.old out.new page.new
+        (lined 5 (map (net_tree (S.design design.now).libs own.now contents.now.insts) (net_forms (ports_of_end (S.design design.now).libs own.now contents.now.insts) contents.now.nets))) }
 {
-    for net in contents.nets.as_slice() {
+    let mut left = contents.nets.as_slice();
+    while let Some(net) = left.first() {
+        let width = width_from(design, own, &contents.insts, left);
         put_line(CONTENTS_LEVEL, page, out);
-        write_net(alloc, design, own, &contents.insts, net, page, out);
+        write_form(alloc, design, own, &contents.insts, net, width, page, out);
+        left = &left[width as usize..];
     }
 }
 

@@ -1,5 +1,5 @@
 //! Line feeds, identifiers, strings and integers, on their way to a sink.
-ghost use Rattle.std.specs.Prelude.{◌≡◌, ◌++◌, pos, OnErr, OnOk};
+ghost use Rattle.std.specs.Prelude.{◌≡◌, ◌∷◌, ◌++◌, pos, if◌then◌else◌, OnErr, OnOk};
 ghost use Rattle.std.specs.Fmt.{signed_decimal};
 ghost use Rattle.edif_spec.specs.Canonical.{name_text, string_text, new_line};
 ghost use Rattle.netdb_outside.specs.Buffered.{Writes};
@@ -33,6 +33,19 @@ impl<'a> Appended for SpelledString<'a> {
     }
 }
 
+/// A string of these bytes between quotes, as a file spells it.
+#[derive(Drop)]
+struct SpelledBytes<'a>(&'a [u8]);
+
+impl<'a> Appended for SpelledBytes<'a> {
+    ghost text = { λ s. string_text s.0.now };
+
+    fn append_to(&self, alloc: Global, bytes: &mut Vec<u8>) -> Result<(), NoMemory> {
+        let text = Text::of(Vec::from_slice(alloc, self.0)?);
+        write_string(alloc, &text, bytes)
+    }
+}
+
 /// An integer, as a file spells it.
 #[derive(Drop)]
 struct SpelledInteger(i64);
@@ -62,11 +75,40 @@ pub fn put_ident<K: Sink>(alloc: Global, name: &Ident, page: &mut BufferedSink, 
     page.put_text(alloc, &SpelledIdent(name), out);
 }
 
+/// Whether the first byte of an identifier is a letter, so that it stands without `&`.
+fn begins_with_letter(name: &[u8]) -> bool
+    ensures { name_text name.now ≡ (if result then name.now else 38 ∷ name.now) }
+{
+    match name.first() {
+        Some(first) => first.is_ascii_alphabetic(),
+        None => false,
+    }
+}
+
+/// Writes an identifier of these bytes.
+pub fn put_name<K: Sink>(name: &[u8], page: &mut BufferedSink, out: &mut K)
+    ensures { Writes K.written K.faults out.old page.old out.new page.new (name_text name.now) }
+{
+    if begins_with_letter(name) {
+        page.put(name, out);
+    } else {
+        page.put(b"&", out);
+        page.put(name, out);
+    }
+}
+
 /// Writes a string, between quotes.
 pub fn put_string<K: Sink>(alloc: Global, text: &Text, page: &mut BufferedSink, out: &mut K)
     ensures { Writes K.written K.faults out.old page.old out.new page.new (string_text text.now) }
 {
     page.put_text(alloc, &SpelledString(text), out);
+}
+
+/// Writes a string of these bytes, between quotes.
+pub fn put_bytes<K: Sink>(alloc: Global, text: &[u8], page: &mut BufferedSink, out: &mut K)
+    ensures { Writes K.written K.faults out.old page.old out.new page.new (string_text text.now) }
+{
+    page.put_text(alloc, &SpelledBytes(text), out);
 }
 
 /// Writes an integer.

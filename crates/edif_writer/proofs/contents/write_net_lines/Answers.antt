@@ -1,10 +1,57 @@
-use Rattle.std.proofs.Common.{◌++◌}
-use Rattle.edif_spec.specs.Canonical.{layout, new_line, net_tree}
-use Rattle.edif_writer.proofs.FormTexts.{one_more}
-use Rattle.netdb_outside.proofs.BufferedLemmas.{writes_then, writes_same}
+use Rattle.std.proofs.Common.{ap, sym, subst, length, map, length-drop, arith}
+use Rattle.std.specs.List.{All}
+use Rattle.std.proofs.lemmas.List.Elements.{All-drop}
+use Rattle.netlist_schema.specs.Types.{Net}
+use Rattle.edif_spec.specs.Canonical.{net_tree, ports_of_end}
+use Rattle.edif_spec.specs.Nets.{net_forms}
+use Rattle.edif_writer.specs.Lines.{lined}
+use Rattle.edif_writer.specs.Placed.{IsAt}
+use Rattle.edif_writer.proofs.NetForms.{first_line, none_left, part_behind}
+use Rattle.netdb_outside.proofs.BufferedLemmas.{writes_nothing, writes_then, writes_same}
 use Rattle.edif_writer.proofs.contents.write_net_lines.Goals as goal
+
+pub loop-net-init : goal.loop-net-init
+loop-net-init g c =
+    let d = g.S.Shown.design c.args.design.now in
+    let own = c.args.own.now in
+    let insts = c.args.contents.now.insts in
+    let all = c.as_slice-left.ensures in
+    record {
+      written = λ k page w. writes_same (ap (λ ns. lined 5 (map (net_tree d.libs own insts) (net_forms (ports_of_end d.libs own insts) ns))) all) w;
+      ends = subst (All (λ (net : Net). All (IsAt d own insts) net.ends)) (sym all) c.requires.ends;
+      most = omega (arith, ap length all);
+    }
+
+pub write_form-requires : goal.write_form-requires
+write_form-requires g c =
+    let d = g.S.Shown.design c.args.design.now in
+    let net = c.in-Some.net.now in
+    subst (λ (n : Net). All (IsAt d c.args.own.now c.args.contents.now.insts) n.ends) (sym (c.in-Some.ensures.item.3.1 net)) (c.loop-net.invariant.ends 0 net c.in-Some.ensures.item.3.0)
 
 pub loop-net-preserved : goal.loop-net-preserved
 loop-net-preserved g c =
-    writes_same (one_more (λ t. new_line 5 ++ layout 6 t) (net_tree (g.S.Shown.design c.args.design.now).libs c.args.own.now c.args.contents.now.insts) c.as_slice-net-items.result.now c.loop-net.net-index c.net-item.result c.loop-net-test.true c.net-item.is)
-    (writes_then c.loop-net.invariant (writes_then c.put_line.ensures (c.write_net.ensures 6)))
+    let d = g.S.Shown.design c.args.design.now in
+    let own = c.args.own.now in
+    let insts = c.args.contents.now.insts in
+    let tree = net_tree d.libs own insts in
+    let ports = ports_of_end d.libs own insts in
+    let left = c.loop-net.left.now in
+    let width = c.width_from-width.result in
+    let rest = part_behind width left in
+    let P : Net → Type 0 = λ net. All (IsAt d own insts) net.ends in
+    record {
+      written = λ k page w. c.loop-net.invariant.written k page
+          (writes_same (first_line 5 tree ports left c.in-Some.net.now width c.in-Some.ensures.value c.width_from-width.ensures.width)
+          (writes_then c.put_line.ensures (writes_then (c.write_form.ensures 6) (writes_same (ap (λ ns. lined 5 (map tree (net_forms ports ns))) rest) w))));
+      ends = subst (All P) (sym rest) (All-drop P width left c.loop-net.invariant.ends);
+      most = omega (arith, ap length rest, length-drop width left, c.loop-net.invariant.most);
+    }
+
+pub returns : goal.returns
+returns g c =
+    let d = g.S.Shown.design c.args.design.now in
+    let own = c.args.own.now in
+    let insts = c.args.contents.now.insts in
+    let none = none_left c.loop-net.left.now c.in_default.ensures.value in
+    c.loop-net.invariant.written c.loop-net.out c.loop-net.page
+    (writes_same (ap (λ ns. lined 5 (map (net_tree d.libs own insts) (net_forms (ports_of_end d.libs own insts) ns))) (sym none)) (writes_nothing c.loop-net.out c.loop-net.page))
