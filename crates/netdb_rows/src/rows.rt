@@ -15,7 +15,7 @@ use std::thread::Threads;
 
 /// A file, the words, the calls that fail, and how many bytes the sink takes.
 #[derive(Clone, Copy)]
-struct Case<'a> {
+pub struct Case<'a> {
     file: &'a str,
     words: &'a [&'a str],
     failing: &'a [u64],
@@ -24,7 +24,7 @@ struct Case<'a> {
 
 /// What is wanted: the status, the text of its fault where it has one, and what was written.
 #[derive(Clone, Copy)]
-struct Want<'a> {
+pub struct Want<'a> {
     number: u8,
     fault: &'a str,
     written: &'a str,
@@ -58,7 +58,7 @@ fn run<R: Abort + Threads + Wait + Sync>(
 }
 
 /// Runs a case, and compares what came of it.
-fn check<R: Abort + Threads + Wait + Sync>(
+pub fn check<R: Abort + Threads + Wait + Sync>(
     rt: &R,
     alloc: Global,
     case: &Case,
@@ -93,7 +93,7 @@ const WRITE: [&str; 2] = ["write", "F"];
 const MISSING: [&str; 2] = ["write", "nosuch"];
 
 /// A case of `write F` with no fault.
-fn of(file: &str) -> Case<'_> {
+pub fn of(file: &str) -> Case<'_> {
     Case {
         file,
         words: &WRITE,
@@ -112,7 +112,7 @@ fn written(text: &str) -> Want<'_> {
 }
 
 /// The file has this fault.
-fn bad(fault: &str) -> Want<'_> {
+pub fn bad(fault: &str) -> Want<'_> {
     Want {
         number: 6,
         fault,
@@ -141,7 +141,7 @@ fn files_are_written(rt: HostRuntime) -> Result<(), Fail> {
 }
 
 /// Whether a text has a line, without the blanks before it and the parentheses behind it.
-fn has_line(text: &[u8], line: &str) -> bool {
+pub fn has_line(text: &[u8], line: &str) -> bool {
     if line.is_empty() {
         return true;
     }
