@@ -11,62 +11,10 @@ ghost use Rattle.block_kids.specs.Below.{IsForAllBelow};
 
 use block_reads::read_block;
 use cells_model::Cells;
-use netlist_schema::{CellId, Contents, Inst, NoMemory, Row};
+use eco_reads::walk::add_inside;
+use netlist_schema::{CellId, NoMemory};
 use std::alloc::Global;
 use std::collections::BTreeSet;
-
-/// Puts a cell on the list, where it was not seen yet.
-fn add_cell(
-    seen: &mut BTreeSet<CellId>,
-    order: &mut Vec<CellId>,
-    id: CellId,
-) -> Result<(), NoMemory>
-    requires { IsListed seen.old.keys order.old.items }
-    ensures listed { OnOk result (IsListed seen.new.keys order.new.items) }
-    ensures grows { OnOk result (GoesOn order.old.items order.new.items (λ x. x ≡ id)) }
-{
-    match seen.insert(id) {
-        Ok(true) => {
-            order.push(id)?;
-            Ok(())
-        }
-        Ok(false) => Ok(()),
-        Err(_) => Err(NoMemory),
-    }
-}
-
-/// Puts the cells of the instances on the list, where they were not seen yet.
-fn add_insts(
-    insts: &Row<Inst>,
-    seen: &mut BTreeSet<CellId>,
-    order: &mut Vec<CellId>,
-) -> Result<(), NoMemory>
-    requires { IsListed seen.old.keys order.old.items }
-    ensures listed { OnOk result (IsListed seen.new.keys order.new.items) }
-    ensures grows { OnOk result (GoesOn order.old.items order.new.items (IsPlaced insts.now)) }
-{
-    for inst in insts.as_slice() {
-        add_cell(seen, order, inst.of)?;
-    }
-    Ok(())
-}
-
-/// The same with the instances of contents.
-#[tactic(auto, using(eco_reads::proofs::Below::goes_nowhere))]
-fn add_inside(
-    contents: Option<&Contents>,
-    seen: &mut BTreeSet<CellId>,
-    order: &mut Vec<CellId>,
-) -> Result<(), NoMemory>
-    requires { IsListed seen.old.keys order.old.items }
-    ensures listed { OnOk result (IsListed seen.new.keys order.new.items) }
-    ensures grows { OnOk result (GoesOn order.old.items order.new.items (IsPlaced (insts_in (option_copied contents.entry)))) }
-{
-    match contents {
-        Some(inside) => add_insts(&inside.insts, seen, order),
-        None => Ok(()),
-    }
-}
 
 /// Looks into a cell, and puts the cells of its instances on the list, where they were not seen yet.
 #[tactic(auto, using(crate::proofs::Entering::goes_inside, eco_reads::proofs::Reading::read_some))]

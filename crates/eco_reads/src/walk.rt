@@ -53,9 +53,10 @@ fn add_insts(
     Ok(())
 }
 
-/// Puts the cells of the instances of contents on the list, where they were not seen yet.
+/// Puts the cells of the instances of contents on the list, where they were not seen yet: each once, in the order of the
+/// instances. A leaf, which has no contents, adds none.
 #[tactic(auto, using(crate::proofs::Below::goes_nowhere))]
-fn add_inside(
+pub fn add_inside(
     contents: Option<&Contents>,
     seen: &mut BTreeSet<CellId>,
     order: &mut Vec<CellId>,
