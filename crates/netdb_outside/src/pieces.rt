@@ -13,7 +13,7 @@ pub trait Taker {
     /// That just these bytes were taken.
     ghost took: { Self → List ℕ → Type 0 };
 
-    /// Takes the next bytes. After `NoMemory` it takes no more.
+    /// Takes the next bytes. After `NoMemory` nothing is said of what was taken; `read_pieces` then hands on no more.
     fn take_piece(&mut self, piece: &[u8]) -> Result<(), NoMemory>
         ensures { OnOk result ((bytes : List ℕ) → took self.old bytes → took self.new (bytes ++ piece.now)) };
 }
