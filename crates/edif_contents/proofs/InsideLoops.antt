@@ -8,7 +8,7 @@ use Rattle.netlist_schema.specs.Names.{AreDistinct}
 use Rattle.edif_spec.specs.Design as design
 use Rattle.edif_spec.specs.Faults.{AtTwo, Beyond, SameOfTwo, declared_width, place_of, repeated, those_of}
 use Rattle.edif_spec.specs.Means.{MeansEnd, MeansInst}
-use Rattle.edif_spec.specs.Nets.{NetForm, Stretch, net_at, nets_of, row_size}
+use Rattle.edif_spec.specs.Nets.{FineForm, NetForm, Stretch, net_at, nets_of, row_size}
 use Rattle.edif_spec.specs.Rows.{Each, has_keyword}
 use Rattle.edif_spec.specs.Stands.{SameEnd, counted_ends, ends_in, net_names_in, row_ends}
 use Rattle.edif_spec.specs.declared.keyword.Keyword.{Keyword}
@@ -17,7 +17,6 @@ use Rattle.edif_spec.specs.declared.fault.MeaningFault.{MeaningFault}
 use Rattle.edif_spec.specs.declared.fault.MeaningFault.TheVariants.{OverLimit}
 use Rattle.edif_spec.proofs.FaultForms.{filter_bare, map_length}
 use Rattle.edif_spec.proofs.NetFaultsApart.{net_declares, zip_append, zip_flat, zip_length}
-use Rattle.edif_spec.proofs.RowForms as row_forms
 use Rattle.edif_spec.proofs.RowForms.{GivesName, flat_append, length_numbered, net_names_are, nets_counted, rows_fine}
 use Rattle.edif_tree.specs.Nodes.{Row}
 use Rattle.edif_tree.specs.declared.node.NodeId.{NodeId}
@@ -118,7 +117,7 @@ AreMeant s ts ns = AllZip (λ u n. MeansNetIn s (bare u) n) ts ns
 pub record NetsSoFar (s : Surroundings) (ts : List Placed) (xs : List design.Net) (ns : List (List ℕ × ℕ)) (js : List (design.End × ℕ)) : Type 0 where
   pub forms : List NetForm
   pub mean : AreMeant s (those_of keywords.Net ts) forms
-  pub fine : AllByRecursion row_forms.FineForm forms
+  pub fine : AllByRecursion FineForm forms
   pub nets : xs ≡ flat_map nets_of forms
   pub names : ns ≡ names_in ts
   pub distinct : AreDistinct (ids ns)
@@ -182,7 +181,7 @@ nets_push s ts i step xs ys r ss size ns ms js ks h a e d l b j f =
     record {
       forms = f.forms ++ r.form ∷ [];
       mean = subst M (sym more) (zip_append (λ u n. MeansNetIn s (bare u) n) (those_of keywords.Net (take i ts)) f.forms (step.tree ∷ []) (r.form ∷ []) f.mean (a.mean, tt));
-      fine = all_push row_forms.FineForm f.forms r.form f.fine (record { name = a.fine.name; array = a.fine.array; properties = a.fine.properties; keys = a.fine.keys });
+      fine = all_push FineForm f.forms r.form f.fine a.fine;
       nets = b.nets ∙ (ap (λ v. v ++ nets_of r.form) f.nets ∙ sym (flat_push nets_of f.forms r.form));
       names = b.names ∙ (ap (λ v. v ++ row_names r.form r.place) f.names ∙ sym names);
       distinct = b.distinct;

@@ -10,7 +10,7 @@ use Rattle.edif_spec.specs.Keyword.{Many, bus_name, the}
 use Rattle.edif_spec.specs.Rows.{has_keyword, is_one_of, Each, IsFormOf}
 use Rattle.edif_spec.specs.Faults.{AtOne, Among, followers, parts}
 use Rattle.edif_spec.specs.Means.{MeansProperties}
-use Rattle.edif_spec.specs.Nets.{NetForm, Stretch, row_size}
+use Rattle.edif_spec.specs.Nets.{FineForm, NetForm, Stretch, row_size}
 use Rattle.edif_spec.specs.Stands.{JoinedFault, ends_in, ends_joined, width_kind}
 use Rattle.edif_spec.specs.Stands as stands
 use Rattle.edif_spec.specs.declared.keyword.Keyword.{Keyword}
@@ -31,7 +31,7 @@ use Rattle.edif_parts.specs.Ports.{ReadBusName}
 use Rattle.edif_parts.specs.declared.ports.BusName.{BusName}
 use Rattle.edif_parts.proofs.Steps.{Step}
 use Rattle.edif_contents.specs.Ends.{EndFaultIn, MeansEndIn, ReadEnd, WidthFaultIn}
-use Rattle.edif_contents.specs.Nets.{FineForm, MeansNetIn, NetFaultIn, ReadJoined, ReadNet}
+use Rattle.edif_contents.specs.Nets.{MeansNetIn, NetFaultIn, ReadJoined, ReadNet}
 use Rattle.edif_contents.specs.declared.ends.EndAt.{EndAt}
 use Rattle.edif_contents.specs.declared.ends.Surroundings.{Surroundings}
 use Rattle.edif_contents.specs.declared.nets.JoinedAt.{JoinedAt}

@@ -1,14 +1,13 @@
 -- What is read of nets.
-use Rattle.std.specs.Prelude.{◌≡◌, ◌^◌, ◌<◌, ◌≤◌, ◌⊎◌, ◌++◌, ℕ, IfSome, List, [], ◌∷◌, None, Some, map, length}
+use Rattle.std.specs.Prelude.{◌≡◌, ◌^◌, ◌<◌, ◌≤◌, ◌⊎◌, ◌++◌, ℕ, List, [], ◌∷◌, None, Some, map, length}
 use Rattle.std.specs.List.{All, AllZip, flat_map}
 use Rattle.spelling_spec.specs.Tree.{Bare, Placed, bare}
 use Rattle.netlist_schema.specs.Names.{AreDistinct, HasDistinctKeys}
-use Rattle.netlist_schema.specs.Typed.{IsTypedName, IsTypedNet, IsTypedProperty}
-use Rattle.netlist_schema.specs.Width.{IsWidth}
+use Rattle.netlist_schema.specs.Typed.{IsTypedNet}
 use Rattle.netlist_schema.specs.declared.limits.TheConstants.{MOST_ENDS, MOST_NETS}
 use Rattle.edif_spec.specs.Design as design
 use Rattle.edif_spec.specs.Faults.{Among, AtTwo, Beyond, SameOfTwo, declared_width, defined, parts, repeated}
-use Rattle.edif_spec.specs.Nets.{NetForm, name_at, nets_of, row_size}
+use Rattle.edif_spec.specs.Nets.{FineForm, NetForm, name_at, nets_of, row_size}
 use Rattle.bus_spec.specs.Members.{numbered}
 use Rattle.edif_spec.specs.Means.{MeansNet}
 use Rattle.edif_spec.specs.Rows.{Each, IsFormOf, those}
@@ -35,13 +34,6 @@ MeansNetIn s t n = MeansNet s.libs.now.libs s.ports.now s.insts.now t n
 
 abbrev pub NetFaultIn : Surroundings → Placed → MeaningFault → Type 0
 NetFaultIn s t f = NetFault s.libs.now.libs s.ports.now s.insts.now t f
-
--- a form of nets that are fit for a design
-pub record FineForm (n : NetForm) : Type 0 where
-  pub name : IsTypedName n.name
-  pub array : IfSome n.array IsWidth
-  pub properties : All IsTypedProperty n.properties
-  pub keys : HasDistinctKeys n.properties
 
 -- a net is fit for a design
 abbrev pub IsFine : design.Net → Type 0

@@ -14,7 +14,7 @@ use Rattle.edif_spec.specs.Rows.{has_keyword, those, is_one_of, IsFormOf, Each, 
 use Rattle.edif_spec.specs.Canonical.{kind_word, ports_of_end}
 use Rattle.edif_spec.specs.Means.{Meant as Meaning, equal, equal_or, only_place, meant, Found, Absent, Several, width_at, MeansText, MeansPort, MeansLibraryRef, MeansCellRef, MeansViewRef, MeansInst, MeansInstRef, MeansBits, MeansEnd, MeansNet, MeansContents, IsNetlist, MeansView, MeansKind, MeansCell}
 use Rattle.edif_spec.specs.Faults.{AtTwo, place_of, followers, parts, Among, RowFault, SameOfTwo, declared_width, repeated}
-use Rattle.edif_spec.specs.Nets.{Stretch, nets_of, row_size}
+use Rattle.edif_spec.specs.Nets.{FineForm, Stretch, nets_of, row_size}
 use Rattle.edif_spec.specs.Stands.{Dangles, ports_in, LibraryRefFault, CellRefFault, ViewRefFault, InstFault, InstRefFault, BitFault, EndFault, JoinedFault, WidthFault, NetFault, MeansRowEnd, counted_ends, ends_in, insts_in, net_names_in, nets_in, row_ends, width_kind, SameEnd, ContentsFault, is_netlist, TypeFault, ViewFault, is_cell_type, CellTypeFault, CellFault}
 use Rattle.edif_spec.specs.Stands as stands
 use Rattle.edif_spec.specs.Design as design
@@ -26,7 +26,7 @@ use Rattle.edif_spec.specs.declared.fault.MeaningFault.TheVariants.{At, Clash}
 use Rattle.netlist_schema.specs.declared.cell.CellKind.TheVariants as kinds
 use Rattle.edif_spec.proofs.FaultForms.{filter_bare, map_length, part_there, each_with, IsNamed}
 use Rattle.edif_spec.proofs.CellFaultsApart.{all_kept, ends_of_form, inst_named, zip_flat, zip_length, FineContents, FineCell}
-use Rattle.edif_spec.proofs.RowForms.{FineForm, GivesName, ends_counted, net_names_are, nets_counted, row_ends_of, rows_fine}
+use Rattle.edif_spec.proofs.RowForms.{GivesName, ends_counted, net_names_are, nets_counted, row_ends_of, rows_fine}
 use Rattle.edif_spec.proofs.FaultsApart.{FineInterface}
 use Rattle.edif_spec.proofs.KnownForms.{Faulty, test, Written, IsOf, Meant, beyond_known, names_known, distinct_known, bytes_same, differ_distinct, nat_same, parts_of, word_choice, integer_choice, either, only, form_choice, known0, known1, known2, known3}
 use Rattle.edif_spec.proofs.KnownRows.{follow_none, perhaps_in, each_in, name_known, bus_name_known, text_known, properties_known, interface_known, first_all, second_all, each_count}

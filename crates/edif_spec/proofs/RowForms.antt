@@ -7,14 +7,13 @@ use Rattle.std.proofs.lemmas.List.{length-replicate}
 use Rattle.netlist_schema.specs.Names.{HasDistinctKeys}
 use Rattle.netlist_schema.specs.Typed.{IsTypedName, IsTypedNet, IsTypedProperty}
 use Rattle.netlist_schema.specs.Width.{IsWidth}
-use Rattle.std.specs.List.{All}
 use Rattle.spelling_spec.specs.Tree.{Bare, Placed, integer, bare}
 use Rattle.std.specs.Prelude.{pos}
 use Rattle.bus_spec.specs.Members.{numbered}
 use Rattle.bus_spec.proofs.MemberNames.{member_typed}
 use Rattle.edif_spec.specs.Faults.{declared_width, defined, repeated}
 use Rattle.edif_spec.specs.Means.{MeansBusName, MeansEnd, MeansNet}
-use Rattle.edif_spec.specs.Nets.{NetForm, Stretch, end_of, name_at, net_at, nets_of, row_size}
+use Rattle.edif_spec.specs.Nets.{FineForm, NetForm, Stretch, end_of, name_at, net_at, nets_of, row_size}
 use Rattle.edif_spec.specs.Rows.{has_keyword}
 use Rattle.edif_spec.specs.Stands.{MeansRowEnd, counted_ends, ends_in, is_arrayed, member_at, names_from, net_names_in, row_ends}
 use Rattle.edif_spec.specs.Design as design
@@ -138,12 +137,6 @@ nets_counted libs ports insts (t ∷ ts) (n ∷ ns) h =
     omega (arith, a, b, c, d, e, r)
 
 -- what holds of a net of a row, by its form
-pub record FineForm (n : NetForm) : Type 0 where
-  pub name : IsTypedName n.name
-  pub array : IfSome n.array IsWidth
-  pub properties : All IsTypedProperty n.properties
-  pub keys : HasDistinctKeys n.properties
-
 name_typed : (name : design.Name) (o : Option ℕ) (k : ℕ) → IsTypedName name → k < 65536 → IsTypedName (name_at name o k)
 name_typed name None k h l = h
 name_typed name (Some w) k h l = member_typed name k (omega (arith, l)) h

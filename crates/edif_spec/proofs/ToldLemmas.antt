@@ -1,5 +1,5 @@
 -- A fault that stands tells of what is there: the walk through the cases of each form.
-use Rattle.std.proofs.Common.{◌≡◌, ℕ, zero, suc, ◌+◌, ℤ, pos, List, [], ◌∷◌, ◌++◌, map, replicate, length, refl, ap, sym, ◌∙◌, subst, inl, inr, Bool, true, false, Option, Some, None}
+use Rattle.std.proofs.Common.{◌≡◌, ℕ, zero, suc, ◌+◌, ◌<◌, ℤ, pos, List, [], ◌∷◌, ◌++◌, map, replicate, length, refl, ap, sym, ◌∙◌, subst, inl, inr, Bool, true, false, Option, Some, None, arith}
 use Rattle.std.specs.Prelude.{IsTrue, cond, filter, drop, slice_get}
 use Rattle.std.specs.List.{AllByRecursion, flat_map}
 use Rattle.bus_spec.specs.Members.{numbered}
@@ -124,7 +124,7 @@ repeats_told : (r : Placed) (Q : Placed → Type 0) (ts : List Placed) (f : Mean
 repeats_told r Q ts f h b =
     let w = two_there (SameName f) ts b in
     let s = w.6 in
-    at_fault r f (Clash clashes.Duplicate s.2 s.1) s.5 (s.0, s.0, s.0, (defined_in r w.2 s.0 s.1 (h w.0 w.2 w.4).0 s.3, inl refl), (defined_in r w.3 s.0 s.2 (h w.1 w.3 w.5).0 s.4, inl refl))
+    at_fault r f (Clash clashes.Duplicate s.2 s.1) s.5 (s.0, inl (defined_in r w.2 s.0 s.1 (h w.0 w.2 w.4).0 s.3), inl (defined_in r w.3 s.0 s.2 (h w.1 w.3 w.5).0 s.4))
 
 beyond_told : (r : Placed) (Q : Placed → Type 0) (limit : ℕ) (ts : List Placed) (f : MeaningFault) → Inside r Q ts → Beyond limit ts f → Told r f
 beyond_told r Q limit ts f h b = at_fault r f (OverLimit limit (place_of b.0)) b.2 (b.0, refl, (h limit b.0 b.1).0)
@@ -492,28 +492,30 @@ nets_told r libs own ports t f h (stands.end_again insts m b) =
     let y = all_at (λ (x : Placed × ℕ × ℕ). IsIn r x.0 × IsA keywords.PortRef x.0) (flat_map row_ends (nets_in t)) w.1 w.3 all w.5 in
     at_fault r f (Clash clashes.EndTwice (place_of w.3.0) (place_of w.2.0)) w.6.3 (w.2.0, w.3.0, refl, refl, x, y)
 
--- a name that stands in the tree, or that a word there gives
+-- a name that a word of the tree gives
 abbrev Given : Placed → List ℕ × ℕ → Type 0
-Given r a = (w : List ℕ) × IsIn r (Word' a.1 w) × Gives w a.0
+Given r a = Gives r a.0 a.1
 
 names_told : (r : Placed) (ns : List (List ℕ × ℕ)) (f : MeaningFault) → AllByRecursion (Given r) ns → AtTwo (SameOfTwo f) ns → Told r f
 names_told r ns f h b =
     let w = two_there (SameOfTwo f) ns b in
     let x = all_at (Given r) ns w.0 w.2 h w.4 in
     let y = all_at (Given r) ns w.1 w.3 h w.5 in
-    at_fault r f (Clash clashes.Duplicate w.3.1 w.2.1) w.6.1 (w.2.0, x.0, y.0, (x.1, x.2), (y.1, subst (Gives y.0) (sym w.6.0) y.2))
+    at_fault r f (Clash clashes.Duplicate w.3.1 w.2.1) w.6.1 (w.2.0, x, subst (λ v. Gives r v w.3.1) (sym w.6.0) y)
 
-names_given : (r t : Placed) → IsIn r t → AllByRecursion (Given r) (net_names_in t)
-names_given r t h = go (is_arrayed (slice_get (arguments t) 0)) (defined t) refl
+names_given : (r t : Placed) → IsIn r t → IsA keywords.Net t → AllByRecursion (Given r) (net_names_in t)
+names_given r t h w = go (is_arrayed (slice_get (arguments t) 0)) (defined t) refl refl
   where
-    members : (name : List ℕ × ℕ) (k count : ℕ) → IsIn r (Word' name.1 name.0) → AllByRecursion (Given r) (numbered (member_at name) k count)
-    members name k zero i = tt
-    members name k (suc count) i = ((name.0, i, inr (k, refl)), members name (suc k) count i)
+    members : (name : List ℕ × ℕ) (k count : ℕ) → k + count ≡ declared_width t → is_arrayed (slice_get (arguments t) 0) ≡ true → defined t ≡ Some (name.0, name.1) → AllByRecursion (Given r) (numbered (member_at name) k count)
+    members name k zero e a d = tt
+    members name k (suc count) e a d =
+        let l : k < declared_width t = omega (arith, e) in
+        (inr (record { net = t; inside = h; keyword = w; array = a; id = name.0; named = d; word = defined_in r t name.0 name.1 h d; number = k; within = l; member = refl }), members name (suc k) count (omega (arith, e)) a d)
 
-    go : (b : Bool) (o : Option (List ℕ × ℕ)) → defined t ≡ o → AllByRecursion (Given r) (names_from b (declared_width t) o)
-    go b None e = tt
-    go false (Some name) e = ((name.0, defined_in r t name.0 name.1 h e, inl refl), tt)
-    go true (Some name) e = members name 0 (declared_width t) (defined_in r t name.0 name.1 h e)
+    go : (b : Bool) (o : Option (List ℕ × ℕ)) → is_arrayed (slice_get (arguments t) 0) ≡ b → defined t ≡ o → AllByRecursion (Given r) (names_from b (declared_width t) o)
+    go b None a e = tt
+    go false (Some name) a e = (inl (defined_in r t name.0 name.1 h e), tt)
+    go true (Some name) a e = members name 0 (declared_width t) (omega arith) a e
 
 contents_told : (r : Placed) (libs : List design.Lib) (own : Option ℕ) (ports : List design.Port) (t : Placed) (f : MeaningFault) → IsIn r t → IsA keywords.Contents t → ContentsFault libs own ports t f → Told r f
 contents_told r libs own ports t f h w (stands.contents_row b) = row_told r keywords.Contents t f h w b
@@ -521,7 +523,7 @@ contents_told r libs own ports t f h w (stands.contents_inst b) = among_told r (
 contents_told r libs own ports t f h w (stands.contents_net_shape b) = among_told r (IsA keywords.Net) NetShapeFault (nets_in t) f (inside_parts r keywords.Contents keywords.Net t h) (λ u i v c. net_shape_told r u f i v c) b
 contents_told r libs own ports t f h w (stands.contents_nets b) = nets_told r libs own ports t f h b
 contents_told r libs own ports t f h w (stands.inst_again b) = repeats_told r (IsA keywords.Instance) (insts_in t) f (inside_parts r keywords.Contents keywords.Instance t h) b
-contents_told r libs own ports t f h w (stands.net_again b) = names_told r (flat_map net_names_in (nets_in t)) f (all_flat (IsA keywords.Net) r (Given r) net_names_in (nets_in t) (inside_parts r keywords.Contents keywords.Net t h) (λ u i v. names_given r u i)) b
+contents_told r libs own ports t f h w (stands.net_again b) = names_told r (flat_map net_names_in (nets_in t)) f (all_flat (IsA keywords.Net) r (Given r) net_names_in (nets_in t) (inside_parts r keywords.Contents keywords.Net t h) (λ u i v. names_given r u i v)) b
 contents_told r libs own ports t f h w (stands.many_insts b) = beyond_told r (IsA keywords.Instance) 1048576 (insts_in t) f (inside_parts r keywords.Contents keywords.Instance t h) b
 contents_told r libs own ports t f h w (stands.many_nets b) = beyond_told r (IsA keywords.Net) 1048576 (repeated declared_width (nets_in t)) f (repeated_inside r (IsA keywords.Net) declared_width (nets_in t) (inside_parts r keywords.Contents keywords.Net t h)) b
 contents_told r libs own ports t f h w (stands.many_ends b) = beyond_told r (IsA keywords.PortRef) 4194304 (flat_map counted_ends (nets_in t)) f (all_ends r t h) b
@@ -611,7 +613,7 @@ notes_told r libs t f h (stands.note_again top m b) =
     let s = w.6 in
     let x = inside_followers r is_note keywords.Design t h w.0 w.2 w.4 in
     let y = inside_followers r is_note keywords.Design t h w.1 w.3 w.5 in
-    at_fault r f (Clash clashes.Duplicate s.place s.earlier) s.fault (s.key, s.key, s.key, (noted_key r w.2 libs top s.steps s.key s.earlier x.0 s.first, inl refl), (noted_key r w.3 libs top s.steps s.key s.place y.0 s.second, inl refl))
+    at_fault r f (Clash clashes.Duplicate s.place s.earlier) s.fault (s.key, inl (noted_key r w.2 libs top s.steps s.key s.earlier x.0 s.first), inl (noted_key r w.3 libs top s.steps s.key s.place y.0 s.second))
 
 -- the design and the file
 design_told : (r : Placed) (libs : List design.Lib) (t : Placed) (f : MeaningFault) → IsIn r t → IsA keywords.Design t → DesignFault libs t f → Told r f

@@ -1,5 +1,9 @@
 -- Nets as they are written: what one form joins, and the nets for which it stands.
-use Rattle.std.specs.Prelude.{ℕ, zero, suc, pred, ◌+◌, nat_le, if◌then◌else◌, List, [], ◌∷◌, map, Option, Some, None, unwrap_or}
+use Rattle.std.specs.Prelude.{ℕ, zero, suc, pred, ◌+◌, nat_le, if◌then◌else◌, IfSome, List, [], ◌∷◌, map, Option, Some, None, unwrap_or}
+use Rattle.std.specs.List.{All}
+use Rattle.netlist_schema.specs.Names.{HasDistinctKeys}
+use Rattle.netlist_schema.specs.Typed.{IsTypedName, IsTypedProperty}
+use Rattle.netlist_schema.specs.Width.{IsWidth}
 use Rattle.bus_spec.specs.Members.{member_name, numbered}
 use Rattle.bus_spec.specs.Runs.{run_name, run_width}
 use Rattle.edif_spec.specs.Design as design
@@ -34,6 +38,13 @@ net_at f k = record { name = name_at f.name f.array k; ends = map (end_of k) f.j
 -- the nets for which a form stands: one, or as many as its array is wide
 abbrev pub nets_of : NetForm → List design.Net
 nets_of f = numbered (net_at f) 0 (row_size f.array)
+
+-- a form whose nets are fit for a design
+pub record FineForm (n : NetForm) : Type 0 where
+  pub name : IsTypedName n.name
+  pub array : IfSome n.array IsWidth
+  pub properties : All IsTypedProperty n.properties
+  pub keys : HasDistinctKeys n.properties
 
 -- one bit, as a stretch
 abbrev pub bit_of : design.End → Stretch

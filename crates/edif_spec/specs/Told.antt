@@ -1,10 +1,11 @@
 -- What a fault says of the tree in which it stands: which node is at its place, and in which form.
-use Rattle.std.specs.Prelude.{◌≡◌, ◌⊎◌, ℕ, List, false, IsTrue, Some, slice_get}
+use Rattle.std.specs.Prelude.{◌≡◌, ◌⊎◌, ◌<◌, ℕ, List, false, IsTrue, Some, slice_get}
 use Rattle.spelling_spec.specs.Tree.{Placed, Trees, Form', Word', More, bare}
 use Rattle.bus_spec.specs.Members.{member_id}
 use Rattle.edif_spec.specs.Keyword.{row}
 use Rattle.edif_spec.specs.Rows.{has_keyword}
-use Rattle.edif_spec.specs.Faults.{arguments, place_of, row_has}
+use Rattle.edif_spec.specs.Faults.{arguments, declared_width, defined, place_of, row_has}
+use Rattle.edif_spec.specs.Stands.{is_arrayed}
 use Rattle.edif_spec.specs.declared.keyword.Keyword.{Keyword}
 use Rattle.edif_spec.specs.declared.keyword.Keyword.TheVariants as keywords
 use Rattle.edif_spec.specs.declared.fault.Kind.{Kind}
@@ -56,9 +57,22 @@ pub record AreTwo (t : Placed) (k : Keyword) (a b : Placed) : Type 0 where
   pub keyword_a : IsTrue (has_keyword k (bare a))
   pub keyword_b : IsTrue (has_keyword k (bare b))
 
--- a word gives a name: that which it spells, or that of a member of an array which it names
-abbrev pub Gives : List ℕ → List ℕ → Type 0
-Gives spelled name = (name ≡ spelled) ⊎ ((k : ℕ) × (name ≡ member_id spelled k))
+-- The identifier of a net's array stands at the place, and one of the array's nets has the name.
+pub record IsMember (t : Placed) (name : List ℕ) (place : ℕ) : Type 0 where
+  pub net : Placed
+  pub inside : IsIn t net
+  pub keyword : IsTrue (has_keyword keywords.Net (bare net))
+  pub array : IsTrue (is_arrayed (slice_get (arguments net) 0))
+  pub id : List ℕ
+  pub named : defined net ≡ Some (id, place)
+  pub word : IsIn t (Word' place id)
+  pub number : ℕ
+  pub within : number < declared_width net
+  pub member : name ≡ member_id id number
+
+-- a word at the place gives the name: it spells it, or it is that of a net's array, one of whose nets has it
+abbrev pub Gives : Placed → List ℕ → ℕ → Type 0
+Gives t name place = IsIn t (Word' place name) ⊎ IsMember t name place
 
 -- The fault tells of what is there.
 abbrev pub Told : Placed → MeaningFault → Type 0
@@ -66,6 +80,6 @@ Told t (NotInProfile name place) = IsOutside t name place
 Told t (At kind place) = (u : Placed) × (place_of u ≡ place) × IsFaulty kind t u
 Told t (Clash clashes.SecondView place earlier) = (a : Placed) × (b : Placed) × (place_of a ≡ earlier) × (place_of b ≡ place) × AreTwo t keywords.View a b
 Told t (Clash clashes.SecondDesign place earlier) = (a : Placed) × (b : Placed) × (place_of a ≡ earlier) × (place_of b ≡ place) × AreTwo t keywords.Design a b
-Told t (Clash clashes.Duplicate place earlier) = (name : List ℕ) × (first : List ℕ) × (second : List ℕ) × (IsIn t (Word' earlier first) × Gives first name) × (IsIn t (Word' place second) × Gives second name)
+Told t (Clash clashes.Duplicate place earlier) = (name : List ℕ) × Gives t name earlier × Gives t name place
 Told t (Clash clashes.EndTwice place earlier) = (a : Placed) × (b : Placed) × (place_of a ≡ earlier) × (place_of b ≡ place) × (IsIn t a × IsTrue (has_keyword keywords.PortRef (bare a))) × (IsIn t b × IsTrue (has_keyword keywords.PortRef (bare b)))
 Told t (OverLimit limit place) = (u : Placed) × (place_of u ≡ place) × IsIn t u

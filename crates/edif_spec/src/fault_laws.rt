@@ -2,7 +2,7 @@
 ghost use Rattle.std.specs.Prelude.{ℕ, List, ◌≡◌, ◌⊎◌, IsTrue};
 ghost use Rattle.netlist_schema.specs.Typed.{IsBytes};
 ghost use Rattle.spelling_spec.specs.Spelling.{Spells};
-ghost use Rattle.spelling_spec.specs.Tree.{Bare, bare, Placed, Word'};
+ghost use Rattle.spelling_spec.specs.Tree.{Bare, bare, Placed};
 ghost use Rattle.edif_spec.specs.Design.{Design};
 ghost use Rattle.edif_spec.specs.Means.{MeansFile};
 ghost use Rattle.edif_spec.specs.Faults.{place_of};
@@ -32,13 +32,14 @@ pub fn spelled_tree_is_writable()
 /// named, in a form whose row does not have it, or as the tree itself. A fault of one place is a node of the tree: the argument of
 /// a version, a level, a view's type, an array or a member, a port reference or a path for the kinds that are about these, and an
 /// identifier for a reference that means nothing. A clash is two views or two designs of one form, two words that give one name,
-/// which they spell or which a net of an array has, or two port references. What is beyond a limit is a node of the tree.
+/// or two port references. A word gives the name that it spells, and as the identifier of a net's array those of its nets. What is
+/// beyond a limit is a node of the tree.
 pub fn fault_is_there()
     ensures outside { (t : Placed) (name : List ℕ) (place : ℕ) → Stands t (NotInProfile name place) → IsOutside t name place }
     ensures at { (t : Placed) (kind : Kind) (place : ℕ) → Stands t (At kind place) → (u : Placed) × (place_of u ≡ place) × IsFaulty kind t u }
     ensures views { (t : Placed) (place earlier : ℕ) → Stands t (Clash SecondView place earlier) → (a : Placed) × (b : Placed) × (place_of a ≡ earlier) × (place_of b ≡ place) × AreTwo t View a b }
     ensures designs { (t : Placed) (place earlier : ℕ) → Stands t (Clash SecondDesign place earlier) → (a : Placed) × (b : Placed) × (place_of a ≡ earlier) × (place_of b ≡ place) × AreTwo t DesignWord a b }
-    ensures names { (t : Placed) (place earlier : ℕ) → Stands t (Clash Duplicate place earlier) → (name : List ℕ) × (first : List ℕ) × (second : List ℕ) × (IsIn t (Word' earlier first) × Gives first name) × (IsIn t (Word' place second) × Gives second name) }
+    ensures names { (t : Placed) (place earlier : ℕ) → Stands t (Clash Duplicate place earlier) → (name : List ℕ) × Gives t name earlier × Gives t name place }
     ensures ends { (t : Placed) (place earlier : ℕ) → Stands t (Clash EndTwice place earlier) → (a : Placed) × (b : Placed) × (place_of a ≡ earlier) × (place_of b ≡ place) × (IsIn t a × IsTrue (has_keyword PortRef (bare a))) × (IsIn t b × IsTrue (has_keyword PortRef (bare b))) }
     ensures limits { (t : Placed) (limit place : ℕ) → Stands t (OverLimit limit place) → (u : Placed) × (place_of u ≡ place) × IsIn t u }
 {}
