@@ -2,11 +2,7 @@
 use Rattle.std.proofs.Common.{◌≡◌, ℕ, ◌≤◌, ◌<◌, Bool, false, nat_eq, List, [], ◌∷◌, ◌++◌, length, get_or, ap, sym, ◌∙◌, arith, eqb-true}
 use Rattle.std.specs.Bool.{Decides}
 use Rattle.std.proofs.lemmas.Bool.Decides.{Decides-eqb}
-
--- equal ends of texts
-left_same : (a x y : List ℕ) → a ++ x ≡ a ++ y → x ≡ y
-left_same [] x y e = e
-left_same (b ∷ a) x y e = let d : a ++ x ≡ a ++ y = cc e in left_same a x y d
+use Rattle.bus_spec.proofs.Numbers.{left_same}
 
 -- a text is its front with a tail where that tail stands behind the front
 pub behind : (text front rest tail : List ℕ) (b : Bool) → text ≡ front ++ rest → Decides b (rest ≡ tail) → Decides b (text ≡ front ++ tail)

@@ -8,7 +8,7 @@ use Rattle.bus_spec.specs.Same.{same_bytes}
 use Rattle.bus_spec.proofs.Tests.{bytes_tell}
 
 -- equal ends of texts
-left_same : (a x y : List ℕ) → a ++ x ≡ a ++ y → x ≡ y
+pub left_same : (a x y : List ℕ) → a ++ x ≡ a ++ y → x ≡ y
 left_same [] x y e = e
 left_same (b ∷ a) x y e = let d : a ++ x ≡ a ++ y = cc e in left_same a x y d
 
