@@ -1,7 +1,7 @@
 -- What the steps of a lexer do to what is ahead.
 use Rattle.std.proofs.Common.{◌≡◌, ℕ, ◌+◌, ◌<◌, true, false, not, List, [], ◌∷◌, ◌++◌, length, None, Some, Result, Ok, Err, refl, sym, ap, ◌∙◌, subst, arith, append_assoc, append-nil, length-append, eqb, drop, take, get_or, take-append-drop}
 use Rattle.std.specs.Prelude.{slice_get}
-use Rattle.std.proofs.lemmas.List.{take_more}
+use Rattle.std.proofs.Math.Seq.{take-add}
 use Rattle.edif_lexer.specs.declared.lexing.State.{State}
 use Rattle.edif_lexer.specs.declared.lexing.State.TheVariants.{Running, Failed, Finished}
 use Rattle.edif_lexer.proofs.CompleteLemmas.{are_complete, all_push}
@@ -67,6 +67,21 @@ fresh old bytes e = ap (λ p. lexed old.start 0 (p ++ bytes)) e
 
 pub continues_space : (old : Reading) (b : ℕ) → old.pending ≡ [] → is_space b ≡ true → Continues Anything old (b ∷ []) (record old { start = old.start + 1; pending = [] }) []
 continues_space old b e s = record { state = refl; pending = λ _. refl; count = let none = ap length e in omega arith; reads = λ more p. fresh old (b ∷ more) e ∙ lexed_space old.start b more s }
+
+-- blanks, one after another
+lexed_spaces : (place : ℕ) (bs more : List ℕ) → list_all is_space bs ≡ true → lexed place 0 (bs ++ more) ≡ lexed (place + length bs) 0 more
+lexed_spaces place [] more s = ap (λ n. lexed n 0 more) (omega arith)
+lexed_spaces place (b ∷ bs) more s =
+    let p = and_parts (is_space b) (list_all is_space bs) s in
+    lexed_space place b (bs ++ more) p.0 ∙ lexed_spaces (place + 1) bs more p.1 ∙ ap (λ n. lexed n 0 more) (omega arith)
+
+pub continues_spaces : (old : Reading) (bs : List ℕ) (n : ℕ) → n ≡ length bs → old.pending ≡ [] → list_all is_space bs ≡ true → Continues Anything old bs (record old { start = old.start + n; pending = [] }) []
+continues_spaces old bs n size e s = record {
+  state = refl;
+  pending = λ _. refl;
+  count = let none = ap length e in omega (arith, size);
+  reads = λ more p. fresh old (bs ++ more) e ∙ lexed_spaces old.start bs more s ∙ ap (λ m. lexed (old.start + m) 0 more) (sym size);
+}
 
 pub continues_left : (old : Reading) → old.pending ≡ [] → Continues Anything old (40 ∷ []) (record old { start = old.start + 1; pending = [] }) (record { kind = LeftParen; place = old.start } ∷ [])
 continues_left old e = continues_token Anything old (40 ∷ []) (record { kind = LeftParen; place = old.start }) 1 (let none = ap length e in omega arith) (λ more p. fresh old (40 ∷ more) e ∙ lexed_left old.start more)
@@ -153,12 +168,23 @@ stops_early : (old : Reading) (xs ys : List ℕ) (g : List Token) (error : LexEr
 stops_early old xs ys g NoMemory s = λ more p. let l = s (ys ++ more) tt in (l.0, ap (λ x. (ahead old x).tokens) (append_assoc xs ys more) ∙ l.1)
 stops_early old xs ys g (At kind place) s = λ more p. ap (ahead old) (append_assoc xs ys more) ∙ s (ys ++ more) tt
 
-pub run_stops : (old mid : Reading) (piece : List ℕ) (i byte : ℕ) (g h : List Token) (error : LexError) → i < length piece → byte ≡ get_or piece i 0 → Continues Anything old (take i piece) mid g → Stops Anything mid (byte ∷ []) h error → Stops Anything old piece (g ++ h) error
-run_stops old mid piece i byte g h error l b c s =
+-- a fault at the first byte
+pub front_stops : (old : Reading) (bytes : List ℕ) (byte : ℕ) (g : List Token) (error : LexError) → 0 < length bytes → byte ≡ get_or bytes 0 0 → Stops Anything old (byte ∷ []) g error → Stops Anything old bytes g error
+front_stops old [] byte g error l b s = absurd (omega (arith, l))
+front_stops old (x ∷ bytes) byte g error l b s =
+    let S : ℕ → Type 0 = λ y. Stops Anything old (y ∷ bytes) g error in
+    subst S b (stops_early old (byte ∷ []) bytes g error s)
+
+-- the bytes so far, and those in front of the rest
+pub continues_front : (old mid new : Reading) (piece : List ℕ) (i n m : ℕ) (g h : List Token) → m ≡ i + n → Continues Anything old (take i piece) mid g → Continues Anything mid (take n (drop i piece)) new h → Continues Anything old (take m piece) new (g ++ h)
+continues_front old mid new piece i n m g h e c d =
+    let C : List ℕ → Type 0 = λ xs. Continues Anything old xs new (g ++ h) in
+    subst C (sym (ap (λ k. take k piece) e ∙ take-add i n piece)) (advances_then {A = Unit {0}} Anything Anything old mid new (take i piece) (take n (drop i piece)) g h (Ok tt) c (λ more q. tt) d)
+
+pub rest_stops : (old mid : Reading) (piece : List ℕ) (i : ℕ) (g h : List Token) (error : LexError) → Continues Anything old (take i piece) mid g → Stops Anything mid (drop i piece) h error → Stops Anything old piece (g ++ h) error
+rest_stops old mid piece i g h error c s =
     let S : List ℕ → Type 0 = λ xs. Stops Anything old xs (g ++ h) error in
-    let so_far : Stops Anything old (take i piece ++ byte ∷ []) (g ++ h) error = advances_then {A = Unit {0}} Anything Anything old mid mid (take i piece) (byte ∷ []) g h (Err error) c (λ more q. tt) s in
-    let front : take i piece ++ byte ∷ [] ≡ take (i + 1) piece = ap (λ x. take i piece ++ x ∷ []) b ∙ sym (take_more piece i 0 l) in
-    subst S (ap (λ xs. xs ++ drop (i + 1) piece) front ∙ take-append-drop (i + 1) piece) (stops_early old (take i piece ++ byte ∷ []) (drop (i + 1) piece) (g ++ h) error so_far)
+    subst S (take-append-drop i piece) (advances_then {A = Unit {0}} Anything Anything old mid mid (take i piece) (drop i piece) g h (Err error) c (λ more q. tt) s)
 
 -- the text ends here
 pub ends_none : (old : Reading) → old.pending ≡ [] → ahead old [] ≡ record { tokens = []; fault = None }

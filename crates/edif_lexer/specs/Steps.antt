@@ -1,5 +1,5 @@
 -- What one step of a lexer does, for its private functions.
-use Rattle.std.specs.Prelude.{◌≡◌, ℕ, true, ◌+◌, List, [], ◌++◌, length, None, Some, Result, Ok, Err}
+use Rattle.std.specs.Prelude.{◌≡◌, ℕ, true, ◌+◌, List, [], ◌++◌, length, take, None, Some, Result, Ok, Err}
 use Rattle.spelling_spec.specs.Lexing.{before}
 use Rattle.edif_lexer.specs.Reading.{Reading, IsPrefix, ahead, is_pending}
 use Rattle.spelling_spec.specs.declared.token.Token.{Token}
@@ -28,6 +28,11 @@ Stops P old bytes gained (At kind place) = (more : List ℕ) → P more → ahea
 abbrev pub Advances : {A : Type 0} → (List ℕ → Type 0) → Reading → List ℕ → Reading → List Token → Result A LexError → Type 0
 Advances P old bytes new gained (Ok _) = Continues P old bytes new gained
 Advances P old bytes new gained (Err e) = Stops P old bytes gained e
+
+-- The first so many of the bytes were read, or an error came in the bytes.
+abbrev pub ReadsFront : Reading → List ℕ → Reading → List Token → Result ℕ LexError → Type 0
+ReadsFront old bytes new gained (Ok n) = Continues Anything old (take n bytes) new gained
+ReadsFront old bytes new gained (Err e) = Stops Anything old bytes gained e
 
 -- the error of an escape at which so many bytes of the string were read
 abbrev pub BadEscapeOf : Reading → ℕ → LexError → Type 0

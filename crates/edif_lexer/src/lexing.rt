@@ -1,13 +1,14 @@
 //! Bytes in pieces to tokens.
-ghost use Rattle.std.specs.Prelude.{◌≡◌, ◌≢◌, ◌+◌, ◌<◌, ◌∷◌, ◌++◌, [], true, length, List, ℕ, OnOk, OnErr, IfErr, IsOkUnless};
+ghost use Rattle.std.specs.Prelude.{◌≡◌, ◌≢◌, ◌+◌, ◌<◌, ◌≤◌, ◌∷◌, ◌++◌, [], true, length, take, List, ℕ, OnOk, OnErr, IfErr, IfOk, IsOkUnless};
 ghost use Rattle.std.specs.List.{list_all};
-ghost use Rattle.spelling_spec.specs.Bytes.{is_word_byte, EndsRun};
+ghost use Rattle.spelling_spec.specs.Bytes.{is_space, is_word_byte, EndsRun};
 ghost use Rattle.edif_lexer.specs.Reading.{is_open_string, is_pending, HasRead, Feeds, Finishes};
-ghost use Rattle.edif_lexer.specs.Steps.{Anything, Advances, BadEscapeOf, Ends, StopsAtEnd};
+ghost use Rattle.edif_lexer.specs.Steps.{Anything, Advances, BadEscapeOf, Ends, ReadsFront, StopsAtEnd};
 ghost use Rattle.spelling_spec.specs.declared.token.Token.{Token};
 ghost use Rattle.edif_lexer.specs.declared.errors.LexError.{LexError};
 
 use crate::errors::LexError;
+use crate::runs::{blanks, unquoted, word_bytes};
 use crate::words::{is_word_byte, word_kind};
 use edif_strings::decode;
 use spelling_spec::{LexKind, Token, TokenKind};
@@ -166,7 +167,7 @@ impl Lexer {
         }
     }
 
-    /// The next byte of the text.
+    /// The next byte of the text, whatever it is.
     fn step(&mut self, byte: u8, out: &mut Vec<Token>) -> Result<(), LexError>
         ensures { (gained : List Token) × (out.new.items ≡ out.old.items ++ gained)
             × Advances Anything self.old (byte ∷ []) self.new gained result }
@@ -191,13 +192,70 @@ impl Lexer {
         }
     }
 
+    /// More bytes of a token, or the first of a word.
+    fn keep_all(&mut self, bytes: &[u8]) -> Result<(), LexError>
+        requires { is_pending (self.old.pending ++ bytes.now) ≡ true }
+        ensures ok { OnOk result (self.new ≡ record self.old { pending = self.old.pending ++ bytes.now }) }
+        ensures err { OnErr result (self.new ≡ self.old) }
+        ensures memory { IsOkUnless result LexError.NoMemory }
+    {
+        self.pending.extend_from_slice(bytes)?;
+        Ok(())
+    }
+
+    /// How many of the next bytes go on with the token, or begin a word.
+    fn kept(&self, rest: &[u8]) -> usize
+        ensures within { result ≤ length rest.now }
+        ensures kept { is_pending (self.now.pending ++ take result rest.now) ≡ true }
+    {
+        match self.pending.first().copied() {
+            Some(b'"') => unquoted(rest),
+            _ => word_bytes(rest),
+        }
+    }
+
+    /// How many of the next bytes are blanks between tokens.
+    fn passed(&self, rest: &[u8]) -> usize
+        ensures within { result ≤ length rest.now }
+        ensures passed { list_all is_space (take result rest.now) ≡ true }
+        ensures between { 0 < result → self.now.pending ≡ [] }
+    {
+        if self.pending.is_empty() {
+            return blanks(rest);
+        }
+        0
+    }
+
+    /// The next bytes of the text, of which there is one at least: how many were read. Bytes of one word or string and blanks are read
+    /// together.
+    fn advance(&mut self, rest: &[u8], out: &mut Vec<Token>) -> Result<usize, LexError>
+        requires { 0 < length rest.now }
+        ensures read { (gained : List Token) × (out.new.items ≡ out.old.items ++ gained)
+            × ReadsFront self.old rest.now self.new gained result }
+        ensures some { IfOk result (λ count. (0 < count) × (count ≤ length rest.now)) }
+    {
+        let kept = self.kept(rest);
+        if kept > 0 {
+            self.keep_all(&rest[..kept])?;
+            return Ok(kept);
+        }
+        let passed = self.passed(rest);
+        if passed > 0 {
+            self.pass(passed as u64)?;
+            return Ok(passed);
+        }
+        self.step(rest[0], out)?;
+        Ok(1)
+    }
+
     /// The next bytes of the text.
     fn run(&mut self, piece: &[u8], out: &mut Vec<Token>) -> Result<(), LexError>
         ensures { (gained : List Token) × (out.new.items ≡ out.old.items ++ gained)
             × Advances Anything self.old piece.now self.new gained result }
     {
-        for byte in piece {
-            self.step(*byte, out)?;
+        let mut read = 0;
+        'bytes: while read < piece.len() {
+            read += self.advance(&piece[read..], out)?;
         }
         Ok(())
     }

@@ -3,6 +3,7 @@
 
 mod errors;
 mod lexing;
+mod runs;
 mod words;
 
 pub use errors::LexError;

@@ -1,0 +1,45 @@
+//! Bytes at the front that are of one kind.
+ghost use Rattle.std.specs.Prelude.{◌≡◌, ◌≤◌, length, take, true};
+ghost use Rattle.std.specs.List.{list_all};
+ghost use Rattle.spelling_spec.specs.Bytes.{is_space, is_unquoted, is_word_byte};
+
+use crate::words::is_word_byte;
+
+/// How many bytes of a word stand in front.
+pub fn word_bytes(bytes: &[u8]) -> usize
+    ensures within { result ≤ length bytes.now }
+    ensures all { list_all is_word_byte (take result bytes.now) ≡ true }
+{
+    for (i, byte) in bytes.iter().enumerate() {
+        if !is_word_byte(*byte) {
+            return i;
+        }
+    }
+    bytes.len()
+}
+
+/// How many bytes stand before the first quote.
+pub fn unquoted(bytes: &[u8]) -> usize
+    ensures within { result ≤ length bytes.now }
+    ensures all { is_unquoted (take result bytes.now) ≡ true }
+{
+    for (i, byte) in bytes.iter().enumerate() {
+        if *byte == b'"' {
+            return i;
+        }
+    }
+    bytes.len()
+}
+
+/// How many blanks stand in front.
+pub fn blanks(bytes: &[u8]) -> usize
+    ensures within { result ≤ length bytes.now }
+    ensures all { list_all is_space (take result bytes.now) ≡ true }
+{
+    for (i, byte) in bytes.iter().enumerate() {
+        if !byte.is_ascii_whitespace() {
+            return i;
+        }
+    }
+    bytes.len()
+}
