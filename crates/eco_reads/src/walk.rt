@@ -53,8 +53,8 @@ fn add_insts(
     Ok(())
 }
 
-/// Puts the cells of the instances of contents on the list, where they were not seen yet: each once, in the order of the
-/// instances. A leaf, which has no contents, adds none.
+/// Puts the cells of the instances of contents on the list, where they were not seen yet: the list goes on, and has just these
+/// cells and those that it had. A leaf, which has no contents, adds none. After `NoMemory` neither is to be used.
 #[tactic(auto, using(crate::proofs::Below::goes_nowhere))]
 pub fn add_inside(
     contents: Option<&Contents>,
