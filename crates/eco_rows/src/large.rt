@@ -1,11 +1,12 @@
 //! Operations on designs with many cells.
-use crate::ops::{add_cell, add_inst, design_of};
+use crate::ops::{add_cell, add_inst};
 use crate::rows::check;
 use cells_model::PlainCells;
 use edit_spec::Reply;
 use netlist_schema::Row;
 use std::alloc::Global;
 use std::test::Fail;
+use text_designs::design_of;
 
 const HEAD: &[u8] =
     b"(edif f (edifVersion 2 0 0) (edifLevel 0) (keywordMap (keywordLevel 0)) (library w (edifLevel 0) (technology (numberDefinition))";

@@ -1,21 +1,8 @@
 //! Operations and designs, from their words.
-use edif_build::read_design;
-use edif_lexer::Lexer;
-use edif_tree::read_tree;
 use edit_spec::{CellName, EndName, Op, PortDecl, Target};
-use netlist_schema::{Design, Direction, Ident, Name, Property, Row, Value, Width};
+use netlist_schema::{Direction, Ident, Name, Property, Row, Value, Width};
 use std::alloc::Global;
 use std::test::Fail;
-
-/// The design that a text means.
-pub fn design_of(alloc: Global, text: &[u8]) -> Result<Design, Fail> {
-    let mut lexer = Lexer::new(alloc);
-    let mut tokens = Vec::new(alloc);
-    lexer.feed(text, &mut tokens)?;
-    let end = lexer.finish(&mut tokens)?;
-    let tree = read_tree(alloc, &tokens, end)?;
-    Ok(read_design(alloc, &tree)?)
-}
 
 pub fn ident(alloc: Global, bytes: &[u8]) -> Result<Ident, Fail> {
     let id = Ident::of(alloc, bytes)?.ok_or("no identifier")?;

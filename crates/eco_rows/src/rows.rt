@@ -1,7 +1,7 @@
 //! The operations of a worked list, each with its reply.
 use crate::ops::{
-    add_cell, add_inst, add_net, cell, cut, design_of, drop_inst, drop_net, drop_note, end, ident,
-    integer, join, port, set_net, set_note, show_cell, show_inst, show_net, yes,
+    add_cell, add_inst, add_net, cell, cut, drop_inst, drop_net, drop_note, end, ident, integer,
+    join, port, set_net, set_note, show_cell, show_inst, show_net, yes,
 };
 use cells_model::PlainCells;
 use eco_ops::{eco_op, is_single};
@@ -9,6 +9,7 @@ use edit_spec::{Op, Reply};
 use netlist_schema::{Direction, Row};
 use std::alloc::Global;
 use std::test::Fail;
+use text_designs::design_of;
 
 /// Two cells with instances and nets, and a leaf.
 const BOARD: &str =

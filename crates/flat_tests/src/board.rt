@@ -3,15 +3,13 @@ use annot_view::effective;
 use cell_lookup::{insts_at, net_count};
 use cell_order::cell_order;
 use design_model::{PlainError, plain_flat};
-use edif_build::read_design;
-use edif_lexer::Lexer;
 use edif_names::property_text;
-use edif_tree::read_tree;
 use flat_report::item_text;
 use flat_spec::Path;
 use netlist_schema::{CellId, Design, LibId};
 use std::alloc::Global;
 use std::test::Fail;
+use text_designs::design_of;
 
 const BOARD: &str = "(edif e (edifVersion 2 0 0) (edifLevel 0) (keywordMap (keywordLevel 0))
  (library w (edifLevel 0) (technology)
@@ -48,16 +46,6 @@ pin /v/l a 0 / X
 
 const EMPTY: &str = "(edif e (edifVersion 2 0 0) (edifLevel 0) (keywordMap (keywordLevel 0)))";
 
-/// The design that a text means.
-fn design_of(alloc: Global, text: &str) -> Result<Design, Fail> {
-    let mut lexer = Lexer::new(alloc);
-    let mut tokens = Vec::new(alloc);
-    lexer.feed(text.as_bytes(), &mut tokens)?;
-    let end = lexer.finish(&mut tokens)?;
-    let tree = read_tree(alloc, &tokens, end)?;
-    Ok(read_design(alloc, &tree)?)
-}
-
 /// The numbers of instances and nets of the cell at a place of the first library.
 fn counts(design: &Design, slot: u32) -> (usize, u32) {
     let cell = CellId {
@@ -70,7 +58,7 @@ fn counts(design: &Design, slot: u32) -> (usize, u32) {
 #[test]
 fn parts_are_found_by_their_places(rt: HostRuntime) -> Result<(), Fail> {
     let alloc = rt.alloc();
-    let board = design_of(alloc, BOARD)?;
+    let board = design_of(alloc, BOARD.as_bytes())?;
     let counts = [0, 1, 2, 3].map(|slot| counts(&board, slot));
     assert_eq!(rt; counts, [(0, 0), (1, 1), (2, 2), (0, 0)]);
     let order = cell_order(alloc, &board, LibId(0))?;
@@ -101,11 +89,11 @@ fn properties(alloc: Global, design: &Design, path: &[u32]) -> Result<Vec<u8>, F
 #[test]
 fn items_and_properties_are_listed(rt: HostRuntime) -> Result<(), Fail> {
     let alloc = rt.alloc();
-    let board = design_of(alloc, BOARD)?;
+    let board = design_of(alloc, BOARD.as_bytes())?;
     assert_eq!(rt; lines(alloc, &board)?.as_slice(), ITEMS.as_bytes());
     let properties = properties(alloc, &board, &[0, 0])?;
     assert_eq!(rt; properties.as_slice(), b"K=7 M=true ".as_slice());
-    let empty = design_of(alloc, EMPTY)?;
+    let empty = design_of(alloc, EMPTY.as_bytes())?;
     assert!(rt; plain_flat(alloc, &empty) == Err(PlainError::NoTop));
     Ok(())
 }

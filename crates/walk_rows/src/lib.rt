@@ -1,5 +1,9 @@
-//! Worked rows of port classes, on designs that are read from their texts.
+//! Worked rows of port classes and of walks, on designs that are made by hand.
 #![tactic(auto)]
 
 #[cfg(test)]
-mod rows;
+mod classes;
+#[cfg(test)]
+mod designs;
+#[cfg(test)]
+mod walks;

@@ -1,23 +1,24 @@
--- A test of a whole design, by a rank of its cells: a design that passes it is valid.
-use Rattle.std.proofs.Common.{◌≡◌, ◌≢◌, ℕ, zero, suc, ◌+◌, ◌<◌, ◌≤◌, List, [], ◌∷◌, ◌++◌, map, length, refl, ap, sym, ◌∙◌, subst, Bool, true, false, not, Option, Some, None, arith, slice_get}
-use Rattle.std.specs.Prelude.{◌&&◌, ◌||◌, IsSome, IsSomeAnd, IfSome, IfNone, is_some, nat_lt, nat_le, nat_eq}
-use Rattle.std.specs.List.{All, AllByRecursion, Contains, list_all, list_any}
+-- What passes the test of designs is valid.
+use Rattle.std.proofs.Common.{◌≡◌, ◌≢◌, ℕ, zero, suc, ◌+◌, ◌<◌, ◌≤◌, List, [], ◌∷◌, map, length, refl, ap, sym, ◌∙◌, subst, Bool, true, false, not, Option, Some, None, arith, slice_get}
+use Rattle.std.specs.Prelude.{◌&&◌, ◌||◌, Decides, IsSomeAnd, IfSome, IfNone, is_some, nat_lt, nat_le, nat_eq}
+use Rattle.std.specs.Cmp.Lexicographic.{pointwise}
+use Rattle.std.specs.List.{All, AllByRecursion, Contains, list_all, list_any, sum_by}
 use Rattle.std.specs.Option.{option_map_or}
 use Rattle.std.proofs.lemmas.Bool.{and_parts, eq-eqb, eqb-true, ltb-true, leb-true}
 use Rattle.std.proofs.lemmas.List.{length-map}
 use Rattle.std.proofs.lemmas.List.Elements.{All-from_recursion}
-use Rattle.netlist_schema.specs.Design.{Design, insts_of, nets_of, ends_of, bit_count, port_width, cell_at, lib_at, cells_in}
-use Rattle.netlist_schema.specs.Hierarchy.{IsCell, HasInst, Resolves, insts_at}
+use Rattle.std.proofs.lemmas.Slice.Eq.{slice_eq-Decides}
+use Rattle.netlist_schema.specs.Design.{Design, insts_of, nets_of, ends_of, bit_count, port_width, cell_at, lib_at}
+use Rattle.netlist_schema.specs.Hierarchy.{IsCell, Resolves, insts_at}
 use Rattle.netlist_schema.specs.Ident.{IsIdentifier, is_identifier_byte}
-use Rattle.netlist_schema.specs.Limits.{IsCellWithinLimits, IsWithinLimits}
-use Rattle.netlist_schema.specs.Names.{AreDistinct, HasDistinctKeys, HasDistinctNames, HasDistinctNamesInCell, cell_names, lib_names, note_key}
-use Rattle.netlist_schema.specs.Typed.{IsBytes, IsTyped, IsTypedCell, IsTypedInst, IsTypedName, IsTypedNet, IsTypedNote, IsTypedPort, IsTypedProperty, IsTypedValue}
+use Rattle.netlist_schema.specs.Names.{AreDistinct, HasDistinctKeys, cell_names, lib_names, note_key}
+use Rattle.netlist_schema.specs.Typed.{IsBytes, IsTypedCell, IsTypedInst, IsTypedName, IsTypedNet, IsTypedNote, IsTypedPort, IsTypedProperty, IsTypedValue}
 use Rattle.netlist_schema.specs.Types.{CellBody, CellId, End, Inst, Lib, Name, Net, Note, Port, Property, TopHead, Value}
 use Rattle.netlist_schema.specs.Valid.{HasBit, IsEndAt, IsEndOf, IsNoteBelow, IsValid, IsValidCell}
 use Rattle.netlist_schema.specs.Width.{IsWidth}
 use Rattle.netlist_schema.specs.declared.property.Value.TheVariants.{Boolean, Integer, Number, Text}
-use Rattle.netlist_schema.proofs.Cells.{All-cell_at, cell_of_inst, ranked_has_no_cycle}
-use Rattle.edif_spec.specs.Means.{equal}
+use Rattle.netlist_schema.proofs.Cells.{cell_of_inst, ranked_has_no_cycle}
+use Rattle.hand_designs.specs.Sound.{are_bytes, bit_there, both, cell_tests, cells_fine, differ, end_code, end_there, fine_inst, fine_name, fine_net, fine_note, fine_port, fine_properties, fine_property, fine_top, fine_value, fine_width, height, id_at, if_some, is_id, is_sound, libs_fine, names_differ, no_notes, note_below, resolves, some_and, tests}
 
 -- lists
 all_holds : {A : Type 0} (p : A → Bool) (P : A → Type 0) → ((x : A) → p x ≡ true → P x) → (xs : List A) → list_all p xs ≡ true → AllByRecursion P xs
@@ -26,10 +27,6 @@ all_holds p P f (x ∷ xs) h = let t = and_parts (p x) (list_all p xs) h in (f x
 
 every : {A : Type 0} (p : A → Bool) (P : A → Type 0) → ((x : A) → p x ≡ true → P x) → (xs : List A) → list_all p xs ≡ true → All P xs
 every p P f xs h = All-from_recursion P xs (all_holds p P f xs h)
-
-abbrev if_some : {A : Type 0} → (A → Bool) → Option A → Bool
-if_some p None = true
-if_some p (Some x) = p x
 
 some_holds : {A : Type 0} (p : A → Bool) (P : A → Type 0) → ((x : A) → p x ≡ true → P x) → (o : Option A) → if_some p o ≡ true → IfSome o P
 some_holds p P f None h = tt
@@ -47,66 +44,36 @@ apart_distinct (x ∷ xs) h zero (suc j) d l m = All-from_recursion (λ y. x ≢
 apart_distinct (x ∷ xs) h (suc i) (suc j) d l m = apart_distinct xs h.1 i j d (omega arith) (omega arith)
 
 -- a code for each element, and equal elements have equal codes
-abbrev differ : {A : Type 0} → (A → List ℕ) → List A → Bool
-differ f [] = true
-differ f (x ∷ xs) = list_all (λ y. not (equal (f x) (f y))) xs && differ f xs
+same_Decides : (m n : List ℕ) → Decides (pointwise nat_eq m n) (m ≡ n)
+same_Decides m n = slice_eq-Decides (λ a b. (eqb-true a b, eq-eqb a b)) m n (pointwise nat_eq m n) refl
 
-equal_self : (xs : List ℕ) → equal xs xs ≡ true
-equal_self [] = refl
-equal_self (x ∷ xs) = let e : nat_eq x x ≡ true = eq-eqb x x refl in ap (λ b. b && equal xs xs) e ∙ equal_self xs
-
-equal_says : (m n : List ℕ) → equal m n ≡ true → m ≡ n
-equal_says [] [] h = refl
-equal_says [] (c ∷ n) h = absurd (cc h)
-equal_says (b ∷ m) [] h = absurd (cc h)
-equal_says (b ∷ m) (c ∷ n) h =
-    let t = and_parts (nat_eq b c) (equal m n) h in
-    let first : b ≡ c = eqb-true b c t.0 in
-    let rest : m ≡ n = equal_says m n t.1 in
-    cc
-
-codes_differ : {A : Type 0} (f : A → List ℕ) (x y : A) → not (equal (f x) (f y)) ≡ true → x ≢ y
+codes_differ : {A : Type 0} (f : A → List ℕ) (x y : A) → not (pointwise nat_eq (f x) (f y)) ≡ true → x ≢ y
 codes_differ f x y h e =
-    let s : equal (f x) (f y) ≡ true = ap (λ v. equal (f x) (f v)) (sym e) ∙ equal_self (f x) in
+    let s : pointwise nat_eq (f x) (f y) ≡ true = (same_Decides (f x) (f y)).1 (ap f e) in
     let c : false ≡ true = sym (ap not s) ∙ h in absurd (cc c)
 
 differ_apart : {A : Type 0} (f : A → List ℕ) (xs : List A) → differ f xs ≡ true → Apart xs
 differ_apart f [] h = tt
 differ_apart f (x ∷ xs) h =
-    let t = and_parts (list_all (λ y. not (equal (f x) (f y))) xs) (differ f xs) h in
-    (all_holds (λ y. not (equal (f x) (f y))) (λ y. x ≢ y) (codes_differ f x) xs t.0, differ_apart f xs t.1)
+    let t = and_parts (list_all (λ y. not (pointwise nat_eq (f x) (f y))) xs) (differ f xs) h in
+    (all_holds (λ y. not (pointwise nat_eq (f x) (f y))) (λ y. x ≢ y) (codes_differ f x) xs t.0, differ_apart f xs t.1)
 
-distinct_names : (ns : List (List ℕ)) → differ (λ n. n) ns ≡ true → AreDistinct ns
+distinct_names : (ns : List (List ℕ)) → names_differ ns ≡ true → AreDistinct ns
 distinct_names ns h = apart_distinct ns (differ_apart (λ n. n) ns h)
 
 distinct_ends : (es : List End) (f : End → List ℕ) → differ f es ≡ true → AreDistinct es
 distinct_ends es f h = apart_distinct es (differ_apart f es h)
 
 -- what holds by types
-abbrev is_id : List ℕ → Bool
-is_id bs = nat_lt 0 (length bs) && list_all is_identifier_byte bs
 
 id_holds : (bs : List ℕ) → is_id bs ≡ true → IsIdentifier bs
 id_holds bs h = let t = and_parts (nat_lt 0 (length bs)) (list_all is_identifier_byte bs) h in (ltb-true 0 (length bs) t.0, every is_identifier_byte (λ b. is_identifier_byte b ≡ true) (λ b k. k) bs t.1)
 
-abbrev are_bytes : List ℕ → Bool
-are_bytes bs = list_all (λ b. nat_lt b 256) bs
-
 bytes_hold : (bs : List ℕ) → are_bytes bs ≡ true → IsBytes bs
 bytes_hold bs h = every (λ b. nat_lt b 256) (λ b. b < 256) (λ b k. ltb-true b 256 k) bs h
 
-abbrev fine_name : Name → Bool
-fine_name n = is_id n.id && if_some are_bytes n.shown
-
 name_holds : (n : Name) → fine_name n ≡ true → IsTypedName n
 name_holds n h = let t = and_parts (is_id n.id) (if_some are_bytes n.shown) h in record { id = id_holds n.id t.0; shown = some_holds are_bytes IsBytes bytes_hold n.shown t.1 }
-
--- of values, texts and booleans alone pass
-abbrev fine_value : Value → Bool
-fine_value (Boolean b) = true
-fine_value (Integer z) = false
-fine_value (Number n) = false
-fine_value (Text bs) = are_bytes bs
 
 value_holds : (v : Value) → fine_value v ≡ true → IsTypedValue v
 value_holds (Boolean b) h = tt
@@ -114,33 +81,22 @@ value_holds (Integer z) h = absurd (cc h)
 value_holds (Number n) h = absurd (cc h)
 value_holds (Text bs) h = bytes_hold bs h
 
-abbrev fine_property : Property → Bool
-fine_property p = fine_name p.key && (fine_value p.value && if_some are_bytes p.owner)
-
 property_holds : (p : Property) → fine_property p ≡ true → IsTypedProperty p
 property_holds p h =
     let t = and_parts (fine_name p.key) (fine_value p.value && if_some are_bytes p.owner) h in
     let u = and_parts (fine_value p.value) (if_some are_bytes p.owner) t.1 in
     record { key = name_holds p.key t.0; value = value_holds p.value u.0; owner = some_holds are_bytes IsBytes bytes_hold p.owner u.1 }
 
-abbrev fine_properties : List Property → Bool
-fine_properties ps = list_all fine_property ps && differ (λ (n : List ℕ). n) (map (λ (p : Property). p.key.id) ps)
-
 properties_typed : (ps : List Property) → fine_properties ps ≡ true → All IsTypedProperty ps
-properties_typed ps h = every fine_property IsTypedProperty property_holds ps (and_parts (list_all fine_property ps) (differ (λ (n : List ℕ). n) (map (λ (p : Property). p.key.id) ps)) h).0
+properties_typed ps h = every fine_property IsTypedProperty property_holds ps (and_parts (list_all fine_property ps) (names_differ (map (λ (p : Property). p.key.id) ps)) h).0
 
 properties_distinct : (ps : List Property) → fine_properties ps ≡ true → HasDistinctKeys ps
-properties_distinct ps h = distinct_names (map (λ (p : Property). p.key.id) ps) (and_parts (list_all fine_property ps) (differ (λ (n : List ℕ). n) (map (λ (p : Property). p.key.id) ps)) h).1
+properties_distinct ps h = distinct_names (map (λ (p : Property). p.key.id) ps) (and_parts (list_all fine_property ps) (names_differ (map (λ (p : Property). p.key.id) ps)) h).1
 
 -- ports, instances, nets
-abbrev fine_width : ℕ → Bool
-fine_width n = nat_le 1 n && nat_le n 65536
 
 width_holds : (n : ℕ) → fine_width n ≡ true → IsWidth n
 width_holds n h = let t = and_parts (nat_le 1 n) (nat_le n 65536) h in (leb-true 1 n t.0, leb-true n 65536 t.1)
-
-abbrev fine_port : Port → Bool
-fine_port p = fine_name p.name && (if_some fine_width p.array && (if_some are_bytes p.designator && fine_properties p.properties))
 
 port_parts : (p : Port) → fine_port p ≡ true → IsTypedPort p × (fine_properties p.properties ≡ true)
 port_parts p h =
@@ -149,9 +105,7 @@ port_parts p h =
     let v = and_parts (if_some are_bytes p.designator) (fine_properties p.properties) u.1 in
     (record { name = name_holds p.name t.0; array = some_holds fine_width IsWidth width_holds p.array u.0; designator = some_holds are_bytes IsBytes bytes_hold p.designator v.0; properties = properties_typed p.properties v.1 }, v.1)
 
--- an instance of a cell that is there, in a library that is not later, of lower rank
-abbrev fine_inst : (CellId → ℕ) → Design → CellId → Inst → Bool
-fine_inst rank d id i = fine_name i.name && (if_some are_bytes i.designator && (fine_properties i.properties && (is_some (cell_at d i.of) && (nat_le i.of.lib.0 id.lib.0 && nat_lt (rank i.of) (rank id)))))
+-- what the test says of an instance
 
 record FineInst (rank : CellId → ℕ) (d : Design) (id : CellId) (i : Inst) : Type 0 where
   pub typed : IsTypedInst i
@@ -175,23 +129,12 @@ inst_holds rank d id i h =
       lower = ltb-true (rank i.of) (rank id) x.1;
     }
 
-abbrev some_and : {A : Type 0} → (A → Bool) → Option A → Bool
-some_and p None = false
-some_and p (Some x) = p x
-
 some_and_holds : {A : Type 0} (p : A → Bool) (P : A → Type 0) → ((x : A) → p x ≡ true → P x) → (o : Option A) → some_and p o ≡ true → IsSomeAnd o P
 some_and_holds p P f None h = absurd (cc h)
 some_and_holds p P f (Some x) h = f x h
 
-abbrev bit_there : List Port → ℕ → ℕ → Bool
-bit_there ports port bit = some_and (λ p. nat_lt bit (port_width p)) (slice_get ports port)
-
 bit_holds : (ports : List Port) (port bit : ℕ) → bit_there ports port bit ≡ true → HasBit ports port bit
 bit_holds ports port bit h = some_and_holds (λ p. nat_lt bit (port_width p)) (λ p. bit < port_width p) (λ p k. ltb-true bit (port_width p) k) (slice_get ports port) h
-
-abbrev end_there : Design → CellBody → Option ℕ → ℕ → ℕ → Bool
-end_there d body None port bit = bit_there body.ports port bit
-end_there d body (Some place) port bit = some_and (λ (i : Inst). some_and (λ (of : CellBody). bit_there of.ports port bit) (cell_at d i.of)) (slice_get (insts_of body) place)
 
 end_holds : (d : Design) (body : CellBody) (o : Option ℕ) (port bit : ℕ) → end_there d body o port bit ≡ true → IsEndAt d body o port bit
 end_holds d body None port bit h = bit_holds body.ports port bit h
@@ -200,30 +143,10 @@ end_holds d body (Some place) port bit h =
     (λ i k. some_and_holds (λ (of : CellBody). bit_there of.ports port bit) (λ (of : CellBody). HasBit of.ports port bit) (λ of m. bit_holds of.ports port bit m) (cell_at d i.of) k)
     (slice_get (insts_of body) place) h
 
-abbrev fine_net : Net → Bool
-fine_net n = fine_name n.name && fine_properties n.properties
-
 net_parts : (n : Net) → fine_net n ≡ true → IsTypedNet n × (fine_properties n.properties ≡ true)
 net_parts n h = let t = and_parts (fine_name n.name) (fine_properties n.properties) h in (record { name = name_holds n.name t.0; properties = properties_typed n.properties t.1 }, t.1)
 
-abbrev inst_code : Option ℕ → ℕ
-inst_code None = 0
-inst_code (Some i) = suc i
-
-abbrev end_code : End → List ℕ
-end_code e = inst_code e.inst ∷ e.port ∷ e.bit ∷ []
-
-abbrev pub both : List Bool → Bool
-both [] = true
-both (b ∷ bs) = b && both bs
-
 -- a cell
-abbrev cell_tests : (CellId → ℕ) → Design → CellId → CellBody → List Bool
-cell_tests rank d id c = fine_name c.name ∷ fine_name c.view ∷ fine_properties c.properties ∷ fine_properties c.view_properties ∷ fine_properties c.interface_properties
-    ∷ list_all fine_port c.ports ∷ list_all (fine_inst rank d id) (insts_of c) ∷ list_all fine_net (nets_of c)
-    ∷ list_all (λ (e : End). end_there d c e.inst e.port e.bit) (ends_of c) ∷ differ end_code (ends_of c)
-    ∷ differ (λ (n : List ℕ). n) (map (λ (p : Port). p.name.id) c.ports) ∷ differ (λ (n : List ℕ). n) (map (λ (i : Inst). i.name.id) (insts_of c)) ∷ differ (λ (n : List ℕ). n) (map (λ (n : Net). n.name.id) (nets_of c))
-    ∷ nat_le (length c.ports) 65536 ∷ nat_le (bit_count c) 1048576 ∷ nat_le (length (insts_of c)) 1048576 ∷ nat_le (length (nets_of c)) 1048576 ∷ nat_le (length (ends_of c)) 4194304 ∷ []
 
 pass : (bs : List Bool) (k : ℕ) (b : Bool) → both bs ≡ true → slice_get bs k ≡ Some b → b ≡ true
 pass [] k b h e = absurd (cc e)
@@ -260,9 +183,9 @@ cell_holds rank d id c h =
         ends = leb-true (length (ends_of c)) 4194304 (pass T 17 (nat_le (length (ends_of c)) 4194304) h refl);
       };
       names = record {
-        ports = distinct_names port_names (pass T 10 (differ (λ (n : List ℕ). n) port_names) h refl);
-        insts = distinct_names inst_names (pass T 11 (differ (λ (n : List ℕ). n) inst_names) h refl);
-        nets = distinct_names net_names (pass T 12 (differ (λ (n : List ℕ). n) net_names) h refl);
+        ports = distinct_names port_names (pass T 10 (names_differ port_names) h refl);
+        insts = distinct_names inst_names (pass T 11 (names_differ inst_names) h refl);
+        nets = distinct_names net_names (pass T 12 (names_differ net_names) h refl);
         properties = properties_distinct c.properties (pass T 2 (fine_properties c.properties) h refl);
         view_properties = properties_distinct c.view_properties (pass T 3 (fine_properties c.view_properties) h refl);
         interface_properties = properties_distinct c.interface_properties (pass T 4 (fine_properties c.interface_properties) h refl);
@@ -277,16 +200,6 @@ cell_holds rank d id c h =
     }
 
 -- all cells of all libraries, by their places
-abbrev id_at : ℕ → ℕ → CellId
-id_at own slot = record { lib = record { 0 = own }; slot = slot }
-
-abbrev cells_fine : (CellId → ℕ) → Design → ℕ → ℕ → List CellBody → Bool
-cells_fine rank d own slot [] = true
-cells_fine rank d own slot (c ∷ cs) = both (cell_tests rank d (id_at own slot) c) && cells_fine rank d own (suc slot) cs
-
-abbrev libs_fine : (CellId → ℕ) → Design → ℕ → List Lib → Bool
-libs_fine rank d own [] = true
-libs_fine rank d own (l ∷ ls) = cells_fine rank d own 0 l.cells && libs_fine rank d (suc own) ls
 
 cell_passes : (rank : CellId → ℕ) (d : Design) (own slot k : ℕ) (cs : List CellBody) (c : CellBody) → cells_fine rank d own slot cs ≡ true → slice_get cs k ≡ Some c → both (cell_tests rank d (id_at own (slot + k)) c) ≡ true
 cell_passes rank d own slot k [] c h e = absurd (cc e)
@@ -334,9 +247,6 @@ typed_libs rank d own (l ∷ ls) h =
         (cell_typed rank d (id_at own slot) c t.0, typed_cells (suc slot) cs t.1)
 
 -- notes
-abbrev resolves : Design → CellId → List (List ℕ) → Bool
-resolves d id [] = true
-resolves d id (n ∷ ns) = list_any (λ (i : Inst). equal i.name.id n && resolves d i.of ns) (insts_at d id)
 
 any_contains : {A : Type 0} (p : A → Bool) (xs : List A) → list_any p xs ≡ true → (x : A) × Contains xs x × (p x ≡ true)
 any_contains p [] h = absurd (cc h)
@@ -349,29 +259,15 @@ any_contains {A} p (x ∷ xs) h = go (p x) refl h (any_contains p xs)
 path_holds : (d : Design) (id : CellId) (ns : List (List ℕ)) → resolves d id ns ≡ true → Resolves d id ns
 path_holds d id [] h = tt
 path_holds d id (n ∷ ns) h =
-    let i = any_contains (λ (i : Inst). equal i.name.id n && resolves d i.of ns) (insts_at d id) h in
-    let t = and_parts (equal i.0.name.id n) (resolves d i.0.of ns) i.2 in
-    (i.0, i.1, equal_says i.0.name.id n t.0, path_holds d i.0.of ns t.1)
-
-abbrev fine_note : Note → Bool
-fine_note n = list_all is_id n.path && fine_property n.property
+    let i = any_contains (λ (i : Inst). pointwise nat_eq i.name.id n && resolves d i.of ns) (insts_at d id) h in
+    let t = and_parts (pointwise nat_eq i.0.name.id n) (resolves d i.0.of ns) i.2 in
+    (i.0, i.1, (same_Decides i.0.name.id n).0 t.0, path_holds d i.0.of ns t.1)
 
 note_holds : (n : Note) → fine_note n ≡ true → IsTypedNote n
 note_holds n h = let t = and_parts (list_all is_id n.path) (fine_property n.property) h in record { path = every is_id IsIdentifier id_holds n.path t.0; property = property_holds n.property t.1 }
 
-abbrev note_below : Design → CellId → Note → Bool
-note_below d top n = nat_lt 0 (length n.path) && resolves d top n.path
-
 below_holds : (d : Design) (top : CellId) (n : Note) → note_below d top n ≡ true → IsNoteBelow d top n
 below_holds d top n h = let t = and_parts (nat_lt 0 (length n.path)) (resolves d top n.path) h in record { has_step = ltb-true 0 (length n.path) t.0; resolves = path_holds d top n.path t.1 }
-
-abbrev fine_top : Design → TopHead → Bool
-fine_top d t = fine_name t.name && (fine_properties t.properties && (is_some (cell_at d t.cell) && list_all (note_below d t.cell) d.notes))
-
-abbrev no_notes : Option TopHead → List Note → Bool
-no_notes None [] = true
-no_notes None (n ∷ ns) = false
-no_notes (Some t) ns = true
 
 need_top : (o : Option TopHead) (ns : List Note) → no_notes o ns ≡ true → IfNone o (ns ≡ [])
 need_top None [] h = refl
@@ -383,11 +279,8 @@ one_note : (ns : List Note) → nat_le (length ns) 1 ≡ true → AreDistinct (m
 one_note ns h i j d l m = let n = leb-true (length ns) 1 h in let k = length-map ns note_key in absurd (omega (arith, n, k, l, m))
 
 -- the test
-abbrev pub tests : (CellId → ℕ) → Design → List Bool
-tests rank d = fine_name d.title ∷ list_all (λ (l : Lib). fine_name l.head.name) d.libs ∷ libs_fine rank d 0 d.libs ∷ if_some (fine_top d) d.top ∷ list_all fine_note d.notes ∷ no_notes d.top d.notes ∷ nat_le (length d.notes) 1
-    ∷ nat_le (length d.libs) 1024 ∷ list_all (λ (l : Lib). nat_le (length l.cells) 65536) d.libs ∷ differ (λ (n : List ℕ). n) (lib_names d.libs) ∷ list_all (λ (l : Lib). differ (λ (n : List ℕ). n) (cell_names l.cells)) d.libs ∷ []
 
-pub tested_is_valid : (rank : CellId → ℕ) (d : Design) → both (tests rank d) ≡ true → IsValid d
+tested_is_valid : (rank : CellId → ℕ) (d : Design) → both (tests rank d) ≡ true → IsValid d
 tested_is_valid rank d h =
     let T = tests rank d in
     let libs = pass T 2 (libs_fine rank d 0 d.libs) h refl in
@@ -407,9 +300,9 @@ tested_is_valid rank d h =
         notes = omega (arith, few);
       };
       names = record {
-        libs = distinct_names (lib_names d.libs) (pass T 9 (differ (λ (n : List ℕ). n) (lib_names d.libs)) h refl);
-        cells = every (λ (l : Lib). differ (λ (n : List ℕ). n) (cell_names l.cells)) (λ (l : Lib). AreDistinct (cell_names l.cells)) (λ l k. distinct_names (cell_names l.cells) k) d.libs
-            (pass T 10 (list_all (λ (l : Lib). differ (λ (n : List ℕ). n) (cell_names l.cells)) d.libs) h refl);
+        libs = distinct_names (lib_names d.libs) (pass T 9 (names_differ (lib_names d.libs)) h refl);
+        cells = every (λ (l : Lib). names_differ (cell_names l.cells)) (λ (l : Lib). AreDistinct (cell_names l.cells)) (λ l k. distinct_names (cell_names l.cells) k) d.libs
+            (pass T 10 (list_all (λ (l : Lib). names_differ (cell_names l.cells)) d.libs) h refl);
       };
       cells = λ id c e. cell_holds rank d id c (passes rank d id c libs e);
       no_cycle = ranked_has_no_cycle d rank (λ id i has.
@@ -429,3 +322,13 @@ tested_is_valid rank d h =
         let b = and_parts (fine_properties t.properties) (is_some (cell_at d t.cell) && list_all (note_below d t.cell) d.notes) a.1 in
         let c = and_parts (is_some (cell_at d t.cell)) (list_all (note_below d t.cell) d.notes) b.1 in
         ((name_holds t.name a.0, properties_typed t.properties b.0), (c.0, properties_distinct t.properties b.0), every (note_below d t.cell) (IsNoteBelow d t.cell) (below_holds d t.cell) d.notes c.1)
+
+-- a design that passes the test, and one with the parts of such a design
+pub sound_is_valid : (d : Design) → is_sound d ≡ true → IsValid d
+sound_is_valid d h = tested_is_valid (height (suc (sum_by (λ (l : Lib). length l.cells) d.libs)) d) d h
+
+pub sound_parts_are_valid : (d : Design) (title : Name) (libs : List Lib) (top : Option TopHead) (notes : List Note)
+    → is_sound d ≡ true → title ≡ d.title → libs ≡ d.libs → top ≡ d.top → notes ≡ d.notes → IsValid (record { title = title; libs = libs; top = top; notes = notes })
+sound_parts_are_valid d title libs top notes sound t l p n =
+    let same : d ≡ record { title = title; libs = libs; top = top; notes = notes } = rw (t, l, p, n) refl in
+    subst IsValid same (sound_is_valid d sound)
