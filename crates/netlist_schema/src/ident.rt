@@ -3,13 +3,15 @@ ghost use Rattle.std.specs.Prelude.{◌≡◌, ◌↔◌, IsTrue, IsNone, IfOk, 
 ghost use Rattle.netlist_schema.specs.Ident.{is_identifier_byte, IsIdentifier, IsSameIgnoringCase};
 
 use crate::memory::NoMemory;
+use smallvec::SmallVec;
 use std::alloc::Global;
 use std::marker::Model;
 
-/// An identifier: at least one letter, digit or underscore. It may begin with a digit.
+/// An identifier: at least one letter, digit or underscore. It may begin with a digit. Up to 16 bytes lie in the value
+/// itself; a longer one takes an allocation.
 #[derive(Debug, Drop)]
 pub struct Ident {
-    bytes: Vec<u8>,
+    bytes: SmallVec<u8, 16>,
 }
 
 impl Model for Ident {
@@ -39,7 +41,7 @@ impl Ident {
         if bytes.is_empty() || !bytes.iter().all(|b| is_identifier_byte(*b)) {
             return Ok(None);
         }
-        let bytes = bytes.to_vec(alloc)?;
+        let bytes = SmallVec::from_slice(alloc, bytes)?;
         Ok(Some(Ident { bytes }))
     }
 
@@ -64,7 +66,7 @@ impl Ident {
     pub fn copy(&self, alloc: Global) -> Result<Ident, NoMemory>
         ensures { IfOk result (λ name. name ≡ self.now) }
     {
-        let bytes = self.bytes.as_slice().to_vec(alloc)?;
+        let bytes = SmallVec::from_slice(alloc, self.bytes.as_slice())?;
         Ok(Ident { bytes })
     }
 }
