@@ -5,4 +5,4 @@ mod places;
 pub mod rows;
 mod written;
 
-pub use rows::{header, pin_row};
+pub use rows::{header, lent_row, pin_row};

@@ -1,23 +1,24 @@
 //! Paths of occurrences as text, and identifiers of what stands at them.
 ghost use Rattle.std.specs.Prelude.{◌≡◌, [], ◌++◌, IfOk, OnOk, option_and_then};
-ghost use Rattle.std.specs.Option.{option_map_or};
+ghost use Rattle.std.specs.Option.{option_map, option_map_or};
 ghost use Rattle.flat_spec.specs.Effective.{names_along};
 ghost use Rattle.flat_spec.specs.Paths.{cell_along};
 ghost use Rattle.report_spec.specs.Lines.{net_text, path_text, port_text};
 ghost use Rattle.csv_report.specs.Parts.{behind_slashes};
+ghost use Rattle.walk_items.specs.Lent.{net_of};
 
 use cell_lookup::{cell_along, inst_at, net_at};
-use flat_spec::{NetAt, Path};
 use netlist_schema::{CellId, NoMemory, Shown};
 use std::alloc::Global;
+use walk_items::NetRef;
 
 /// The path of an occurrence: `/` before the identifier of each instance to which it leads from the top, and `/` alone for the top.
-pub fn path_bytes<S: Shown>(alloc: Global, design: &S, path: &Path) -> Result<Vec<u8>, NoMemory>
+pub fn path_bytes<S: Shown>(alloc: Global, design: &S, path: &[u32]) -> Result<Vec<u8>, NoMemory>
     ensures { IfOk result (λ text. text.items ≡ path_text (S.design design.now) path.now) }
 {
     let mut text = Vec::new(alloc);
     if let Some(top) = design.top() {
-        push_names(design, top.cell, path.as_slice(), &mut text)?;
+        push_names(design, top.cell, path, &mut text)?;
     }
     if text.is_empty() {
         text.push(b'/')?;
@@ -47,17 +48,17 @@ fn push_names<S: Shown>(
 }
 
 /// The cell of the occurrence at a path, where there is one.
-fn cell_at_path<S: Shown>(design: &S, path: &Path) -> Option<CellId>
+fn cell_at_path<S: Shown>(design: &S, path: &[u32]) -> Option<CellId>
     ensures { result ≡ option_and_then (λ top. cell_along (S.design design.now) top.cell path.now) (S.design design.now).top }
 {
     match design.top() {
-        Some(top) => cell_along(design, top.cell, path.as_slice()),
+        Some(top) => cell_along(design, top.cell, path),
         None => None,
     }
 }
 
 /// The identifier of a port of the occurrence at a path; nothing where there is no such port.
-pub fn port_name<'a, S: Shown>(design: &'a S, path: &Path, port: u32) -> &'a [u8]
+pub fn port_name<'a, S: Shown>(design: &'a S, path: &[u32], port: u32) -> &'a [u8]
     ensures { result.now ≡ port_text (S.design design.now) path.now port }
 {
     let Some(id) = cell_at_path(design, path) else {
@@ -73,10 +74,10 @@ pub fn port_name<'a, S: Shown>(design: &'a S, path: &Path, port: u32) -> &'a [u8
 }
 
 /// The identifier of a net; nothing where there is no such net.
-fn net_name<'a, S: Shown>(design: &'a S, net: &NetAt) -> &'a [u8]
-    ensures { result.now ≡ net_text (S.design design.now) net.now }
+fn net_name<'a, S: Shown>(design: &'a S, net: NetRef<'_>) -> &'a [u8]
+    ensures { result.now ≡ net_text (S.design design.now) (net_of net.entry) }
 {
-    let Some(id) = cell_at_path(design, &net.path) else {
+    let Some(id) = cell_at_path(design, net.path) else {
         return &[];
     };
     match net_at(design, id, net.net) {
@@ -89,19 +90,19 @@ fn net_name<'a, S: Shown>(design: &'a S, net: &NetAt) -> &'a [u8]
 pub fn first_path_bytes<S: Shown>(
     alloc: Global,
     design: &S,
-    first: &Option<NetAt>,
+    first: Option<NetRef<'_>>,
 ) -> Result<Vec<u8>, NoMemory>
-    ensures { IfOk result (λ text. text.items ≡ option_map_or (λ net. path_text (S.design design.now) net.path) first.now []) }
+    ensures { IfOk result (λ text. text.items ≡ option_map_or (λ net. path_text (S.design design.now) net.path) (option_map net_of first.entry) []) }
 {
     match first {
-        Some(net) => path_bytes(alloc, design, &net.path),
+        Some(net) => path_bytes(alloc, design, net.path),
         None => Ok(Vec::new(alloc)),
     }
 }
 
 /// The identifier of a representative; nothing where there is none.
-pub fn first_name<'a, S: Shown>(design: &'a S, first: &Option<NetAt>) -> &'a [u8]
-    ensures { result.now ≡ option_map_or (net_text (S.design design.now)) first.now [] }
+pub fn first_name<'a, S: Shown>(design: &'a S, first: Option<NetRef<'_>>) -> &'a [u8]
+    ensures { result.now ≡ option_map_or (net_text (S.design design.now)) (option_map net_of first.entry) [] }
 {
     match first {
         Some(net) => net_name(design, net),

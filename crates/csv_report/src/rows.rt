@@ -1,14 +1,17 @@
 //! The row of an item.
 ghost use Rattle.std.specs.Prelude.{◌≡◌, ◌++◌, IfOk, OnErr, OnOk};
 ghost use Rattle.csv_spec.specs.PinTable.{header as names_of_columns, pin_fields, pin_row as row_of_item};
+ghost use Rattle.std.specs.Option.{option_map};
 ghost use Rattle.csv_spec.specs.Fields.{row};
+ghost use Rattle.walk_items.specs.Lent.{item_of, net_of};
 
 use crate::places::{first_name, first_path_bytes, path_bytes, port_name};
 use crate::written::row_bytes;
-use flat_spec::{Item, NetAt, Path};
+use flat_spec::Item;
 use itoa::Buffer;
 use netlist_schema::{NoMemory, Shown};
 use std::alloc::Global;
+use walk_items::{ItemRef, NetRef};
 
 /// The row of the names of the columns, with a line feed at its end: `path,port,bit,net_path,net`.
 pub fn header() -> &'static [u8]
@@ -31,15 +34,28 @@ pub fn pin_row<S: Shown>(
     ensures ok { OnOk result (out.new.items ≡ out.old.items ++ row_of_item (S.design design.now) item.now) }
     ensures err { OnErr result (out.new.items ≡ out.old.items) }
 {
+    lent_row(alloc, design, ItemRef::of(item), out)
+}
+
+/// The same of a lent item.
+pub fn lent_row<S: Shown>(
+    alloc: Global,
+    design: &S,
+    item: ItemRef<'_>,
+    out: &mut Vec<u8>,
+) -> Result<(), NoMemory>
+    ensures ok { OnOk result (out.new.items ≡ out.old.items ++ row_of_item (S.design design.now) (item_of item.entry)) }
+    ensures err { OnErr result (out.new.items ≡ out.old.items) }
+{
     match item {
-        Item::Pin {
+        ItemRef::Pin {
             path,
             port,
             bit,
             first,
-        } => push_pin(alloc, design, path, *port, *bit, first, out),
-        Item::Enter { .. } => Ok(()),
-        Item::Net { .. } => Ok(()),
+        } => push_pin(alloc, design, path, port, bit, first, out),
+        ItemRef::Enter { .. } => Ok(()),
+        ItemRef::Net { .. } => Ok(()),
     }
 }
 
@@ -47,13 +63,13 @@ pub fn pin_row<S: Shown>(
 fn push_pin<S: Shown>(
     alloc: Global,
     design: &S,
-    path: &Path,
+    path: &[u32],
     port: u32,
     bit: u32,
-    first: &Option<NetAt>,
+    first: Option<NetRef<'_>>,
     out: &mut Vec<u8>,
 ) -> Result<(), NoMemory>
-    ensures ok { OnOk result (out.new.items ≡ out.old.items ++ row (pin_fields (S.design design.now) path.now port bit first.now)) }
+    ensures ok { OnOk result (out.new.items ≡ out.old.items ++ row (pin_fields (S.design design.now) path.now port bit (option_map net_of first.entry))) }
     ensures err { OnErr result (out.new.items ≡ out.old.items) }
 {
     let text = pin_bytes(alloc, design, path, port, bit, first)?;
@@ -65,12 +81,12 @@ fn push_pin<S: Shown>(
 fn pin_bytes<S: Shown>(
     alloc: Global,
     design: &S,
-    path: &Path,
+    path: &[u32],
     port: u32,
     bit: u32,
-    first: &Option<NetAt>,
+    first: Option<NetRef<'_>>,
 ) -> Result<Vec<u8>, NoMemory>
-    ensures { IfOk result (λ text. text.items ≡ row (pin_fields (S.design design.now) path.now port bit first.now)) }
+    ensures { IfOk result (λ text. text.items ≡ row (pin_fields (S.design design.now) path.now port bit (option_map net_of first.entry))) }
 {
     let place = path_bytes(alloc, design, path)?;
     let net_place = first_path_bytes(alloc, design, first)?;

@@ -1,5 +1,5 @@
 -- Lines of items, one after another.
-use Rattle.std.proofs.Common.{◌≡◌, ℕ, suc, zero, ◌-◌, ◌<◌, List, [], ◌∷◌, ◌++◌, length, Option, Some, None, true, false, refl, sym, ap, ◌∙◌, arith, append_assoc}
+use Rattle.std.proofs.Common.{◌≡◌, ℕ, suc, zero, ◌-◌, ◌<◌, List, [], ◌∷◌, ◌++◌, length, Option, Some, None, Bool, true, false, drop, refl, sym, ap, subst, ◌∙◌, arith, append_assoc}
 use Rattle.std.specs.Prelude.{codes, nat_lt, option_map, if◌then◌else◌, take}
 use Rattle.std.proofs.lemmas.Bool.Decides.{nat_tests}
 use Rattle.netlist_schema.specs.Design.{Design}
@@ -7,7 +7,7 @@ use Rattle.flat_spec.specs.Types.{Item}
 use Rattle.netdb_outside.specs.Buffered.{Buffered, Writes}
 use Rattle.netdb_outside.proofs.BufferedLemmas.{writes_nothing, writes_then, writes_same}
 use Rattle.report_spec.specs.Lines.{item_line, item_lines, last_line}
-use Rattle.flat_out.specs.Given.{GivesLine, text_of_items}
+use Rattle.flat_out.specs.Given.{GivesItem, GivesLine, text_of_items}
 
 lt-suc : (n m : ℕ) → nat_lt (suc n) (suc m) ≡ nat_lt n m
 lt-suc n m = grind (arith, nat_tests)
@@ -22,6 +22,12 @@ one_line d (Some (suc n)) item items h =
     append_assoc (item_line d item) (item_lines d (take n items)) (last_line (Some (suc n)) (item ∷ items))
     ∙ ap (λ b. item_line d item ++ (item_lines d (take n items) ++ ((if b then codes "more" else codes "end") ++ 10 ∷ []))) (lt-suc n (length items))
     ∙ ap (λ k. item_line d item ++ text_of_items d (Some k) items) (sym less)
+
+-- what was given of the first item, which is passed over then
+pub given_ahead : (Gives : List ℕ → Type 0) (d : Design) (room : Option ℕ) (old new : List Item) (item : Item) (has_room : Bool)
+    → old ≡ item ∷ drop 1 old → new ≡ drop 1 old → GivesItem Gives d room item has_room → GivesLine Gives d room old new has_room
+given_ahead Gives d room old new item true is passed given = (item, is ∙ ap (λ v. item ∷ v) (sym passed), given.0, given.1)
+given_ahead Gives d room old new item false is passed given = subst (λ v. Gives (text_of_items d room v)) (sym is) (given (drop 1 old))
 
 -- the lines so far, of all that are wanted
 pub record AreGiven (Gives : List ℕ → Type 0) (d : Design) (limit room : Option ℕ) (all left : List Item) : Type 0 where

@@ -1,11 +1,16 @@
 -- Rows of items, one after another.
-use Rattle.std.proofs.Common.{◌≡◌, ℕ, ◌<◌, List, [], ◌++◌, length, Option, true, false, refl, sym, ap, ◌∙◌, arith, append_assoc}
+use Rattle.std.proofs.Common.{◌≡◌, ℕ, ◌<◌, List, [], ◌∷◌, ◌++◌, drop, length, Option, true, false, refl, sym, ap, ◌∙◌, arith, append_assoc}
 use Rattle.netlist_schema.specs.Design.{Design}
 use Rattle.flat_spec.specs.Types.{Item}
 use Rattle.netdb_outside.specs.Buffered.{Buffered, Writes}
 use Rattle.netdb_outside.proofs.BufferedLemmas.{writes_nothing, writes_then, writes_same}
 use Rattle.csv_spec.specs.PinTable.{pin_row, pin_rows}
 use Rattle.flat_out.specs.Given.{GivesRow}
+
+-- what was given of the first item, which is passed over then
+pub given_ahead : (Gives : List ℕ → Type 0) (d : Design) (old new : List Item) (item : Item)
+    → old ≡ item ∷ drop 1 old → new ≡ drop 1 old → Gives (pin_row d item) → GivesRow Gives d old new true
+given_ahead Gives d old new item is passed given = (item, is ∙ ap (λ v. item ∷ v) (sym passed), given)
 
 -- the rows so far, of all that are wanted
 pub record AreRowsGiven (Gives : List ℕ → Type 0) (d : Design) (all left : List Item) : Type 0 where

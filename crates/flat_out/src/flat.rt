@@ -1,21 +1,22 @@
 //! The lines of a flattening.
-ghost use Rattle.std.specs.Prelude.{◌≡◌, ◌↔◌, ◌≤◌, ◌-◌, Err, IsTrue, None, OnErr, OnOk, Some, option_map};
+ghost use Rattle.std.specs.Prelude.{◌≡◌, ◌↔◌, ◌≤◌, ◌-◌, Err, IsTrue, None, OnErr, OnOk, Some, false, option_map};
 ghost use Rattle.netdb_outside.specs.Buffered.{Writes};
 ghost use Rattle.netdb_outside.specs.Outside.{Appends, AppendsFront, Rose};
 ghost use Rattle.report_spec.specs.Lines.{flattening_text};
+ghost use Rattle.walk_items.specs.Lent.{item_of};
 ghost use Rattle.flat_out.specs.Given.{GivesItem, GivesLine, text_of_items};
 
 use crate::error::{FlatError, outcome};
 use crate::shown::Line;
-use flat_spec::Item;
 use netdb_outside::{BufferedSink, Sink, WriteError};
 use netlist_schema::Shown;
 use occ_walk::{Walk, WalkError};
 use std::alloc::Global;
+use walk_items::ItemRef;
 
 /// Writes the lines of a design's flattening, of at most so many items where there is a limit, and behind them `end`, or `more` where
-/// items are left. Items are made one at a time, so memory is wanted as a walk wants it, and for a piece of some kilobytes; with a limit
-/// of N no more than N + 1 items are made.
+/// items are left. Items are lent one at a time, so memory is wanted as a walk wants it, and for a piece of some kilobytes; with a limit
+/// of N the walk goes on to no more than N + 1 items.
 ///
 /// `NoTop` comes exactly where the design has no top, and then the sink is as it was. After another error a front of that text was
 /// written. `WriteFault` comes only where the sink had a fault.
@@ -108,9 +109,9 @@ fn put_next<S: Shown, W: Shown + Drop, K: Sink>(
     if page.is_stuck() {
         return false;
     }
-    match walk.next() {
-        Ok(Some(item)) => put_item(alloc, design, &item, room, page, out),
-        Ok(None) => {
+    match walk.settle() {
+        Ok(true) => put_ahead(alloc, design, walk, room, page, out),
+        Ok(false) => {
             page.put(b"end\n", out);
             false
         }
@@ -121,16 +122,36 @@ fn put_next<S: Shown, W: Shown + Drop, K: Sink>(
     }
 }
 
-/// Writes the line of an item, or where there is no room for it the line that tells that items are left: whether there was room.
-fn put_item<S: Shown, K: Sink>(
+/// The same, where the walk has gone on to its next item.
+fn put_ahead<S: Shown, W: Shown + Drop, K: Sink>(
     alloc: Global,
     design: &S,
-    item: &Item,
+    walk: &mut Walk<W>,
     room: Option<u64>,
     page: &mut BufferedSink,
     out: &mut K,
 ) -> bool
-    ensures { GivesItem (Writes K.written K.faults out.old page.old out.new page.new) (S.design design.now) room item.now result }
+    requires { walk.old.over ≡ false }
+    ensures { GivesLine (Writes K.written K.faults out.old page.old out.new page.new) (S.design design.now) room walk.old.left walk.new.left result }
+{
+    let Some(item) = walk.peek() else {
+        return false;
+    };
+    let has_room = put_item(alloc, design, item, room, page, out);
+    walk.pass();
+    has_room
+}
+
+/// Writes the line of an item, or where there is no room for it the line that tells that items are left: whether there was room.
+fn put_item<S: Shown, K: Sink>(
+    alloc: Global,
+    design: &S,
+    item: ItemRef<'_>,
+    room: Option<u64>,
+    page: &mut BufferedSink,
+    out: &mut K,
+) -> bool
+    ensures { GivesItem (Writes K.written K.faults out.old page.old out.new page.new) (S.design design.now) room (item_of item.entry) result }
 {
     if is_full(room) {
         page.put(b"more\n", out);

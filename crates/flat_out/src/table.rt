@@ -1,8 +1,9 @@
 //! The rows of a pin table.
-ghost use Rattle.std.specs.Prelude.{◌≡◌, ◌↔◌, ◌≤◌, ◌++◌, Err, None, OnErr, OnOk};
+ghost use Rattle.std.specs.Prelude.{◌≡◌, ◌↔◌, ◌≤◌, ◌++◌, Err, None, OnErr, OnOk, false};
 ghost use Rattle.netdb_outside.specs.Buffered.{Writes};
 ghost use Rattle.netdb_outside.specs.Outside.{Appends, AppendsFront, Rose};
-ghost use Rattle.csv_spec.specs.PinTable.{header as names_of_columns, pin_rows, pin_table};
+ghost use Rattle.csv_spec.specs.PinTable.{header as names_of_columns, pin_row as row_of_item, pin_rows, pin_table};
+ghost use Rattle.walk_items.specs.Lent.{item_of};
 ghost use Rattle.flat_out.specs.Given.{GivesRow};
 
 use crate::error::{FlatError, outcome};
@@ -12,8 +13,9 @@ use netdb_outside::{BufferedSink, Sink, WriteError};
 use netlist_schema::Shown;
 use occ_walk::{Walk, WalkError};
 use std::alloc::Global;
+use walk_items::ItemRef;
 
-/// Writes the pin table of a design: the names of the columns, and a row for each pin of its flattening. Items are made one at a time,
+/// Writes the pin table of a design: the names of the columns, and a row for each pin of its flattening. Items are lent one at a time,
 /// so memory is wanted as a walk wants it, and for a piece of some kilobytes.
 ///
 /// `NoTop` comes exactly where the design has no top, and then the sink is as it was. After another error a front of that text was
@@ -85,16 +87,44 @@ fn put_next<S: Shown, W: Shown + Drop, K: Sink>(
     if page.is_stuck() {
         return false;
     }
-    match walk.next() {
-        Ok(Some(item)) => {
-            let item = &item;
-            page.put_text(alloc, &Row { design, item }, out);
-            true
-        }
-        Ok(None) => false,
+    match walk.settle() {
+        Ok(true) => put_ahead(alloc, design, walk, page, out),
+        Ok(false) => false,
         Err(_) => {
             page.run_out();
             false
         }
     }
+}
+
+/// The same, where the walk has gone on to its next item.
+fn put_ahead<S: Shown, W: Shown + Drop, K: Sink>(
+    alloc: Global,
+    design: &S,
+    walk: &mut Walk<W>,
+    page: &mut BufferedSink,
+    out: &mut K,
+) -> bool
+    requires { walk.old.over ≡ false }
+    ensures { GivesRow (Writes K.written K.faults out.old page.old out.new page.new) (S.design design.now) walk.old.left walk.new.left result }
+{
+    let Some(item) = walk.peek() else {
+        return false;
+    };
+    put_item(alloc, design, item, page, out);
+    walk.pass();
+    true
+}
+
+/// Writes the row of an item.
+fn put_item<S: Shown, K: Sink>(
+    alloc: Global,
+    design: &S,
+    item: ItemRef<'_>,
+    page: &mut BufferedSink,
+    out: &mut K,
+)
+    ensures { Writes K.written K.faults out.old page.old out.new page.new (row_of_item (S.design design.now) (item_of item.entry)) }
+{
+    page.put_text(alloc, &Row { design, item }, out);
 }

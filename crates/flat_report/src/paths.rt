@@ -6,12 +6,13 @@ ghost use Rattle.flat_spec.specs.Effective.{names_along};
 ghost use Rattle.flat_spec.specs.Paths.{at_path, cell_along};
 ghost use Rattle.report_spec.specs.Lines.{net_words, path_text};
 ghost use Rattle.flat_report.specs.Parts.{behind_blanks, behind_slashes, cell_below_top};
+ghost use Rattle.walk_items.specs.Lent.{net_of};
 
 use crate::names::net_name;
 use crate::words::push_word;
 use cell_lookup::inst_at;
-use flat_spec::{NetAt, Path};
 use netlist_schema::{CellId, NoMemory, Shown};
+use walk_items::NetRef;
 
 /// Appends `/` and the identifier of each instance to which the steps lead from a cell, and returns the cell that they reach. A
 /// step that leads nowhere is the last, and then there is none. After `NoMemory` some bytes may stand behind those before.
@@ -40,7 +41,7 @@ fn push_steps<S: Shown>(
 /// The same from the cell of the top: nothing and none where the design has no top.
 fn push_names<S: Shown>(
     design: &S,
-    path: &Path,
+    path: &[u32],
     out: &mut Vec<u8>,
 ) -> Result<Option<CellId>, NoMemory>
     ensures cell { IfOk result (λ cell. cell ≡ cell_below_top (S.design design.now) path.now) }
@@ -51,14 +52,14 @@ fn push_names<S: Shown>(
     let Some(top) = design.top() else {
         return Ok(None);
     };
-    push_steps(design, top.cell, path.as_slice(), out)
+    push_steps(design, top.cell, path, out)
 }
 
 /// Appends a path, `/` alone where it names no instance, and returns the cell that it reaches. After `NoMemory` some bytes may
 /// stand behind those before.
 fn push_path<S: Shown>(
     design: &S,
-    path: &Path,
+    path: &[u32],
     out: &mut Vec<u8>,
 ) -> Result<Option<CellId>, NoMemory>
     ensures cell { IfOk result (λ cell. cell ≡ cell_below_top (S.design design.now) path.now) }
@@ -77,7 +78,7 @@ fn push_path<S: Shown>(
 /// Appends a blank and a path, and returns the cell that it reaches. After `NoMemory` some bytes may stand behind those before.
 pub fn push_place<S: Shown>(
     design: &S,
-    path: &Path,
+    path: &[u32],
     out: &mut Vec<u8>,
 ) -> Result<Option<CellId>, NoMemory>
     ensures cell { IfOk result (λ cell. cell ≡ cell_below_top (S.design design.now) path.now) }
@@ -91,7 +92,7 @@ pub fn push_place<S: Shown>(
 /// Appends the path and the identifier of a net, each behind a blank. After `NoMemory` some bytes may stand behind those before.
 pub fn push_net_words<S: Shown>(
     design: &S,
-    path: &Path,
+    path: &[u32],
     net: u32,
     out: &mut Vec<u8>,
 ) -> Result<(), NoMemory>
@@ -104,9 +105,13 @@ pub fn push_net_words<S: Shown>(
 
 /// Appends the path and the identifier of a representative, each behind a blank. After `NoMemory` some bytes may stand behind
 /// those before.
-pub fn push_first<S: Shown>(design: &S, first: &NetAt, out: &mut Vec<u8>) -> Result<(), NoMemory>
-    ensures ok { OnOk result (out.new.items ≡ out.old.items ++ behind_blanks (net_words (S.design design.now) first.now)) }
+pub fn push_first<S: Shown>(
+    design: &S,
+    first: NetRef<'_>,
+    out: &mut Vec<u8>,
+) -> Result<(), NoMemory>
+    ensures ok { OnOk result (out.new.items ≡ out.old.items ++ behind_blanks (net_words (S.design design.now) (net_of first.entry))) }
     ensures grows { Grows out.old.items out.new.items }
 {
-    push_net_words(design, &first.path, first.net, out)
+    push_net_words(design, first.path, first.net, out)
 }

@@ -13,15 +13,19 @@ use Rattle.flat_spec.specs.Paths.{Reaches}
 use Rattle.flat_spec.specs.Types.{Item}
 use Rattle.flat_spec.proofs.BelowLemmas.{flattening_is_under_top, items_go_down}
 use Rattle.occ_walk.specs.Below.{IsFrameAt, IsFrameBelow}
-use Rattle.occ_walk.specs.Left.{HasGiven, below_from, left, left_above}
+use Rattle.occ_walk.specs.Left.{HasPassed, below_from, left, left_above, rest_of}
 use Rattle.occ_walk.specs.Starts.{IsAtStart}
-use Rattle.walk_items.specs.Left.{IsNext, own_left}
+use Rattle.occ_walk.specs.Walk.{IsLent}
+use Rattle.walk_items.specs.Left.{GoesOn, IsAhead, is_over, own_left}
+use Rattle.walk_items.specs.Lent.{item_of}
 use Rattle.walk_items.specs.Moves.{HasEntered, HasLeft, going_on}
 use Rattle.walk_items.specs.Stand.{AreAbove, IsFrame, MayStand, Stand, here_of, top_of}
+use Rattle.walk_items.specs.declared.lent.ItemRef.{ItemRef}
 use Rattle.walk_items.specs.declared.place.Frame.{Frame}
 use Rattle.walk_items.specs.declared.place.Stage.{Stage}
 use Rattle.walk_items.specs.declared.place.Stage.TheVariants.{Whole, Done}
 use Rattle.walk_items.proofs.FrameLemmas.{lowest_added, lowest_of, none_above}
+use Rattle.walk_items.proofs.StageLemmas.{over_left, own_opens}
 use Rattle.occ_walk.proofs.BelowLemmas.{next_is_small}
 
 drop_at : {A : Type 0} (xs : List A) (k : ℕ) (x : A) → slice_get xs k ≡ Some x → drop k xs ≡ x ∷ drop (k + 1) xs
@@ -63,15 +67,37 @@ none_left_above : (d : Design) (start path : List ℕ) → left_above d start pa
 none_left_above d start [] = refl
 none_left_above d start (i ∷ path) = refl
 
--- an item is given
-pub given_one : (d : Design) (old : Stand) (item : Item) (stage : Stage) → MayStand d old
-    → IsNext d (here_of old) (own_left d (here_of old) old.stage) (Some (record { item = item; stage = stage }))
+-- the first item is passed over
+pub passed : (d : Design) → IsValid d → (old : Stand) (stage : Stage) → MayStand d old → GoesOn d (here_of old) (drop 1 (own_left d (here_of old) old.stage)) stage
     → MayStand d (record { above = old.above; here = old.here; stage = stage; path = old.path })
-    × HasGiven d old (record { above = old.above; here = old.here; stage = stage; path = old.path }) (Some item)
-given_one d old item stage stands next = (
-  record { above = stands.above; here = stands.here; stage = next.1 },
-  ap (λ v. v ++ (below_from d old.path old.here.cell old.here.next ++ left_above d [] old.path old.above)) next.0,
-)
+    × HasPassed d old (record { above = old.above; here = old.here; stage = stage; path = old.path })
+passed d valid old stage stands goes = (record { above = stands.above; here = stands.here; stage = goes.1 }, first)
+  where
+    first : is_over old.stage ≡ false → left d (record { above = old.above; here = old.here; stage = stage; path = old.path }) ≡ drop 1 (left d old)
+    first some =
+        let rest = below_from d old.path old.here.cell old.here.next ++ left_above d [] old.path old.above in
+        let opened = own_opens d valid (here_of old) old.stage stands.stage some in
+        ap (λ v. v ++ rest) goes.0 ∙ ap (λ v. drop 1 (v ++ rest)) (sym opened.1)
+
+-- where no own item is left, none is passed over
+pub none_passed : (d : Design) (old : Stand) (stage : Stage) → GoesOn d (here_of old) (drop 1 (own_left d (here_of old) old.stage)) stage → is_over old.stage ≡ true
+    → left d (record { above = old.above; here = old.here; stage = stage; path = old.path }) ≡ left d old
+none_passed d old stage goes over =
+    let none = over_left d (here_of old) old.stage over in
+    ap (λ v. v ++ (below_from d old.path old.here.cell old.here.next ++ left_above d [] old.path old.above)) (goes.0 ∙ ap (drop 1) none ∙ sym none)
+
+-- the first own item is the first of all
+pub left_ahead : (d : Design) (s : Stand) (item : Item) → own_left d (here_of s) s.stage ≡ item ∷ drop 1 (own_left d (here_of s) s.stage)
+    → left d s ≡ item ∷ drop 1 (left d s)
+left_ahead d s item is =
+    let rest = below_from d s.path s.here.cell s.here.next ++ left_above d [] s.path s.above in
+    let opened : left d s ≡ item ∷ (drop 1 (own_left d (here_of s) s.stage) ++ rest) = ap (λ v. v ++ rest) is in
+    opened ∙ ap (λ v. item ∷ drop 1 v) (sym opened)
+
+-- the same, where it is looked up
+pub lent_ahead : (d : Design) (s : Stand) (o : Option ItemRef) → IsAhead d (here_of s) s.stage o → IsLent (rest_of d s) o
+lent_ahead d s None is = is
+lent_ahead d s (Some item) is = (is.0, left_ahead d s (item_of item) is.1)
 
 -- an occurrence is entered
 four : {A : Type 0} (a b c e : List A) → ((a ++ b) ++ c) ++ e ≡ a ++ (b ++ (c ++ e))

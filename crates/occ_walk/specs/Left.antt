@@ -1,15 +1,15 @@
 -- What a walk has still to give, from where it stands.
-use Rattle.std.specs.Prelude.{◌≡◌, ℕ, List, [], ◌∷◌, ◌++◌, Option, Some, None, Bool, true, false, drop}
+use Rattle.std.specs.Prelude.{◌≡◌, ℕ, List, [], ◌∷◌, ◌++◌, Option, Some, None, false, drop}
 use Rattle.std.specs.List.{enumerate_from, flat_map}
 use Rattle.netlist_schema.specs.Design.{Design}
 use Rattle.netlist_schema.specs.Hierarchy.{insts_at}
 use Rattle.netlist_schema.specs.Types.{CellId}
 use Rattle.flat_spec.specs.Below.{items_under}
 use Rattle.flat_spec.specs.Types.{Item}
-use Rattle.walk_items.specs.Left.{own_left}
+use Rattle.occ_walk.specs.Walk.{Rest}
+use Rattle.walk_items.specs.Left.{is_over, own_left}
 use Rattle.walk_items.specs.Stand.{Stand, here_of, top_of}
 use Rattle.walk_items.specs.declared.place.Frame.{Frame}
-use Rattle.walk_items.specs.declared.place.Stage.TheVariants.{Whole}
 
 -- the items at and below the instances of the cell at the path, from one instance on
 abbrev pub below_from : Design → List ℕ → CellId → ℕ → List Item
@@ -31,12 +31,10 @@ abbrev pub IsFirst : List Item → List Item → Option Item → Type 0
 IsFirst old new None = (old ≡ []) × (new ≡ [])
 IsFirst old new (Some item) = old ≡ item ∷ new
 
--- no own item is left and all is as before, or one is given
-abbrev pub HasGiven : Design → Stand → Stand → Option Item → Type 0
-HasGiven d old new None = (own_left d (here_of old) old.stage ≡ []) × (new ≡ old)
-HasGiven d old new (Some item) = left d old ≡ item ∷ left d new
+-- a walk that stands there, as its callers see it
+abbrev pub rest_of : Design → Stand → Rest
+rest_of d s = record { design = d; left = left d s; over = is_over s.stage }
 
--- the occurrence is one that has given nothing yet, or nothing is left
-abbrev pub HasGone : Design → Stand → Bool → Type 0
-HasGone d s true = s.stage ≡ Whole
-HasGone d s false = left d s ≡ []
+-- the first item was passed over, where the occurrence had still something to give
+abbrev pub HasPassed : Design → Stand → Stand → Type 0
+HasPassed d old new = is_over old.stage ≡ false → left d new ≡ drop 1 (left d old)

@@ -1,13 +1,26 @@
 -- A walk as its callers see it.
-use Rattle.std.specs.Prelude.{◌≡◌, List, [], ◌∷◌, Option, Some, None, Result, Ok, Err}
+use Rattle.std.specs.Prelude.{◌≡◌, List, [], ◌∷◌, Option, Some, None, Result, Ok, Err, Bool, true, false, drop}
 use Rattle.netlist_schema.specs.Design.{Design}
 use Rattle.netlist_schema.specs.declared.memory.NoMemory.{NoMemory}
 use Rattle.flat_spec.specs.Types.{Item}
+use Rattle.walk_items.specs.Lent.{item_of}
+use Rattle.walk_items.specs.declared.lent.ItemRef.{ItemRef}
 
--- the design, and the items that are left
+-- the design, the items that are left, and whether all items of the occurrence at which the walk stands were given
 pub record Rest : Type 0 where
   pub design : Design
   pub left : List Item
+  pub over : Bool
+
+-- the occurrence has still something to give, or nothing is left at all
+abbrev pub IsSettled : Rest → Bool → Type 0
+IsSettled w true = w.over ≡ false
+IsSettled w false = w.left ≡ []
+
+-- the occurrence has nothing to give, or this is the first of the items that are left
+abbrev pub IsLent : Rest → Option ItemRef → Type 0
+IsLent w None = w.over ≡ true
+IsLent w (Some item) = (w.over ≡ false) × (w.left ≡ item_of item ∷ drop 1 w.left)
 
 -- the next of a walk as an iterator: none, where nothing is left; the first item, where the others are left; or want of memory, where all
 -- is as before

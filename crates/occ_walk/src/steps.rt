@@ -1,30 +1,14 @@
 //! The steps of a walk.
-ghost use Rattle.std.specs.Prelude.{◌≡◌, [], IfOk, OnErr};
-ghost use Rattle.occ_walk.specs.Left.{HasGiven, HasGone, IsFirst, left};
-ghost use Rattle.walk_items.specs.Left.{own_left};
+ghost use Rattle.std.specs.Prelude.{◌≡◌, [], IfOk, OnErr, false, true};
+ghost use Rattle.occ_walk.specs.Left.{HasPassed, IsFirst, left, rest_of};
+ghost use Rattle.occ_walk.specs.Walk.{IsLent, IsSettled};
+ghost use Rattle.walk_items.specs.Left.{is_over, own_left};
 ghost use Rattle.walk_items.specs.Stand.{IsGround, MayStand, here_of, stand_of};
 
 use crate::frames::frame_at;
 use flat_spec::Item;
 use netlist_schema::{NoMemory, Shown};
-use walk_items::{Given, Ground, Place, next_own};
-
-/// Gives the next of the own items of the occurrence, where one is left.
-fn give<S: Shown + Drop>(ground: &Ground<S>, place: &mut Place) -> Result<Option<Item>, NoMemory>
-    requires ground { IsGround (S.design ground.now.design) ground.now.classes ground.now.notes }
-    requires stands { MayStand (S.design ground.now.design) (stand_of place.old) }
-    ensures stands { MayStand (S.design ground.now.design) (stand_of place.new) }
-    ensures given { IfOk result (HasGiven (S.design ground.now.design) (stand_of place.old) (stand_of place.new)) }
-    ensures err { OnErr result (stand_of place.new ≡ stand_of place.old) }
-{
-    match next_own(ground, place)? {
-        Some(Given { item, stage }) => {
-            place.stage = stage;
-            Ok(Some(item))
-        }
-        None => Ok(None),
-    }
-}
+use walk_items::{Ground, ItemRef, Place, item_ahead, stage_behind};
 
 /// Goes on to the next occurrence, where one is left and all own items of this one were given: whether there is one.
 fn go_on<S: Shown + Drop>(ground: &Ground<S>, place: &mut Place) -> Result<bool, NoMemory>
@@ -33,7 +17,7 @@ fn go_on<S: Shown + Drop>(ground: &Ground<S>, place: &mut Place) -> Result<bool,
     requires done { own_left (S.design ground.now.design) (here_of (stand_of place.old)) place.old.stage ≡ [] }
     ensures stands { MayStand (S.design ground.now.design) (stand_of place.new) }
     ensures left { left (S.design ground.now.design) (stand_of place.new) ≡ left (S.design ground.now.design) (stand_of place.old) }
-    ensures gone { IfOk result (HasGone (S.design ground.now.design) (stand_of place.new)) }
+    ensures gone { IfOk result (IsSettled (rest_of (S.design ground.now.design) (stand_of place.new))) }
 {
     'up: loop {
         let step = place.here.next;
@@ -47,6 +31,57 @@ fn go_on<S: Shown + Drop>(ground: &Ground<S>, place: &mut Place) -> Result<bool,
     }
 }
 
+/// Goes on to the next item, where one is left: whether one is.
+pub fn settle<S: Shown + Drop>(ground: &Ground<S>, place: &mut Place) -> Result<bool, NoMemory>
+    requires ground { IsGround (S.design ground.now.design) ground.now.classes ground.now.notes }
+    requires stands { MayStand (S.design ground.now.design) (stand_of place.old) }
+    ensures stands { MayStand (S.design ground.now.design) (stand_of place.new) }
+    ensures left { left (S.design ground.now.design) (stand_of place.new) ≡ left (S.design ground.now.design) (stand_of place.old) }
+    ensures gone { IfOk result (IsSettled (rest_of (S.design ground.now.design) (stand_of place.new))) }
+{
+    if place.stage.is_over() {
+        return go_on(ground, place);
+    }
+    Ok(true)
+}
+
+/// Lends the next item of the occurrence, where one is left.
+pub fn peek<'a, S: Shown + Drop>(ground: &'a Ground<S>, place: &'a Place) -> Option<ItemRef<'a>>
+    requires ground { IsGround (S.design ground.now.design) ground.now.classes ground.now.notes }
+    requires stands { MayStand (S.design ground.now.design) (stand_of place.now) }
+    ensures { IsLent (rest_of (S.design ground.now.design) (stand_of place.now)) result }
+{
+    item_ahead(ground, place)
+}
+
+/// Passes over the next item of the occurrence, where one is left.
+pub fn pass<S: Shown + Drop>(ground: &Ground<S>, place: &mut Place)
+    requires ground { IsGround (S.design ground.now.design) ground.now.classes ground.now.notes }
+    requires stands { MayStand (S.design ground.now.design) (stand_of place.old) }
+    ensures stands { MayStand (S.design ground.now.design) (stand_of place.new) }
+    ensures passed { HasPassed (S.design ground.now.design) (stand_of place.old) (stand_of place.new) }
+    ensures stays { is_over place.old.stage ≡ true → left (S.design ground.now.design) (stand_of place.new) ≡ left (S.design ground.now.design) (stand_of place.old) }
+{
+    place.stage = stage_behind(ground, place);
+}
+
+/// Gives the next item of the occurrence, where one is left.
+fn give<S: Shown + Drop>(ground: &Ground<S>, place: &mut Place) -> Result<Option<Item>, NoMemory>
+    requires ground { IsGround (S.design ground.now.design) ground.now.classes ground.now.notes }
+    requires stands { MayStand (S.design ground.now.design) (stand_of place.old) }
+    requires some { is_over place.old.stage ≡ false }
+    ensures stands { MayStand (S.design ground.now.design) (stand_of place.new) }
+    ensures next { IfOk result (IsFirst (left (S.design ground.now.design) (stand_of place.old)) (left (S.design ground.now.design) (stand_of place.new))) }
+    ensures err { OnErr result (stand_of place.new ≡ stand_of place.old) }
+{
+    let Some(ahead) = peek(ground, place) else {
+        return Ok(None);
+    };
+    let item = ahead.made(ground.alloc)?;
+    pass(ground, place);
+    Ok(Some(item))
+}
+
 /// Gives the next item, where one is left.
 pub fn next_item<S: Shown + Drop>(
     ground: &Ground<S>,
@@ -58,10 +93,7 @@ pub fn next_item<S: Shown + Drop>(
     ensures next { IfOk result (IsFirst (left (S.design ground.now.design) (stand_of place.old)) (left (S.design ground.now.design) (stand_of place.new))) }
     ensures err { OnErr result (left (S.design ground.now.design) (stand_of place.new) ≡ left (S.design ground.now.design) (stand_of place.old)) }
 {
-    if let Some(item) = give(ground, place)? {
-        return Ok(Some(item));
-    }
-    if !go_on(ground, place)? {
+    if !settle(ground, place)? {
         return Ok(None);
     }
     give(ground, place)

@@ -1,20 +1,20 @@
 //! `Walk`: the items of a design, one at a time.
-ghost use Rattle.std.specs.Prelude.{◌≡◌, ◌↔◌, [], ◌∷◌, Err, IfOk, IfNone, IfSome, IsSome, None, OnErr, Some};
+ghost use Rattle.std.specs.Prelude.{◌≡◌, ◌↔◌, [], ◌∷◌, Err, IfOk, IfNone, IfSome, IsSome, None, OnErr, Some, drop, false, true};
 ghost use Rattle.netlist_schema.specs.Valid.{IsValid};
 ghost use Rattle.flat_spec.specs.Flattening.{flattening};
 ghost use Rattle.flat_spec.specs.Paths.{cell_along};
 ghost use Rattle.occ_walk.specs.At.{items_below};
-ghost use Rattle.occ_walk.specs.Walk.{GivesNext};
+ghost use Rattle.occ_walk.specs.Walk.{GivesNext, IsLent, IsSettled};
 ghost use Rattle.walk_items.specs.Stand.{top_of};
 
 use crate::start::{go_along, start};
-use crate::steps::next_item;
+use crate::steps::{next_item, pass, peek, settle};
 use flat_spec::{Item, Path};
 use netlist_schema::{CellId, NoMemory, Shown};
 use std::alloc::Global;
 use std::marker::Model;
 use thiserror::Error;
-use walk_items::{Ground, Place};
+use walk_items::{Ground, ItemRef, Place};
 
 /// Why there is no walk.
 #[derive(Clone, Copy, Debug, PartialEq, Eq, Error)]
@@ -38,11 +38,12 @@ impl<S: Shown + Drop> Model for Walk<S> {
     ghost use Rattle.occ_walk.specs.Walk.{Rest};
     ghost use Rattle.occ_walk.specs.Left.{left};
     ghost use Rattle.occ_walk.specs.Stands.{IsWalk};
+    ghost use Rattle.walk_items.specs.Left.{is_over};
     ghost use Rattle.walk_items.specs.Stand.{stand_of};
 
     ghost Value = { Rest };
 
-    ghost view = { λ w. record { design = S.design w.ground.design; left = left (S.design w.ground.design) (stand_of w.place) } };
+    ghost view = { λ w. record { design = S.design w.ground.design; left = left (S.design w.ground.design) (stand_of w.place); over = is_over w.place.stage } };
 
     ghost invariant = { λ w. IsWalk (S.design w.ground.design) w.ground.classes w.ground.notes (stand_of w.place) };
 }
@@ -121,6 +122,35 @@ impl<S: Shown + Drop> Walk<S> {
         ensures err { OnErr result (self.new.left ≡ self.old.left) }
     {
         next_item(&self.ground, &mut self.place)
+    }
+
+    /// Goes on to the next item: `false` exactly where none is left. After `NoMemory` the walk stands where it stood.
+    ///
+    /// It takes time only where an occurrence is entered: in proportion to its nets, the ends on its instance and the occurrences that
+    /// are left.
+    pub fn settle(&mut self) -> Result<bool, NoMemory>
+        ensures design { self.new.design ≡ self.old.design }
+        ensures left { self.new.left ≡ self.old.left }
+        ensures settled { IfOk result (IsSettled self.new) }
+    {
+        settle(&self.ground, &mut self.place)
+    }
+
+    /// Lends the next item, where the walk has gone on to it: `None` exactly where all items of the occurrence at which it stands were
+    /// given. It takes no memory.
+    pub fn peek(&self) -> Option<ItemRef<'_>>
+        ensures { IsLent self.now result }
+    {
+        peek(&self.ground, &self.place)
+    }
+
+    /// Passes over the next item, where the walk has gone on to it; else it leaves what is left. It takes no memory.
+    pub fn pass(&mut self)
+        ensures design { self.new.design ≡ self.old.design }
+        ensures passed { self.old.over ≡ false → self.new.left ≡ drop 1 self.old.left }
+        ensures stays { self.old.over ≡ true → self.new.left ≡ self.old.left }
+    {
+        pass(&self.ground, &mut self.place);
     }
 }
 

@@ -1,5 +1,5 @@
 -- What an occurrence has still to give of its own items.
-use Rattle.std.specs.Prelude.{◌≡◌, List, [], ◌∷◌, ◌++◌, Option, Some, None, drop, map}
+use Rattle.std.specs.Prelude.{◌≡◌, List, [], ◌∷◌, ◌++◌, Option, Some, None, Bool, true, false, drop, map}
 use Rattle.std.specs.Option.{option_map_or}
 use Rattle.netlist_schema.specs.Design.{Design, cell_at}
 use Rattle.flat_spec.specs.Effective.{effective}
@@ -8,8 +8,9 @@ use Rattle.flat_spec.specs.Occurrences.{Occurrence, own_nets}
 use Rattle.flat_spec.specs.Pins.{shown_bits}
 use Rattle.flat_spec.specs.Types.{Item}
 use Rattle.flat_spec.specs.declared.item.Item.TheVariants.{Enter}
+use Rattle.walk_items.specs.Lent.{item_of}
 use Rattle.walk_items.specs.Stand.{IsStage, top_of}
-use Rattle.walk_items.specs.declared.items.Given.{Given}
+use Rattle.walk_items.specs.declared.lent.ItemRef.{ItemRef}
 use Rattle.walk_items.specs.declared.place.Stage.{Stage}
 use Rattle.walk_items.specs.declared.place.Stage.TheVariants.{Whole, Nets, Pins, Done}
 
@@ -28,7 +29,18 @@ own_left d o (Nets n) = map (net_item d (top_of d).cell) (drop n (own_nets d o))
 own_left d o (Pins p) = drop p.number (pins_of d o)
 own_left d o Done = []
 
--- of the items that are left nothing comes next, or the first, behind which the others are left
-abbrev pub IsNext : Design → Occurrence → List Item → Option Given → Type 0
-IsNext d o items None = items ≡ []
-IsNext d o items (Some given) = (items ≡ given.item ∷ own_left d o given.stage) × IsStage d o given.stage
+-- none is left
+abbrev pub is_over : Stage → Bool
+is_over Whole = false
+is_over (Nets n) = false
+is_over (Pins p) = false
+is_over Done = true
+
+-- none is left, or this is the first of them
+abbrev pub IsAhead : Design → Occurrence → Stage → Option ItemRef → Type 0
+IsAhead d o stage None = is_over stage ≡ true
+IsAhead d o stage (Some item) = (is_over stage ≡ false) × (own_left d o stage ≡ item_of item ∷ drop 1 (own_left d o stage))
+
+-- these are left
+abbrev pub GoesOn : Design → Occurrence → List Item → Stage → Type 0
+GoesOn d o items stage = (own_left d o stage ≡ items) × IsStage d o stage

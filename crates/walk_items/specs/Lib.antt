@@ -1,4 +1,5 @@
 pub mod Left
+pub mod Lent
 pub mod Moves
 pub mod Ports
 pub mod Stand

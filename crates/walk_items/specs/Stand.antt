@@ -1,10 +1,10 @@
 -- Where a walk over the items of a design may stand.
-use Rattle.std.specs.Prelude.{◌≡◌, ℕ, List, [], ◌∷◌, ◌++◌, Option, Some, None, unwrap_or}
+use Rattle.std.specs.Prelude.{◌≡◌, ◌<◌, ℕ, List, [], ◌∷◌, ◌++◌, Option, Some, None, IsSome, length, slice_get, unwrap_or}
 use Rattle.netlist_schema.specs.Design.{Design}
 use Rattle.netlist_schema.specs.Types.{TopHead}
 use Rattle.netlist_schema.specs.Valid.{IsValid}
 use Rattle.flat_spec.specs.Occurrences.{Occurrence}
-use Rattle.flat_spec.specs.Paths.{Reaches}
+use Rattle.flat_spec.specs.Paths.{Reaches, nets_at}
 use Rattle.net_classes.specs.Facts.{Facts}
 use Rattle.net_classes.specs.PortClasses.{AreClasses}
 use Rattle.net_names.specs.Names.{AreNames}
@@ -57,11 +57,11 @@ AreAbove d start (step ∷ steps) (f ∷ fs) = IsFrame d start f × AreAbove d (
 AreAbove d start [] (f ∷ fs) = ⊥
 AreAbove d start (step ∷ steps) [] = ⊥
 
--- the pin that is given next is there, or the end of the pins
+-- the net or pin that is given next is there
 abbrev pub IsStage : Design → Occurrence → Stage → Type 0
 IsStage d o Whole = Unit {0}
-IsStage d o (Nets n) = Unit {0}
-IsStage d o (Pins p) = IsPinAt (ports_shown d o) p
+IsStage d o (Nets n) = n < length (nets_at d o.cell)
+IsStage d o (Pins p) = IsPinAt (ports_shown d o) p × IsSome (slice_get (ports_shown d o) p.port)
 IsStage d o Done = Unit {0}
 
 -- the frames are those along the path, from the top down

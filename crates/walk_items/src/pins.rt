@@ -1,65 +1,66 @@
 //! The items of pins.
-ghost use Rattle.std.specs.Prelude.{◌≡◌, ◌++◌, ◌∷◌, [], IfOk, Some, slice_get};
+ghost use Rattle.std.specs.Prelude.{◌≡◌, ◌++◌, ◌∷◌, [], Some, slice_get};
 ghost use Rattle.std.specs.Option.{option_map};
-ghost use Rattle.flat_spec.specs.Flattening.{pin_item};
 ghost use Rattle.flat_spec.specs.Pins.{net_at_pin, own_bits};
 ghost use Rattle.flat_spec.specs.Representatives.{representative};
-ghost use Rattle.walk_items.specs.Stand.{IsFrame, IsGround, MayStand, stand_of, top_of};
+ghost use Rattle.walk_items.specs.Left.{IsAhead};
+ghost use Rattle.walk_items.specs.Lent.{net_of};
+ghost use Rattle.walk_items.specs.Stand.{IsFrame, IsGround, IsStage, MayStand, here_of, stand_of, top_of};
 
 use crate::firsts::first_of;
 use crate::ground::Ground;
-use crate::place::{Frame, Parent, PinAt, Place};
-use flat_spec::{Item, NetAt, Path};
+use crate::lent::{ItemRef, NetRef};
+use crate::place::{Frame, Parent, PinAt, Place, Stage};
 use net_names::joined_net;
-use netlist_schema::{NoMemory, Shown};
+use netlist_schema::Shown;
 
 /// The first net of the design that is connected with a bit of the top, where a net of the top joins it.
-fn first_inside<S: Shown + Drop>(
-    ground: &Ground<S>,
-    top: &Frame,
+fn first_inside<'a, S: Shown + Drop>(
+    ground: &'a Ground<S>,
+    top: &'a Frame,
     pin: PinAt,
-) -> Result<Option<NetAt>, NoMemory>
+) -> Option<NetRef<'a>>
     requires ground { IsGround (S.design ground.now.design) ground.now.classes ground.now.notes }
     requires top { IsFrame (S.design ground.now.design) [] top.now }
     requires pin { slice_get (own_bits (S.design ground.now.design) top.now.cell) pin.number ≡ Some (record { port = pin.port; bit = pin.bit }) }
-    ensures { IfOk result (λ first. first ≡ option_map (representative (S.design ground.now.design) (top_of (S.design ground.now.design)).cell)
-        (net_at_pin (S.design ground.now.design) (top_of (S.design ground.now.design)).cell [] (record { port = pin.port; bit = pin.bit }))) }
+    ensures { option_map net_of result ≡ option_map (representative (S.design ground.now.design) (top_of (S.design ground.now.design)).cell)
+        (net_at_pin (S.design ground.now.design) (top_of (S.design ground.now.design)).cell [] (record { port = pin.port; bit = pin.bit })) }
 {
     match ground.classes.net_at(top.cell, pin.number) {
-        Some(net) => Ok(Some(first_of(ground, &[], top, net)?)),
-        None => Ok(None),
+        Some(net) => Some(first_of(ground, &[], top, net)),
+        None => None,
     }
 }
 
 /// The first net of the design that is connected with a bit of an instance, where a net of the parent joins it.
-fn first_outside<S: Shown + Drop>(
-    ground: &Ground<S>,
-    parent: Parent<'_>,
+fn first_outside<'a, S: Shown + Drop>(
+    ground: &'a Ground<S>,
+    parent: Parent<'a>,
     pin: PinAt,
-) -> Result<Option<NetAt>, NoMemory>
+) -> Option<NetRef<'a>>
     requires ground { IsGround (S.design ground.now.design) ground.now.classes ground.now.notes }
     requires parent { IsFrame (S.design ground.now.design) parent.path.now parent.frame.now }
-    ensures { IfOk result (λ first. first ≡ option_map (representative (S.design ground.now.design) (top_of (S.design ground.now.design)).cell)
-        (net_at_pin (S.design ground.now.design) (top_of (S.design ground.now.design)).cell (parent.entry.path.now ++ parent.entry.step ∷ []) (record { port = pin.port; bit = pin.bit }))) }
+    ensures { option_map net_of result ≡ option_map (representative (S.design ground.now.design) (top_of (S.design ground.now.design)).cell)
+        (net_at_pin (S.design ground.now.design) (top_of (S.design ground.now.design)).cell (parent.entry.path.now ++ parent.entry.step ∷ []) (record { port = pin.port; bit = pin.bit })) }
 {
     let joints = ground.classes.joints(parent.frame.cell);
     match joined_net(joints, parent.step, pin.port, pin.bit) {
-        Some(net) => Ok(Some(first_of(ground, parent.path, parent.frame, net)?)),
-        None => Ok(None),
+        Some(net) => Some(first_of(ground, parent.path, parent.frame, net)),
+        None => None,
     }
 }
 
 /// The first net of the design that is connected with a pin of the occurrence, where a net joins it.
-fn first_at<S: Shown + Drop>(
-    ground: &Ground<S>,
-    place: &Place,
+fn first_at<'a, S: Shown + Drop>(
+    ground: &'a Ground<S>,
+    place: &'a Place,
     pin: PinAt,
-) -> Result<Option<NetAt>, NoMemory>
+) -> Option<NetRef<'a>>
     requires ground { IsGround (S.design ground.now.design) ground.now.classes ground.now.notes }
     requires stands { MayStand (S.design ground.now.design) (stand_of place.now) }
     requires pin { slice_get (own_bits (S.design ground.now.design) place.now.here.cell) pin.number ≡ Some (record { port = pin.port; bit = pin.bit }) }
-    ensures { IfOk result (λ first. first ≡ option_map (representative (S.design ground.now.design) (top_of (S.design ground.now.design)).cell)
-        (net_at_pin (S.design ground.now.design) (top_of (S.design ground.now.design)).cell place.now.path.steps.items (record { port = pin.port; bit = pin.bit }))) }
+    ensures { option_map net_of result ≡ option_map (representative (S.design ground.now.design) (top_of (S.design ground.now.design)).cell)
+        (net_at_pin (S.design ground.now.design) (top_of (S.design ground.now.design)).cell place.now.path.steps.items (record { port = pin.port; bit = pin.bit })) }
 {
     match place.parent() {
         Some(parent) => first_outside(ground, parent, pin),
@@ -68,21 +69,20 @@ fn first_at<S: Shown + Drop>(
 }
 
 /// The item of a pin of the occurrence.
-pub fn pin_item<S: Shown + Drop>(
-    ground: &Ground<S>,
-    place: &Place,
+pub fn pin_item<'a, S: Shown + Drop>(
+    ground: &'a Ground<S>,
+    place: &'a Place,
     pin: PinAt,
-) -> Result<Item, NoMemory>
+) -> ItemRef<'a>
     requires ground { IsGround (S.design ground.now.design) ground.now.classes ground.now.notes }
     requires stands { MayStand (S.design ground.now.design) (stand_of place.now) }
-    requires pin { slice_get (own_bits (S.design ground.now.design) place.now.here.cell) pin.number ≡ Some (record { port = pin.port; bit = pin.bit }) }
-    ensures { IfOk result (λ item. item ≡ pin_item (S.design ground.now.design) (top_of (S.design ground.now.design)).cell place.now.path.steps.items (record { port = pin.port; bit = pin.bit })) }
+    requires pin { IsStage (S.design ground.now.design) (here_of (stand_of place.now)) (Stage.Pins pin) }
+    ensures { IsAhead (S.design ground.now.design) (here_of (stand_of place.now)) (Stage.Pins pin) (Some result) }
 {
-    let first = first_at(ground, place, pin)?;
-    Ok(Item::Pin {
-        path: Path::of(ground.alloc, place.path.steps.as_slice())?,
+    ItemRef::Pin {
+        path: place.path.steps.as_slice(),
         port: pin.port,
         bit: pin.bit,
-        first,
-    })
+        first: first_at(ground, place, pin),
+    }
 }

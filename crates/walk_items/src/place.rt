@@ -1,6 +1,7 @@
 //! Where a walk stands.
 ghost use Rattle.std.specs.Prelude.{◌≡◌, OnErr, OnOk};
 ghost use Rattle.netlist_schema.specs.Design.{Design};
+ghost use Rattle.walk_items.specs.Left.{is_over};
 ghost use Rattle.walk_items.specs.Moves.{HasEntered, HasLeft};
 ghost use Rattle.walk_items.specs.Stand.{IsParent, MayStand, stand_of};
 
@@ -28,6 +29,15 @@ pub enum Stage {
     Pins(PinAt),
     /// None.
     Done,
+}
+
+impl Stage {
+    /// Whether it gives nothing any more.
+    pub fn is_over(self) -> bool
+        ensures { result ≡ is_over self }
+    {
+        matches!(self, Stage::Done)
+    }
 }
 
 /// An occurrence on the way from the top to the one at which a walk stands.

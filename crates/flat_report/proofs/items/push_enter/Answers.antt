@@ -4,6 +4,7 @@ use Rattle.std.proofs.lemmas.Result.{on_ok_weaker}
 use Rattle.edif_spec.specs.PropertyText.{property_text}
 use Rattle.report_spec.specs.Lines.{cell_text, lib_text, path_text}
 use Rattle.flat_report.specs.Parts.{behind_blanks}
+use Rattle.walk_items.specs.Lent.{properties_of}
 use Rattle.flat_report.proofs.LineLemmas.{one_word, more_words}
 use Rattle.flat_report.proofs.items.push_enter.Goals as goal
 
@@ -14,14 +15,13 @@ returns-clause-ok g c =
     let begun = c.extend_from_slice.new.self.items in
     let placed = c.push_place.new.out.items in
     let named = c.push_cell.new.out.items in
-    let whole = c.push_properties.new.out.items in
+    let whole = c.push_lent.new.out.items in
     let path = path_text d c.args.path.now in
     let library = lib_text d c.args.cell in
     let cell = cell_text d c.args.cell in
     let place = more_words old begun placed (codes "inst") [] (path ∷ []) c.in_ok-extend_from_slice.ensures.items (c.in_ok-push_place.ensures.text ∙ ap (λ text. begun ++ text) (one_word path)) in
     let names = more_words old placed named (codes "inst") (path ∷ []) (library ∷ cell ∷ []) place c.in_ok-push_cell.ensures.ok in
-    on_ok_weaker c.push_properties.result
-    (λ (last : whole ≡ named ++ behind_blanks (map property_text c.as_slice.result.now)).
-    more_words old named whole (codes "inst") (path ∷ library ∷ cell ∷ []) (map property_text c.args.properties.now) names
-    (last ∙ ap (λ ps. named ++ behind_blanks (map property_text ps)) c.as_slice.ensures))
-    c.push_properties.ensures.ok
+    let last = map property_text (properties_of c.args.properties) in
+    on_ok_weaker c.push_lent.result
+    (λ (is : whole ≡ named ++ behind_blanks last). more_words old named whole (codes "inst") (path ∷ library ∷ cell ∷ []) last names is)
+    c.push_lent.ensures.ok

@@ -1,4 +1,5 @@
-use Rattle.std.proofs.Common.{◌∙◌, arith}
+use Rattle.std.proofs.Common.{◌∙◌, ap, arith}
+use Rattle.walk_items.specs.Left.{is_over}
 use Rattle.walk_items.specs.Stand.{stand_of}
 use Rattle.occ_walk.proofs.LeftLemmas.{back_at, ended_at, entered_at, next_fits}
 use Rattle.occ_walk.proofs.steps.go_on.Goals as goal
@@ -15,6 +16,9 @@ returns-in-Some-clause-stands g c =
     (entered_at (g.S.Shown.design c.args.ground.now.design) c.requires.ground.valid (stand_of c.up.place) c.up.invariant.stands c.up.invariant.done c.as_slice.result.now c.as_slice.ensures.value
     c.in_ok-frame.field-0 c.in_ok-frame.ensures
     c.in-Some.frame c.in-Some.is (stand_of c.enter.new.self) c.in_ok-enter.ensures.ok).0
+
+pub returns-in-Some-clause-gone : goal.returns-in-Some-clause-gone
+returns-in-Some-clause-gone g c = ap is_over c.in_ok-enter.ensures.ok.stage
 
 pub returns-in-Some-clause-left : goal.returns-in-Some-clause-left
 returns-in-Some-clause-left g c =

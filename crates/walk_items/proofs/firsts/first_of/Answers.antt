@@ -1,13 +1,8 @@
 use Rattle.std.proofs.Common.{◌≡◌, refl, sym, ap, subst, ◌∙◌, Option}
 use Rattle.std.specs.Prelude.{IsSome}
 use Rattle.std.proofs.lemmas.Option.{same_Some}
-use Rattle.std.proofs.lemmas.Result.{IfOk-weaker}
-use Rattle.flat_spec.specs.Paths.{at_path}
-use Rattle.flat_spec.specs.Representatives.{representative}
-use Rattle.flat_spec.specs.Types.{NetAt}
 use Rattle.net_names.specs.Names.{net_named}
 use Rattle.net_names.specs.declared.names.Name.{Name}
-use Rattle.walk_items.specs.Stand.{top_of}
 use Rattle.walk_items.proofs.NetLemmas.{net_is_named}
 use Rattle.walk_items.proofs.firsts.first_of.Goals as goal
 
@@ -23,7 +18,4 @@ returns g c =
     let named = net_is_named d c.args.ground.now.classes c.args.ground.now.notes c.requires.ground c.args.path.now c.args.frame.now c.requires.frame
     c.args.net c.requires.net c.as_slice.result.now c.firsts-firsts.result.now c.as_slice.ensures.value c.firsts-firsts.ensures in
     let same : named.name ≡ c.name_at-name.result = same_Some named.name c.name_at-name.result (sym named.found ∙ c.name_at-name.ensures) in
-    IfOk-weaker c.net_of.result (λ (net : NetAt). net ≡ net_named c.args.path.now c.name_at-name.result)
-    (λ (net : NetAt). net ≡ representative d (top_of d).cell (at_path c.args.path.now c.args.net))
-    (λ net is. is ∙ ap (net_named c.args.path.now) (sym same) ∙ named.is)
-    c.net_of.ensures
+    c.net_of.ensures ∙ ap (net_named c.args.path.now) (sym same) ∙ named.is

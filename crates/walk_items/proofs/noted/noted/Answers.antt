@@ -3,7 +3,7 @@ use Rattle.std.proofs.lemmas.List.{get_or_default}
 use Rattle.annot_view.specs.Lent.{lent}
 use Rattle.placed_notes.specs.Placed.{properties_at}
 use Rattle.walk_items.proofs.EnterLemmas.{noted_more}
-use Rattle.walk_items.proofs.enter.noted.Goals as goal
+use Rattle.walk_items.proofs.noted.noted.Goals as goal
 
 pub loop-place-preserved : goal.loop-place-preserved
 loop-place-preserved c =

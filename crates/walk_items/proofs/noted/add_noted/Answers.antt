@@ -5,7 +5,7 @@ use Rattle.std.proofs.lemmas.List.{map_push}
 use Rattle.netlist_schema.specs.Types.{Property}
 use Rattle.annot_view.specs.Lent.{lent}
 use Rattle.walk_items.proofs.EnterLemmas.{none_noted, one_noted}
-use Rattle.walk_items.proofs.enter.add_noted.Goals as goal
+use Rattle.walk_items.proofs.noted.add_noted.Goals as goal
 
 pub returns-in_default : goal.returns-in_default
 returns-in_default c =
