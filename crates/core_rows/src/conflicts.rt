@@ -1,6 +1,6 @@
 //! Commits that clash with the commit of another caller, and commits that do not.
-ghost use Rattle.std.specs.Prelude.{IfOk};
-ghost use Rattle.core_rows.specs.Keeps.{IsPinBy};
+ghost use Rattle.std.specs.Prelude.{IfOk, OnOk};
+ghost use Rattle.core_rows.specs.Keeps.{IsPinBy, KeepsOthers};
 
 use crate::calls::{accepted, end_pin, refused, try_last};
 use crate::designs::{Edit, FIRST, placed, two};
@@ -36,7 +36,7 @@ fn overtaken(
 }
 
 /// What is seen of two edits of which each is right, and both together are a cycle.
-#[derive(Clone, Copy, Debug, PartialEq, Eq)]
+#[derive(Clone, Copy, PartialEq, Eq)]
 struct Seen {
     /// The version that the first makes, and what the second clashes with.
     version: u64,
@@ -49,25 +49,43 @@ struct Seen {
     events: [usize; 2],
 }
 
+/// The second caller commits its edit, which clashes, ends its pin, pins anew, and is refused there: what it clashes with, the number
+/// and the version of the new pin, and the events so far. The new pin ends too.
+fn tried_anew(
+    alloc: Global,
+    core: &mut Core,
+    tx: Tx,
+) -> Result<((Object, u64), (u64, u64), usize), Fail>
+    requires { IsPinBy core.old 1 tx.pin }
+    ensures { OnOk result (KeepsOthers 1 core.old core.new) }
+{
+    let (clash, back) = refused(core, 1, tx)?;
+    end_pin(core, 1, back.abandon());
+    let again = try_last(alloc, core, 1, FIRST_IN_SECOND, &Reply::IsCyclic)?;
+    let pin = again.abandon();
+    let (anew, so_far) = ((pin.number(), pin.version()), core.log().len());
+    end_pin(core, 1, pin);
+    Ok((clash, anew, so_far))
+}
+
 /// Each of two callers places one block in the other. The second clashes, pins anew, and is refused there.
-fn cycle(alloc: Global) -> Result<Seen, Fail> {
-    let mut core = Core::new(alloc, two(alloc)?)?;
-    let (version, held, second) = overtaken(alloc, &mut core, SECOND_IN_FIRST, FIRST_IN_SECOND)?;
+fn cycle_on(alloc: Global, core: &mut Core) -> Result<Seen, Fail> {
+    let (version, held, second) = overtaken(alloc, core, SECOND_IN_FIRST, FIRST_IN_SECOND)?;
     let pins = [held.number(), second.pin().number(), second.pin().version()];
-    let (clash, second) = refused(&mut core, 1, second)?;
-    end_pin(&mut core, 1, second.abandon());
-    let again = try_last(alloc, &mut core, 1, FIRST_IN_SECOND, &Reply::IsCyclic)?;
-    let anew = again.abandon();
-    let (number, pinned, so_far) = (anew.number(), anew.version(), core.log().len());
-    end_pin(&mut core, 1, anew);
-    end_pin(&mut core, 0, held);
+    let (clash, anew, so_far) = tried_anew(alloc, core, second)?;
+    end_pin(core, 0, held);
     Ok(Seen {
         version,
         clash,
         pins,
-        anew: (number, pinned),
+        anew,
         events: [so_far, core.log().len()],
     })
+}
+
+fn cycle(alloc: Global) -> Result<Seen, Fail> {
+    let mut core = Core::new(alloc, two(alloc)?)?;
+    cycle_on(alloc, &mut core)
 }
 
 #[test]
@@ -80,23 +98,30 @@ fn what_would_make_a_cycle_is_refused(rt: HostRuntime) -> Result<(), Fail> {
         anew: (2, 1),
         events: [6, 8],
     };
-    assert_eq!(rt; seen, wanted);
+    assert!(rt; seen == wanted);
     Ok(())
 }
 
 /// Commits a transaction that clashes, twice: what it clashes with each time, the events and the kept versions then, the number of its
 /// operations, and whether its one reply is still there.
-fn again(alloc: Global) -> Result<([(Object, u64); 2], (usize, u32), (usize, bool)), Fail> {
-    let mut core = Core::new(alloc, two(alloc)?)?;
-    let (_, _, second) = overtaken(alloc, &mut core, SECOND_IN_FIRST, FIRST_IN_SECOND)?;
-    let (clash, second) = refused(&mut core, 1, second)?;
-    let (again, second) = refused(&mut core, 1, second)?;
+fn again_on(
+    alloc: Global,
+    core: &mut Core,
+) -> Result<([(Object, u64); 2], (usize, u32), (usize, bool)), Fail> {
+    let (_, _, second) = overtaken(alloc, core, SECOND_IN_FIRST, FIRST_IN_SECOND)?;
+    let (clash, second) = refused(core, 1, second)?;
+    let (again, second) = refused(core, 1, second)?;
     let replied = matches!(second.replies().as_slice(), [Reply::Done]);
     Ok((
         [clash, again],
         (core.log().len(), core.kept()),
         (second.ops().as_slice().len(), replied),
     ))
+}
+
+fn again(alloc: Global) -> Result<([(Object, u64); 2], (usize, u32), (usize, bool)), Fail> {
+    let mut core = Core::new(alloc, two(alloc)?)?;
+    again_on(alloc, &mut core)
 }
 
 #[test]
@@ -108,19 +133,27 @@ fn a_refused_transaction_can_be_committed_again(rt: HostRuntime) -> Result<(), F
 }
 
 /// The versions that a change inside a cell and a join of its port from outside make.
-fn joined(alloc: Global) -> Result<(u64, u64), Fail> {
-    let mut core = Core::new(alloc, placed(alloc)?)?;
-    let (inside, _, second) = overtaken(alloc, &mut core, Edit::Net("A", "n"), JOIN)?;
-    let (joined, _) = accepted(&mut core, 1, second)?;
+fn joined_on(alloc: Global, core: &mut Core) -> Result<(u64, u64), Fail> {
+    let (inside, _, second) = overtaken(alloc, core, Edit::Net("A", "n"), JOIN)?;
+    let (joined, _) = accepted(core, 1, second)?;
     Ok((inside, joined))
 }
 
+fn joined(alloc: Global) -> Result<(u64, u64), Fail> {
+    let mut core = Core::new(alloc, placed(alloc)?)?;
+    joined_on(alloc, &mut core)
+}
+
 /// The version that a change of the cell itself makes, and what the join clashes with.
+fn not_joined_on(alloc: Global, core: &mut Core) -> Result<(u64, (Object, u64)), Fail> {
+    let (outside, _, second) = overtaken(alloc, core, Edit::Own("A", "K"), JOIN)?;
+    let (clash, _) = refused(core, 1, second)?;
+    Ok((outside, clash))
+}
+
 fn not_joined(alloc: Global) -> Result<(u64, (Object, u64)), Fail> {
     let mut core = Core::new(alloc, placed(alloc)?)?;
-    let (outside, _, second) = overtaken(alloc, &mut core, Edit::Own("A", "K"), JOIN)?;
-    let (clash, _) = refused(&mut core, 1, second)?;
-    Ok((outside, clash))
+    not_joined_on(alloc, &mut core)
 }
 
 #[test]

@@ -1,10 +1,10 @@
 //! Which versions are kept, and what they are.
 ghost use Rattle.std.specs.Prelude.{OnOk};
-ghost use Rattle.core_rows.specs.Keeps.{KeepsOthers};
+ghost use Rattle.core_rows.specs.Keeps.{IsPinBy, KeepsOthers};
 
 use crate::calls::{accepted, collect, end_pin, look_at, pin_last, try_last};
 use crate::designs::{Edit, FIRST, one};
-use db_core::{Core, PinAtError, Snapshot};
+use db_core::{Core, Pin, PinAtError, Snapshot};
 use edit_spec::Reply;
 use netlist_schema::Shown;
 use std::alloc::Global;
@@ -33,7 +33,7 @@ fn kept(core: &Core, version: u64) -> Option<usize> {
 }
 
 /// What is seen of the versions of a block.
-#[derive(Clone, Copy, Debug, PartialEq, Eq)]
+#[derive(Clone, Copy, PartialEq, Eq)]
 struct Seen {
     /// The version that is made, and the nets of the block in the first three versions then.
     made: u64,
@@ -49,29 +49,55 @@ struct Seen {
     nets: [Option<usize>; 3],
 }
 
-/// The first caller holds the first version, while the second adds a net.
-fn watched(alloc: Global) -> Result<Seen, Fail> {
-    let mut core = Core::new(alloc, one(alloc)?)?;
-    let held = pin_last(&mut core, 0)?;
-    let shown = held.snapshot()?;
-    let made = commit_net(alloc, &mut core)?;
-    let committed = [kept(&core, 0), kept(&core, 1), kept(&core, 2)];
-    let while_held = (collect(&mut core, 1)?, core.kept(), kept(&core, 0));
-    let looked = look_at(&mut core, 1, 0);
-    end_pin(&mut core, 0, held);
-    let free = (collect(&mut core, 1)?, core.kept(), kept(&core, 0));
-    let gone = look_at(&mut core, 1, 0);
-    let later = look_at(&mut core, 1, 2);
-    let last = look_at(&mut core, 1, 1);
-    Ok(Seen {
+/// What is seen while the first version is held.
+#[derive(Clone, Copy)]
+struct WhileHeld {
+    made: u64,
+    committed: [Option<usize>; 3],
+    held: (u32, u32, Option<usize>),
+    looked: Result<u64, PinAtError>,
+}
+
+/// The first caller holds the first version, while the second adds a net; then the pin ends.
+fn while_held(alloc: Global, core: &mut Core, held: Pin) -> Result<WhileHeld, Fail>
+    requires { IsPinBy core.old 0 held }
+{
+    let made = commit_net(alloc, core)?;
+    let committed = [kept(core, 0), kept(core, 1), kept(core, 2)];
+    let held_then = (collect(core, 1)?, core.kept(), kept(core, 0));
+    let looked = look_at(core, 1, 0);
+    end_pin(core, 0, held);
+    Ok(WhileHeld {
         made,
         committed,
-        held: while_held,
+        held: held_then,
         looked,
+    })
+}
+
+/// What is seen while the first version is held, and when nobody holds it any more.
+fn watched_on(alloc: Global, core: &mut Core) -> Result<Seen, Fail> {
+    let held = pin_last(core, 0)?;
+    let shown = held.snapshot()?;
+    let first = while_held(alloc, core, held)?;
+    let free = (collect(core, 1)?, core.kept(), kept(core, 0));
+    let gone = look_at(core, 1, 0);
+    let later = look_at(core, 1, 2);
+    let last = look_at(core, 1, 1);
+    Ok(Seen {
+        made: first.made,
+        committed: first.committed,
+        held: first.held,
+        looked: first.looked,
         free,
         pins: [gone, later, last],
         nets: [nets(&shown), nets(core.opening()), nets(core.head())],
     })
+}
+
+fn watched(alloc: Global) -> Result<Seen, Fail> {
+    let mut core = Core::new(alloc, one(alloc)?)?;
+    watched_on(alloc, &mut core)
 }
 
 #[test]
@@ -90,6 +116,6 @@ fn a_version_is_kept_as_long_as_it_is_pinned(rt: HostRuntime) -> Result<(), Fail
         ],
         nets: [Some(0), Some(0), Some(1)],
     };
-    assert_eq!(rt; seen, wanted);
+    assert!(rt; seen == wanted);
     Ok(())
 }

@@ -1,4 +1,4 @@
-use Rattle.core_rows.proofs.conflicts.joined.Goals as goal
+use Rattle.core_rows.proofs.conflicts.joined_on.Goals as goal
 
 pub accepted-requires : goal.accepted-requires
 accepted-requires c = c.in_ok-inside.ensures.second

@@ -1,4 +1,4 @@
-use Rattle.core_rows.proofs.conflicts.again.Goals as goal
+use Rattle.core_rows.proofs.conflicts.again_on.Goals as goal
 
 pub refused-requires : goal.refused-requires
 refused-requires c = c.in_ok-second.ensures.second

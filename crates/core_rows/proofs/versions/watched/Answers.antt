@@ -1,5 +1,0 @@
-use Rattle.std.proofs.Common.{arith}
-use Rattle.core_rows.proofs.versions.watched.Goals as goal
-
-pub end_pin-requires : goal.end_pin-requires
-end_pin-requires c = let pin = c.in_ok-held.held in c.look_at-looked.ensures 0 pin (omega arith) (c.collect.ensures 0 pin (c.in_ok-made.ensures 0 pin (omega arith) c.in_ok-held.ensures.pin))
