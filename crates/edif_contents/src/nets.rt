@@ -191,7 +191,7 @@ fn ends_at(alloc: Global, stretches: &[Stretch], k: u32) -> Result<Row<End>, NoM
     requires within { All (λ s. k + s.first < 2 ^ 32) stretches.now }
     ensures { IfOk result (λ ends. ends ≡ map (end_of k) stretches.now) }
 {
-    let mut ends = Vec::new(alloc);
+    let mut ends = Vec::with_capacity(alloc, stretches.len())?;
     for stretch in stretches {
         ends.push(end_of(k, stretch))?;
     }

@@ -1,11 +1,11 @@
 -- Facts on the nodes of a list.
-use Rattle.std.proofs.Common.{◌≡◌, ℕ, ℤ, pos, Bor, Bool, true, false, if◌then◌else◌, nat_eq, zero, suc, ◌-◌, ◌<◌, ◌≤◌, List, [], ◌∷◌, ◌++◌, length, map, take, drop, Some, refl, sym, ap, ◌∙◌, subst, arith, append-nil, length-drop, length-append, get_or, Result, Ok, Err}
+use Rattle.std.proofs.Common.{◌≡◌, ℕ, ℤ, pos, Bor, Bool, true, false, if◌then◌else◌, nat_eq, zero, suc, ◌<◌, ◌≤◌, List, [], ◌∷◌, ◌++◌, length, map, Some, refl, sym, ap, ◌∙◌, subst, arith, append-nil, length-append, get_or, Result, Ok, Err}
 use Rattle.std.specs.Int.{w64}
 use Rattle.std.specs.Prelude.{FitsSigned, slice_get, option_map, IfOk, OnOk, OnErr}
 use Rattle.netlist_schema.specs.declared.memory.NoMemory.{NoMemory}
-use Rattle.std.specs.List.{list_any, slice_range}
+use Rattle.std.specs.List.{list_any}
 use Rattle.std.specs.Cmp.Lexicographic.{pointwise, same_text}
-use Rattle.std.proofs.lemmas.List.{take-append-le, drop-append-le, map-append, length-map, get_or_append_left}
+use Rattle.std.proofs.lemmas.List.{map-append, length-map, get_or_append_left}
 use Rattle.std.proofs.lemmas.Option.{slice_get_within, slice_get-map, slice_get_read}
 use Rattle.indexmap.specs.IndexSet.{insert_key}
 use Rattle.spelling_spec.specs.Tree.{Placed, Trees, Form', Word', Integer', String', End, More}
@@ -66,7 +66,7 @@ shape_read rows id (String' p x) s e h = string_read rows s p x (sym e ∙ ap (o
 
 -- each of the lists goes on
 pub record Grow (old new : Stores) : Type 0 where
-  pub arguments : (more : List NodeId) × (new.arguments ≡ old.arguments ++ more)
+  pub arguments : (more : List (List NodeId)) × (new.arguments ≡ old.arguments ++ more)
   pub words : (more : List (List ℕ)) × (new.words ≡ old.words ++ more)
   pub integers : (more : List ℤ) × (new.integers ≡ old.integers ++ more)
   pub strings : (more : List (List ℕ)) × (new.strings ≡ old.strings ++ more)
@@ -100,16 +100,9 @@ module _ {A : Type 0} where
       last [] = refl
       last (z ∷ zs) = last zs
 
--- the arguments of a form stay
-range_more : (xs ys : List NodeId) (first end : ℕ) → first ≤ end → end ≤ length xs → slice_range (xs ++ ys) first end ≡ slice_range xs first end
-range_more xs ys first end l m =
-    let start : first ≤ length xs = omega arith in
-    let long : end - first ≤ length (drop first xs) = omega (arith, length-drop first xs) in
-    ap (take (end - first)) (drop-append-le first xs ys start) ∙ take-append-le (end - first) (drop first xs) ys long
-
 -- what a node names stays within lists that go on, and stays the same
 within_more : (s t : Stores) (kind : NodeKind) → Grow s t → IsWithin s kind → IsWithin t kind
-within_more s t (kinds.Form first end) g h = (let a = h.0 in let b = h.1 in let c = longer s.arguments t.arguments g.arguments.0 g.arguments.1 in (omega arith, omega arith))
+within_more s t (kinds.Form i) g h = (let c = longer s.arguments t.arguments g.arguments.0 g.arguments.1 in omega arith)
 within_more s t (kinds.Word i) g h = (let c = longer s.words t.words g.words.0 g.words.1 in omega arith)
 within_more s t (kinds.Integer i) g h =
     let c = longer s.integers t.integers g.integers.0 g.integers.1 in
@@ -123,7 +116,7 @@ are_within_more s t [] g h = tt
 are_within_more s t (node ∷ nodes) g h = (within_more s t node.kind g h.0, are_within_more s t nodes g h.1)
 
 shape_more : (s t : Stores) (kind : NodeKind) → Grow s t → IsWithin s kind → shape_of t kind ≡ shape_of s kind
-shape_more s t (kinds.Form first end) g h = ap (λ v. FormOf (slice_range v first end)) g.arguments.1 ∙ ap FormOf (range_more s.arguments g.arguments.0 first end h.0 h.1)
+shape_more s t (kinds.Form i) g h = ap FormOf (read_more [] s.arguments t.arguments g.arguments.0 i g.arguments.1 h)
 shape_more s t (kinds.Word i) g h = ap WordOf (read_more [] s.words t.words g.words.0 i g.words.1 h)
 shape_more s t (kinds.Integer i) g h = ap IntegerOf (read_more (pos 0) s.integers t.integers g.integers.0 i g.integers.1 h.0)
 shape_more s t (kinds.String i) g h = ap StringOf (read_more [] s.strings t.strings g.strings.0 i g.strings.1 h)
@@ -170,29 +163,6 @@ added s t nodes all rows place kind shape (Err e) view h g within is at pushed s
 -- a list that stays goes on
 pub stays : {A : Type 0} (xs : List A) → (more : List A) × (xs ≡ xs ++ more)
 stays xs = ([], sym (append-nil xs))
-
--- what stands behind a list, in the whole
-range_behind : (xs ys : List NodeId) → slice_range (xs ++ ys) (length xs) (length (xs ++ ys)) ≡ ys
-range_behind xs ys =
-    let behind : drop (length xs) (xs ++ ys) ≡ ys = dropped xs in
-    let count : length (xs ++ ys) - length xs ≡ length ys = omega (arith, length-append xs ys) in
-    ap (λ v. take (length (xs ++ ys) - length xs) v) behind ∙ (ap (λ n. take n ys) count ∙ take_whole ys)
-  where
-    dropped : (xs : List NodeId) → drop (length xs) (xs ++ ys) ≡ ys
-    dropped [] = refl
-    dropped (x ∷ xs) = dropped xs
-
-    take_whole : (ys : List NodeId) → take (length ys) ys ≡ ys
-    take_whole [] = refl
-    take_whole (y ∷ ys) = ap (λ v. y ∷ v) (take_whole ys)
-
--- the arguments that were put behind the others
-pub range_pushed : (xs ids ys : List NodeId) (first end : ℕ) → ys ≡ xs ++ ids → first ≡ length xs → end ≡ length ys → ((first ≤ end) × (end ≤ length ys)) × (slice_range ys first end ≡ ids)
-range_pushed xs ids ys first end grown start stop =
-    let c = longer xs ys ids grown in
-    let order : first ≤ end = omega arith in
-    let within : end ≤ length ys = omega arith in
-    ((order, within), ap (λ n. slice_range ys n end) start ∙ ap (λ n. slice_range ys (length xs) n) stop ∙ ap (λ v. slice_range v (length xs) (length v)) grown ∙ range_behind xs ids)
 
 -- the words after one more, and where it stands
 pub words_grow : (name : List ℕ) (old new : List (List ℕ)) → new ≡ insert_key (pointwise nat_eq) old name → (more : List (List ℕ)) × (new ≡ old ++ more)

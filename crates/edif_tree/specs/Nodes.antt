@@ -1,7 +1,6 @@
 -- Which tree stands at a node of a list of nodes.
-use Rattle.std.specs.Prelude.{◌≡◌, ◌≤◌, ◌<◌, FitsSigned, ℕ, ℤ, pos, List, [], ◌∷◌, Some, get_or, length, slice_get}
+use Rattle.std.specs.Prelude.{◌≡◌, ◌<◌, FitsSigned, ℕ, ℤ, pos, List, [], ◌∷◌, Some, get_or, length, slice_get}
 use Rattle.std.specs.Int.{w64}
-use Rattle.std.specs.List.{slice_range}
 use Rattle.spelling_spec.specs.Tree.{Placed, Trees, Form', Word', Integer', String', End, More}
 use Rattle.edif_tree.specs.declared.node.NodeId.{NodeId}
 use Rattle.edif_tree.specs.declared.node.Node.{Node}
@@ -27,16 +26,16 @@ pub record Table : Type 0 where
   pub rows : List Row
   pub root : NodeId
 
--- the lists beside the nodes: the arguments of all forms, and the words, integers and strings
+-- the lists beside the nodes: the arguments of each form, and the words, integers and strings
 pub record Stores : Type 0 where
-  pub arguments : List NodeId
+  pub arguments : List (List NodeId)
   pub words : List (List ℕ)
   pub integers : List ℤ
   pub strings : List (List ℕ)
 
 -- the shape of a node, where these lists stand beside it
 abbrev pub shape_of : Stores → NodeKind → Seen
-shape_of lists (kinds.Form first end) = FormOf (slice_range lists.arguments first end)
+shape_of lists (kinds.Form at) = FormOf (get_or lists.arguments at [])
 shape_of lists (kinds.Word at) = WordOf (get_or lists.words at [])
 shape_of lists (kinds.Integer at) = IntegerOf (get_or lists.integers at (pos 0))
 shape_of lists (kinds.String at) = StringOf (get_or lists.strings at [])
@@ -46,7 +45,7 @@ row_of lists node = record { place = node.place; shape = shape_of lists node.kin
 
 -- what a node names lies within these lists, and an integer within 64 bits
 abbrev pub IsWithin : Stores → NodeKind → Type 0
-IsWithin lists (kinds.Form first end) = (first ≤ end) × (end ≤ length lists.arguments)
+IsWithin lists (kinds.Form at) = at < length lists.arguments
 IsWithin lists (kinds.Word at) = at < length lists.words
 IsWithin lists (kinds.Integer at) = (at < length lists.integers) × FitsSigned w64 (get_or lists.integers at (pos 0))
 IsWithin lists (kinds.String at) = at < length lists.strings

@@ -5,6 +5,7 @@ mod errors;
 pub mod laws;
 mod making;
 mod node;
+mod node_lists;
 mod nodes;
 mod read;
 mod tree;

@@ -9,7 +9,8 @@ ghost use Rattle.edif_tree.specs.Nodes.{IsAt};
 ghost use Rattle.edif_tree.specs.TreeError.{Names};
 
 use crate::errors::TreeError;
-use crate::node::{NodeId, range};
+use crate::node::NodeId;
+use crate::node_lists::range;
 use crate::nodes::Nodes;
 use crate::tree::Tree;
 use netlist_schema::NoMemory;

@@ -1,7 +1,4 @@
 //! One node of a tree.
-ghost use Rattle.std.specs.Prelude.{◌≡◌, ◌≤◌, length};
-ghost use Rattle.std.specs.List.{slice_range};
-
 use netlist_schema::{Ident, Text};
 
 /// A node of a tree, by its place in the tree's list of nodes, from 0. It is good for that tree alone.
@@ -21,11 +18,11 @@ pub enum Shape<'a> {
     String(&'a Text),
 }
 
-/// What stands at a node, in 12 bytes. The arguments of a form stand in a list for all nodes, from `first` to before `end`; words,
-/// integers and strings stand in lists of their own, and a node has the place there.
+/// What stands at a node, in 8 bytes. The arguments of forms, words, integers and strings stand in lists of their own, and a node has
+/// the place there.
 #[derive(Clone, Copy)]
 pub enum NodeKind {
-    Form { first: u32, end: u32 },
+    Form(u32),
     Word(u32),
     Integer(u32),
     String(u32),
@@ -36,13 +33,4 @@ pub enum NodeKind {
 pub struct Node {
     pub place: u32,
     pub kind: NodeKind,
-}
-
-/// The ids from `first` to before `end`.
-pub fn range(ids: &[NodeId], first: usize, end: usize) -> &[NodeId]
-    requires order { first ≤ end }
-    requires within { end ≤ length ids.now }
-    ensures { result.now ≡ slice_range ids.now first end }
-{
-    &ids[first..end]
 }

@@ -3,7 +3,8 @@ ghost use Rattle.std.specs.Prelude.{◌≡◌, ◌<◌, ◌∷◌, ◌++◌, [],
 ghost use Rattle.edif_tree.specs.Making.{IsLeaf, leaf_of};
 ghost use Rattle.edif_tree.specs.Nodes.{FormOf, IntegerOf, StringOf, WordOf, seen};
 
-use crate::node::{Node, NodeId, NodeKind, Shape, range};
+use crate::node::{Node, NodeId, NodeKind, Shape};
+use crate::node_lists::NodeLists;
 use indexmap::IndexSet;
 use netlist_schema::{Ident, NoMemory, Text};
 use spelling_spec::TokenKind;
@@ -14,7 +15,7 @@ use std::marker::Model;
 #[derive(Drop)]
 pub struct Nodes {
     nodes: Vec<Node>,
-    arguments: Vec<NodeId>,
+    arguments: NodeLists,
     words: IndexSet<Ident>,
     integers: Vec<i64>,
     strings: Vec<Text>,
@@ -26,9 +27,9 @@ impl Model for Nodes {
 
     ghost Value = { List Row };
 
-    ghost view = { λ a. map (row_of (record { arguments = a.arguments.items; words = a.words.keys; integers = a.integers.items; strings = a.strings.items })) a.nodes.items };
+    ghost view = { λ a. map (row_of (record { arguments = a.arguments; words = a.words.keys; integers = a.integers.items; strings = a.strings.items })) a.nodes.items };
 
-    ghost invariant = { λ a. AreWithin (record { arguments = a.arguments.items; words = a.words.keys; integers = a.integers.items; strings = a.strings.items }) a.nodes.items };
+    ghost invariant = { λ a. AreWithin (record { arguments = a.arguments; words = a.words.keys; integers = a.integers.items; strings = a.strings.items }) a.nodes.items };
 }
 
 /// A number as a node keeps it.
@@ -59,7 +60,7 @@ impl Nodes {
     {
         Nodes {
             nodes: Vec::new(alloc),
-            arguments: Vec::new(alloc),
+            arguments: NodeLists::new(alloc),
             words: IndexSet::new(alloc),
             integers: Vec::new(alloc),
             strings: Vec::new(alloc),
@@ -110,10 +111,9 @@ impl Nodes {
     pub fn push_form(&mut self, place: u64, ids: &[NodeId]) -> Result<NodeId, NoMemory>
         ensures ok { IfOk result (λ id. (id.0 ≡ length self.old) × (self.new ≡ self.old ++ record { place = place; shape = FormOf ids.now } ∷ [])) }
     {
-        let first = small(self.arguments.len() as u64)?;
-        self.arguments.extend_from_slice(ids)?;
-        let end = small(self.arguments.len() as u64)?;
-        add_node(&mut self.nodes, place, NodeKind::Form { first, end })
+        let at = small(self.arguments.len() as u64)?;
+        self.arguments.push(ids)?;
+        add_node(&mut self.nodes, place, NodeKind::Form(at))
     }
 
     /// The place of a node.
@@ -130,9 +130,7 @@ impl Nodes {
         ensures { option_map (λ row. row.shape) (slice_get self.now id.0) ≡ Some (seen result) }
     {
         match self.nodes[id.0 as usize].kind {
-            NodeKind::Form { first, end } => {
-                Shape::Form(range(&self.arguments, first as usize, end as usize))
-            }
+            NodeKind::Form(at) => Shape::Form(self.arguments.get(at as usize)),
             NodeKind::Word(at) => Shape::Word(&self.words.as_slice()[at as usize]),
             NodeKind::Integer(at) => Shape::Integer(self.integers[at as usize]),
             NodeKind::String(at) => Shape::String(&self.strings[at as usize]),
