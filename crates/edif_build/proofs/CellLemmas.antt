@@ -1,5 +1,5 @@
 -- Types of cells and of views, views and cells, from their parts.
-use Rattle.std.proofs.Common.{◌≡◌, ℕ, suc, ◌<◌, List, [], ◌∷◌, ◌++◌, map, length, take, drop, get_or, refl, ap, sym, ◌∙◌, subst, inl, inr, Bool, true, false, Option, Some, None, arith}
+use Rattle.std.proofs.Common.{◌≡◌, ℕ, List, [], ◌∷◌, ◌++◌, map, length, refl, ap, sym, ◌∙◌, subst, inl, inr, Bool, true, false, Option, Some, None, arith}
 use Rattle.std.specs.Prelude.{IsTrue, cond, slice_get}
 use Rattle.std.specs.List.{All, AllByRecursion}
 use Rattle.std.proofs.lemmas.List.Elements.{All-from_recursion}
@@ -26,21 +26,20 @@ use Rattle.edif_spec.proofs.KnownCells.{FineInside, parts_bare}
 use Rattle.edif_spec.proofs.KnownForms.{differ_distinct}
 use Rattle.edif_spec.proofs.KnownRows.{follow_none}
 use Rattle.edif_tree.specs.Nodes as nodes
-use Rattle.edif_tree.specs.declared.node.NodeId.{NodeId}
+use Rattle.edif_tree.specs.Handles.{here, all}
+use Rattle.edif_tree.specs.declared.node.Node.{Node}
 use Rattle.edif_build.specs.Cells.{IsSoundCell, OneNode, ReadCell, ReadOnce, ReadView, ViewsFault, body_of, contents_of, names_of}
-use Rattle.edif_grammar.specs.Forms.{Stand}
+use Rattle.edif_grammar.specs.Forms.{ArePartsOf}
 use Rattle.edif_contents.specs.Insides.{ReadContents}
-use Rattle.edif_parts.specs.Parts.{ArePartsOf}
 use Rattle.edif_build.specs.declared.cells.CellAt.{CellAt}
 use Rattle.edif_build.specs.declared.cells.View.{View}
 use Rattle.edif_contents.specs.declared.contents.Inside.{Inside}
-use Rattle.edif_grammar.specs.declared.lent.Parts.{Parts}
+use Rattle.edif_grammar.specs.declared.lent.Form.{Form}
 use Rattle.edif_parts.specs.declared.names.NameAt.{NameAt}
-use Rattle.edif_contents.proofs.FixedNodes.{HasTwo}
-use Rattle.edif_grammar.proofs.FormLemmas.{Fixed2, Fixed3, are_plain, fit3, fit_cell}
-use Rattle.edif_contents.proofs.RefLemmas.{place_same}
-use Rattle.edif_grammar.proofs.StandLemmas.{stand_length, stand_tree}
-use Rattle.edif_parts.proofs.Steps.{Step, here, kept, skipped}
+use Rattle.edif_grammar.proofs.FormLemmas.{are_plain, fit3, fit_cell}
+use Rattle.edif_grammar.proofs.Misplaced.{place_is}
+use Rattle.edif_parts.proofs.PartLemmas.{Argument, TwoNodes, same_at, two_of}
+use Rattle.edif_parts.proofs.Steps.{here_first, those_keep, those_skip}
 
 -- types
 pub kind_means : (t a : Placed) (w : List ℕ) (p : ℕ) (k : design.CellKind) → IsFormOf keywords.CellType (bare t) (bare a ∷ []) (map bare (followers keywords.CellType t)) → a ≡ Word' p w → IsTrue (same w (kind_word k)) → MeansKind (bare t) k
@@ -61,33 +60,40 @@ netlist_means t a w p f e h =
 pub netlist_fails : (t a : Placed) (w : List ℕ) (p : ℕ) → slice_get (arguments t) 0 ≡ Some a → a ≡ Word' p w → is_netlist w ≡ false → TypeFault t (At NotNetlist p)
 netlist_fails t a w p g e n = stands.other_view_type (a, g, (w, p, e, n, refl))
 
--- three fixed arguments, and their nodes
-pub record HasThree (rows : List nodes.Row) (k : Keyword) (c e g : List Choice) (t : Placed) (ids : List NodeId) : Type 0 where
-  pub fit : Fixed3 k c e g t
-  pub count : 2 < length ids
-  pub first : (d : NodeId) → nodes.IsAt rows (get_or ids 0 d) fit.a
-  pub second : (d : NodeId) → nodes.IsAt rows (get_or ids 1 d) fit.b
-  pub third : (d : NodeId) → nodes.IsAt rows (get_or ids 2 d) fit.x
+-- the three fixed arguments
+pub record ThreeNodes (k : Keyword) (c d e : List Choice) (t : Placed) (p : Form) : Type 0 where
+  pub count : length (all p.fixed) ≡ 3
+  pub third : Placed
+  pub at_third : slice_get (all p.fixed) 2 ≡ Some third
+  pub a : (u : Placed) → slice_get (all p.fixed) 0 ≡ Some u → Argument 0 c t u
+  pub b : (u : Placed) → slice_get (all p.fixed) 1 ≡ Some u → Argument 1 d t u
+  pub x : (u : Placed) → slice_get (all p.fixed) 2 ≡ Some u → Argument 2 e t u
+  pub form : (u v w : Placed) → slice_get (all p.fixed) 0 ≡ Some u → slice_get (all p.fixed) 1 ≡ Some v → slice_get (all p.fixed) 2 ≡ Some w → IsFormOf k (bare t) (bare u ∷ bare v ∷ bare w ∷ []) (map bare (followers k t))
 
-pub three_of : (rows : List nodes.Row) (parent k : Keyword) (c e g : List Choice) (fs : List Follower) (t : Placed) (p : Parts) → row k ≡ Takes (c ∷ e ∷ g ∷ []) fs → token_kind k ≡ BadForm → are_plain fs ≡ true → ArePartsOf rows parent k t p → HasThree rows k c e g t p.fixed.now
-three_of rows parent k c e g fs t p r b o h =
-    let f = fit3 (Some parent) k c e g fs t r b o h.fits in
-    let us : List Placed = f.a ∷ f.b ∷ f.x ∷ [] in
-    let P : List Placed → Type 0 = λ v. Stand rows p.fixed.now v in
-    let s : Stand rows p.fixed.now us = subst P f.fixed h.fixed in
-    let l : length p.fixed.now ≡ 3 = stand_length rows p.fixed.now us s in
-    record { fit = f; count = omega (arith, l); first = λ d. stand_tree rows p.fixed.now us 0 d f.a s refl; second = λ d. stand_tree rows p.fixed.now us 1 d f.b s refl; third = λ d. stand_tree rows p.fixed.now us 2 d f.x s refl }
+pub three_nodes : (k : Keyword) (c d e : List Choice) (fs : List Follower) (t : Placed) (p : Form) → row k ≡ Takes (c ∷ d ∷ e ∷ []) fs → token_kind k ≡ BadForm → are_plain fs ≡ true → ArePartsOf k t p → ThreeNodes k c d e t p
+three_nodes k c d e fs t p r b q h =
+    let y = fit3 k c d e fs t r b q h.fits in
+    let us : List Placed = y.a ∷ y.b ∷ y.x ∷ [] in
+    let z : all p.fixed ≡ us = h.fixed ∙ y.fixed in
+    let is_a : (u : Placed) → slice_get (all p.fixed) 0 ≡ Some u → y.a ≡ u = λ u g. same_at (all p.fixed) us 0 y.a u z refl g in
+    let is_b : (u : Placed) → slice_get (all p.fixed) 1 ≡ Some u → y.b ≡ u = λ u g. same_at (all p.fixed) us 1 y.b u z refl g in
+    let is_x : (u : Placed) → slice_get (all p.fixed) 2 ≡ Some u → y.x ≡ u = λ u g. same_at (all p.fixed) us 2 y.x u z refl g in
+    record {
+      count = ap length z;
+      third = y.x;
+      at_third = ap (λ v. slice_get v 2) z;
+      a = λ u g. subst (λ v. Argument 0 c t v) (is_a u g) (record { at = y.at_a; is = y.is_a });
+      b = λ u g. subst (λ v. Argument 1 d t v) (is_b u g) (record { at = y.at_b; is = y.is_b });
+      x = λ u g. subst (λ v. Argument 2 e t v) (is_x u g) (record { at = y.at_x; is = y.is_x });
+      form = λ u v w g i j. (let F : List Bare → Type 0 = λ bs. IsFormOf k (bare t) bs (map bare (followers k t)) in subst F (λ n. bare (is_a u g n) ∷ bare (is_b v i n) ∷ bare (is_x w j n) ∷ []) y.form);
+    }
 
 -- those of a cell with one view
-pub cell_nodes : (rows : List nodes.Row) (parent : Keyword) (t u : Placed) (p : Parts) → ArePartsOf rows parent keywords.Cell t p → those_of keywords.View (followers keywords.Cell t) ≡ u ∷ [] → HasTwo rows keywords.Cell name_definition (the keywords.CellType) t p.fixed.now
-cell_nodes rows parent t u p h e =
+pub cell_nodes : (t u : Placed) (p : Form) → ArePartsOf keywords.Cell t p → those_of keywords.View (followers keywords.Cell t) ≡ u ∷ [] → TwoNodes keywords.Cell name_definition (the keywords.CellType) t p
+cell_nodes t u p h e =
     let one : length (those_of keywords.View (followers keywords.Cell t)) ≡ 1 = ap length e in
-    let f = fit_cell (Some parent) t h.fits (omega (arith, one)) in
-    let us : List Placed = f.a ∷ f.b ∷ [] in
-    let P : List Placed → Type 0 = λ v. Stand rows p.fixed.now v in
-    let s : Stand rows p.fixed.now us = subst P f.fixed h.fixed in
-    let l : length p.fixed.now ≡ 2 = stand_length rows p.fixed.now us s in
-    record { fit = f; count = omega (arith, l); first = λ d. stand_tree rows p.fixed.now us 0 d f.a s refl; second = λ d. stand_tree rows p.fixed.now us 1 d f.b s refl }
+    let y = fit_cell t h.fits (omega (arith, one)) in
+    two_of keywords.Cell name_definition (the keywords.CellType) t p y (h.fixed ∙ y.fixed)
 
 -- one form among others, or none
 pub read_none : {A : Type 0} (R : Placed → A → Type 0) (us : List Placed) → us ≡ [] → ReadOnce R us None
@@ -97,18 +103,18 @@ pub read_one : {A : Type 0} (R : Placed → A → Type 0) (us : List Placed) (t 
 read_one R us t x e r = let P : List Placed → Type 0 = λ v. ReadOnce R v (Some x) in subst P (sym e) r
 
 -- the view of a cell, as its followers are gone over
-pub first_view : {rows : List nodes.Row} {id : NodeId} (ts : List Placed) (i : ℕ) (s : Step rows ts i id) → OneNode rows (those_of keywords.View (take i ts)) None → has_keyword keywords.View (bare s.tree) ≡ true → OneNode rows (those_of keywords.View (take (suc i) ts)) (Some id)
-first_view ts i s o h = (s.tree, kept keywords.View ts i s h ∙ ap (λ v. v ++ s.tree ∷ []) o, s.at)
+pub first_view : (before : List Placed) (node : Node) → OneNode (those_of keywords.View before) None → has_keyword keywords.View (bare (here node)) ≡ true → OneNode (those_of keywords.View (before ++ here node ∷ [])) (Some node)
+first_view before node o h = those_keep keywords.View before (here node) h ∙ ap (λ v. v ++ here node ∷ []) o
 
-pub no_view : {rows : List nodes.Row} {id : NodeId} (ts : List Placed) (i : ℕ) (s : Step rows ts i id) (o : Option NodeId) → OneNode rows (those_of keywords.View (take i ts)) o → has_keyword keywords.View (bare s.tree) ≡ false → OneNode rows (those_of keywords.View (take (suc i) ts)) o
-no_view {rows} ts i s o h n = let P : List Placed → Type 0 = λ v. OneNode rows v o in subst P (sym (skipped keywords.View ts i s n)) h
+pub no_view : (before : List Placed) (t : Placed) (o : Option Node) → OneNode (those_of keywords.View before) o → has_keyword keywords.View (bare t) ≡ false → OneNode (those_of keywords.View (before ++ t ∷ [])) o
+no_view before t o h n = let P : List Placed → Type 0 = λ v. OneNode v o in subst P (sym (those_skip keywords.View before t n)) h
 
-pub second_view : {rows : List nodes.Row} {id : NodeId} (ts : List Placed) (i : ℕ) (s : Step rows ts i id) (first : NodeId) (at place earlier : ℕ) → OneNode rows (those_of keywords.View (take i ts)) (Some first) → has_keyword keywords.View (bare s.tree) ≡ true
-    → place ≡ nodes.place_of s.tree → ((t : Placed) → nodes.IsAt rows first t → earlier ≡ nodes.place_of t) → ViewsFault (those_of keywords.View ts) at (Clash SecondView place earlier)
-second_view ts i s first at place earlier o h p q =
-    let w : those_of keywords.View ts ≡ o.0 ∷ s.tree ∷ those_of keywords.View (drop (suc i) ts) = here keywords.View ts i s h ∙ ap (λ v. v ++ s.tree ∷ those_of keywords.View (drop (suc i) ts)) o.1 in
-    let a : place ≡ place_of s.tree = p ∙ place_same s.tree in
-    let b : earlier ≡ place_of o.0 = q o.0 o.2 ∙ place_same o.0 in
+pub second_view : (ts before us rest : List Placed) (t : Placed) (first : Node) (at place earlier : ℕ) → ts ≡ before ++ us → us ≡ t ∷ rest → OneNode (those_of keywords.View before) (Some first) → has_keyword keywords.View (bare t) ≡ true
+    → place ≡ nodes.place_of t → earlier ≡ nodes.place_of (here first) → ViewsFault (those_of keywords.View ts) at (Clash SecondView place earlier)
+second_view ts before us rest t first at place earlier e f o h p q =
+    let w : those_of keywords.View ts ≡ here first ∷ t ∷ those_of keywords.View rest = here_first keywords.View ts before us rest t e f h ∙ ap (λ v. v ++ t ∷ those_of keywords.View rest) o in
+    let a : place ≡ place_of t = p ∙ place_is t in
+    let b : earlier ≡ place_of (here first) = q ∙ place_is (here first) in
     let P : List Placed → Type 0 = λ v. AtTwo (λ x y. Clash SecondView place earlier ≡ Clash SecondView (place_of y) (place_of x)) v in
     inl (subst P (sym w) (inl (inl (λ j. Clash SecondView (a j) (b j)))))
 
@@ -224,20 +230,20 @@ sound_body libs own u v n k ps r tn tp d =
     }
 
 -- a cell, from its parts
-pub cell_means : (libs : List design.Lib) (own : Option ℕ) (t u : Placed) (f : Fixed2 keywords.Cell name_definition (the keywords.CellType) t) (n : NameAt) (k : design.CellKind) (ps : List design.Property) (v : View) (c : CellAt)
-    → MeansName (bare f.a) n.name × IsTypedName n.name × (name_of f.a ≡ Some (n.name.id, n.place)) → MeansKind (bare f.b) k → those_of keywords.View (followers keywords.Cell t) ≡ u ∷ [] → ReadView libs own u v
-    → MeansProperties (map bare (followers keywords.Cell t)) ps × All IsTypedProperty ps × HasDistinctKeys ps → defined t ≡ name_of f.a → c.cell ≡ body_of v n.name k ps → c.place ≡ n.place → ReadCell libs own t c
-cell_means libs own t u f n k ps v c nm km e r pm d ce pe =
+pub cell_means : (libs : List design.Lib) (own : Option ℕ) (t u a b : Placed) (n : NameAt) (k : design.CellKind) (ps : List design.Property) (v : View) (c : CellAt)
+    → IsFormOf keywords.Cell (bare t) (bare a ∷ bare b ∷ []) (map bare (followers keywords.Cell t)) → MeansName (bare a) n.name × IsTypedName n.name × (name_of a ≡ Some (n.name.id, n.place)) → MeansKind (bare b) k → those_of keywords.View (followers keywords.Cell t) ≡ u ∷ [] → ReadView libs own u v
+    → MeansProperties (map bare (followers keywords.Cell t)) ps × All IsTypedProperty ps × HasDistinctKeys ps → defined t ≡ name_of a → c.cell ≡ body_of v n.name k ps → c.place ≡ n.place → ReadCell libs own t c
+cell_means libs own t u a b n k ps v c form nm km e r pm d ce pe =
     let body : design.CellBody = body_of v n.name k ps in
     let P : List Bare → Type 0 = λ w. Just (λ x b. MeansView libs own x b) w body in
     let Q : design.CellBody → Type 0 = λ w. MeansCell libs own (bare t) w in
     let R : design.CellBody → Type 0 = IsSoundCell in
     let w : bare u ∷ [] ≡ those keywords.View (map bare (followers keywords.Cell t)) = ap (map bare) (sym e) ∙ filter_bare (has_keyword keywords.View) (followers keywords.Cell t) in
     let m : MeansCell libs own (bare t) body = record {
-      name_part = bare f.a;
-      kind_part = bare f.b;
+      name_part = bare a;
+      kind_part = bare b;
       inner = map bare (followers keywords.Cell t);
-      form = f.form;
+      form = form;
       name = nm.0;
       kind = km;
       view = subst P w (view_means libs own u v n.name k ps r);

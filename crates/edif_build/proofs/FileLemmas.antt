@@ -1,5 +1,5 @@
 -- The form of a file: its design, its libraries and its top.
-use Rattle.std.proofs.Common.{◌≡◌, ℕ, zero, suc, ◌+◌, ◌<◌, ◌≤◌, List, [], ◌∷◌, ◌++◌, map, length, take, drop, get_or, refl, ap, sym, ◌∙◌, subst, inl, inr, Bool, true, false, Option, Some, None, arith, append-nil, add-one}
+use Rattle.std.proofs.Common.{◌≡◌, ℕ, zero, suc, ◌+◌, ◌<◌, ◌≤◌, List, [], ◌∷◌, ◌++◌, map, length, take, drop, refl, ap, sym, ◌∙◌, subst, inl, inr, Bool, true, false, Option, Some, None, arith, append-nil, add-one}
 use Rattle.std.specs.Prelude.{IsTrue, cond, slice_get, ◌||◌}
 use Rattle.spelling_spec.specs.Tree.{Bare, Placed, bare}
 use Rattle.edif_spec.specs.Keyword.{row}
@@ -8,56 +8,66 @@ use Rattle.edif_spec.specs.Means.{MeansLibrary, is_library}
 use Rattle.edif_spec.specs.Faults.{AtTwo, arguments, fixed_count, followers, place_of, those_of}
 use Rattle.edif_spec.specs.Stands.{DesignFault, FileFault, Stands, before_the_design, file_row, libraries}
 use Rattle.edif_spec.specs.Stands as stands
-use Rattle.edif_spec.specs.declared.keyword.Keyword.{Keyword}
 use Rattle.edif_spec.specs.declared.keyword.Keyword.TheVariants as keywords
 use Rattle.edif_spec.specs.declared.fault.ClashKind.TheVariants.{SecondDesign}
 use Rattle.edif_spec.specs.declared.fault.MeaningFault.{MeaningFault}
 use Rattle.edif_spec.specs.declared.fault.MeaningFault.TheVariants.{Clash}
-use Rattle.edif_spec.proofs.FaultForms.{map_length}
+use Rattle.edif_spec.proofs.FaultForms.{get_below, map_length}
 use Rattle.edif_spec.proofs.FileFaultsApart.{front_after}
 use Rattle.edif_spec.proofs.KnownForms.{form_choice}
 use Rattle.edif_spec.proofs.Once.{each_after_once}
 use Rattle.edif_spec.proofs.OnceFile.{library_once}
 use Rattle.edif_tree.specs.Nodes as nodes
-use Rattle.edif_tree.specs.declared.node.NodeId.{NodeId}
-use Rattle.edif_tree.proofs.OneTree.{one_at}
+use Rattle.edif_tree.specs.Handles.{all}
 use Rattle.edif_build.specs.Files.{DesignAt, FollowersFail, HasFixed, ReadFollowers, ReadRoot, SecondDesigns}
-use Rattle.edif_grammar.specs.Forms.{Fails, HasParts, Stand}
+use Rattle.edif_grammar.specs.Forms.{Fails, HasParts}
 use Rattle.edif_contents.specs.Known.{KnownLibs}
 use Rattle.edif_build.specs.Libraries.{FailsIn, LibsAre, LibsFail}
 use Rattle.edif_build.specs.Notes.{ReadTop}
-use Rattle.edif_grammar.specs.declared.lent.Parts.{Parts}
+use Rattle.edif_grammar.specs.declared.lent.Form.{Form}
 use Rattle.edif_build.specs.declared.top.Top.{Top}
-use Rattle.edif_grammar.proofs.FormLemmas.{fit_edif}
+use Rattle.edif_grammar.proofs.FormLemmas.{fit_edif, own}
 use Rattle.edif_grammar.proofs.KeywordLemmas.{breach, fits_as, keyword_is, one_keyword}
 use Rattle.edif_parts.proofs.NameLists.{none_distinct}
-use Rattle.edif_contents.proofs.RefLemmas.{place_same}
-use Rattle.edif_grammar.proofs.StandLemmas.{stand_read}
-use Rattle.edif_parts.proofs.Steps.{Step, here, kept, skipped}
+use Rattle.edif_grammar.proofs.Misplaced.{place_is}
+use Rattle.edif_parts.proofs.Steps.{those_here, those_keep, those_skip}
 
 -- the design so far
 abbrev pub FoundSo : List Placed → ℕ → Option ℕ → Type 0
 FoundSo ts i None = those_of keywords.Design (take i ts) ≡ []
 FoundSo ts i (Some j) = (t : Placed) × (slice_get ts j ≡ Some t) × (those_of keywords.Design (take j ts) ≡ []) × (those_of keywords.Design (take i ts) ≡ t ∷ []) × (j < i)
 
-pub design_skipped : {rows : List nodes.Row} {id : NodeId} (ts : List Placed) (i : ℕ) (s : Step rows ts i id) (o : Option ℕ) → has_keyword keywords.Design (bare s.tree) ≡ false → FoundSo ts i o → FoundSo ts (suc i) o
-design_skipped ts i s None n h = skipped keywords.Design ts i s n ∙ h
-design_skipped ts i s (Some j) n h = let l : j < i = h.4 in (h.0, h.1, h.2, skipped keywords.Design ts i s n ∙ h.3, omega (arith, l))
+-- those before the next form, and it
+taken : (ts : List Placed) (i : ℕ) (t : Placed) → slice_get ts i ≡ Some t → take (suc i) ts ≡ take i ts ++ t ∷ []
+taken [] i t g = absurd (cc g)
+taken (u ∷ ts) zero t g = let w : u ≡ t = cc g in ap (λ v. v ∷ []) w
+taken (u ∷ ts) (suc i) t g = ap (λ v. u ∷ v) (taken ts i t g)
 
-pub design_here : {rows : List nodes.Row} {id : NodeId} (ts : List Placed) (i : ℕ) (s : Step rows ts i id) → slice_get ts i ≡ Some s.tree → has_keyword keywords.Design (bare s.tree) ≡ true → FoundSo ts i None → FoundSo ts (suc i) (Some i)
-design_here ts i s g h e = (s.tree, g, e, kept keywords.Design ts i s h ∙ ap (λ v. v ++ s.tree ∷ []) e, omega arith)
+parted_at : (ts : List Placed) (i : ℕ) (t : Placed) → slice_get ts i ≡ Some t → ts ≡ take i ts ++ t ∷ drop (suc i) ts
+parted_at [] i t g = absurd (cc g)
+parted_at (u ∷ ts) zero t g = let w : u ≡ t = cc g in ap (λ v. v ∷ ts) w
+parted_at (u ∷ ts) (suc i) t g = ap (λ v. u ∷ v) (parted_at ts i t g)
 
-pub step_get : (rows : List nodes.Row) (ids : List NodeId) (ts : List Placed) (i : ℕ) (d : NodeId) (s : Step rows ts i (get_or ids i d)) → Stand rows ids ts → i < length ids → slice_get ts i ≡ Some s.tree
-step_get rows ids ts i d s h l = let r = stand_read rows ids ts i d h l in r.1 ∙ ap Some (one_at r.0 s.tree rows (get_or ids i d) r.2 s.at)
+pub design_skipped : (ts : List Placed) (i : ℕ) (t : Placed) (o : Option ℕ) → slice_get ts i ≡ Some t → has_keyword keywords.Design (bare t) ≡ false → FoundSo ts i o → FoundSo ts (suc i) o
+design_skipped ts i t None g n h = ap (those_of keywords.Design) (taken ts i t g) ∙ those_skip keywords.Design (take i ts) t n ∙ h
+design_skipped ts i t (Some j) g n h = let l : j < i = h.4 in (h.0, h.1, h.2, ap (those_of keywords.Design) (taken ts i t g) ∙ those_skip keywords.Design (take i ts) t n ∙ h.3, omega (arith, l))
 
-pub design_again : {rows : List nodes.Row} {id : NodeId} (ts : List Placed) (i j place earlier : ℕ) (s : Step rows ts i id) → has_keyword keywords.Design (bare s.tree) ≡ true → (h : FoundSo ts i (Some j)) → place ≡ nodes.place_of s.tree → earlier ≡ nodes.place_of h.0
+pub design_here : (ts : List Placed) (i : ℕ) (t : Placed) → slice_get ts i ≡ Some t → has_keyword keywords.Design (bare t) ≡ true → FoundSo ts i None → FoundSo ts (suc i) (Some i)
+design_here ts i t g h e = (t, g, e, ap (those_of keywords.Design) (taken ts i t g) ∙ those_keep keywords.Design (take i ts) t h ∙ ap (λ v. v ++ t ∷ []) e, omega arith)
+
+pub design_again : (ts : List Placed) (i j place earlier : ℕ) (t u : Placed) → slice_get ts i ≡ Some t → has_keyword keywords.Design (bare t) ≡ true → FoundSo ts i (Some j) → slice_get ts j ≡ Some u → place ≡ nodes.place_of t → earlier ≡ nodes.place_of u
     → SecondDesigns ts (Clash SecondDesign place earlier)
-design_again ts i j place earlier s k h p q =
-    let w : those_of keywords.Design ts ≡ h.0 ∷ s.tree ∷ those_of keywords.Design (drop (suc i) ts) = here keywords.Design ts i s k ∙ ap (λ v. v ++ s.tree ∷ those_of keywords.Design (drop (suc i) ts)) h.3 in
-    let a : place ≡ place_of s.tree = p ∙ place_same s.tree in
-    let b : earlier ≡ place_of h.0 = q ∙ place_same h.0 in
+design_again ts i j place earlier t u g k h n p q =
+    let w : those_of keywords.Design ts ≡ h.0 ∷ t ∷ those_of keywords.Design (drop (suc i) ts) = ap (those_of keywords.Design) (parted_at ts i t g) ∙ those_here keywords.Design (take i ts) (drop (suc i) ts) t k ∙ ap (λ v. v ++ t ∷ those_of keywords.Design (drop (suc i) ts)) h.3 in
+    let same : u ≡ h.0 = (let e : Some u ≡ Some h.0 = sym n ∙ h.1 in cc e) in
+    let a : place ≡ place_of t = p ∙ place_is t in
+    let b : earlier ≡ place_of h.0 = q ∙ place_is u ∙ ap place_of same in
     let P : List Placed → Type 0 = λ v. AtTwo (λ x y. Clash SecondDesign place earlier ≡ Clash SecondDesign (place_of y) (place_of x)) v in
     subst P (sym w) (inl (inl (λ j. Clash SecondDesign (a j) (b j))))
+
+-- where a design was found, there is a form
+pub found_below : (ts : List Placed) (i j : ℕ) → FoundSo ts i (Some j) → j < length ts
+found_below ts i j h = get_below ts j h.0 h.1
 
 pub design_at : (ts : List Placed) (i : ℕ) (o : Option ℕ) → take i ts ≡ ts → FoundSo ts i o → DesignAt ts o
 design_at ts i None e h = ap (those_of keywords.Design) (sym e) ∙ h
@@ -68,13 +78,11 @@ edif_choice : (b : Bool) → (((b || false) || false) || false) ≡ true → b �
 edif_choice true h = refl
 edif_choice false h = absurd (cc h)
 
-pub root_is : (rows : List nodes.Row) (t : Placed) (p : Parts) → HasParts rows None t p → ReadRoot rows t p
-root_is rows t p h =
+pub root_is : (t : Placed) (p : Form) → HasParts None t p → ReadRoot t p
+root_is t p h =
     let k : has_keyword keywords.Edif (bare t) ≡ true = edif_choice (has_keyword keywords.Edif (bare t)) h.fits.allowed in
     let e : p.keyword ≡ keywords.Edif = keyword_is None p.keyword keywords.Edif t h.fits k in
-    let F : Keyword → Type 0 = λ v. Stand rows p.fixed.now (take (fixed_count (row v)) (arguments t)) in
-    let I : Keyword → Type 0 = λ v. Stand rows p.inner.now (followers v t) in
-    record { fits = fits_as None p.keyword keywords.Edif t h.fits k; fixed = subst F e h.fixed; inner = subst I e h.inner }
+    record { fits = fits_as None p.keyword keywords.Edif t h.fits k; fixed = h.fixed ∙ ap (λ v. take (fixed_count (row v)) (arguments t)) e; inner = h.inner ∙ ap (λ v. followers v t) e }
 
 pub root_fails : (t : Placed) (f : MeaningFault) → Fails None t f → Stands t f
 root_fails t f h = go (has_keyword keywords.Edif (bare t)) refl
@@ -90,10 +98,9 @@ at_most_one : (ts : List Placed) (o : Option ℕ) → DesignAt ts o → length (
 at_most_one ts None h = let l : length (those_of keywords.Design ts) ≡ 0 = ap length h in omega (arith, l)
 at_most_one ts (Some i) h = let l : length (those_of keywords.Design ts) ≡ 1 = ap length h.3 in omega (arith, l)
 
-pub fixed_has : (rows : List nodes.Row) (t : Placed) (p : Parts) (o : Option ℕ) → ReadRoot rows t p → DesignAt (followers keywords.Edif t) o → HasFixed rows t p.fixed.now
-fixed_has rows t p o r d =
-    let f = fit_edif None t r.fits (at_most_one (followers keywords.Edif t) o d) in
-    let P : List Placed → Type 0 = λ v. Stand rows p.fixed.now v in
+pub fixed_has : (t : Placed) (p : Form) (o : Option ℕ) → ReadRoot t p → DesignAt (followers keywords.Edif t) o → HasFixed t (all p.fixed)
+fixed_has t p o r d =
+    let f = fit_edif t (own None keywords.Edif t r.fits) (at_most_one (followers keywords.Edif t) o d) in
     record {
       a = f.a;
       b = f.b;
@@ -108,7 +115,7 @@ fixed_has rows t p o r d =
       is_x = form_choice keywords.EdifLevel f.x f.is_x;
       is_y = form_choice keywords.KeywordMap f.y f.is_y;
       form = f.form;
-      nodes = subst P f.fixed r.fixed;
+      are = r.fixed ∙ f.fixed;
     }
 
 -- what stands before the design

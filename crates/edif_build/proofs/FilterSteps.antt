@@ -1,13 +1,10 @@
 -- A step of a loop over the nodes of forms of which some are kept, by a test.
-use Rattle.std.proofs.Common.{◌≡◌, ℕ, suc, List, [], ◌∷◌, ◌++◌, map, take, drop, refl, ap, ◌∙◌, subst, Bool, true, false, append-nil}
+use Rattle.std.proofs.Common.{◌≡◌, List, [], ◌∷◌, ◌++◌, map, refl, ap, ◌∙◌, subst, Bool, true, false, append-nil}
 use Rattle.std.specs.Prelude.{cond, filter}
 use Rattle.std.specs.List.{AllByRecursion}
 use Rattle.std.proofs.lemmas.List.Elements.{filter-append}
 use Rattle.spelling_spec.specs.Tree.{Bare, Placed, bare}
 use Rattle.edif_spec.specs.Rows.{EachAfter}
-use Rattle.edif_tree.specs.Nodes.{Row}
-use Rattle.edif_tree.specs.declared.node.NodeId.{NodeId}
-use Rattle.edif_parts.proofs.Steps.{Step}
 
 -- those that pass a test
 abbrev pub passing : (Bare → Bool) → List Placed → List Placed
@@ -16,14 +13,14 @@ passing p ts = filter (λ u. p (bare u)) ts
 pub passing_here : (p : Bare → Bool) (xs ys : List Placed) (t : Placed) → p (bare t) ≡ true → passing p (xs ++ t ∷ ys) ≡ passing p xs ++ t ∷ passing p ys
 passing_here p xs ys t h = filter-append (λ u. p (bare u)) xs (t ∷ ys) ∙ ap (λ b. passing p xs ++ cond b (t ∷ passing p ys) (passing p ys)) h
 
-pub passing_kept : {rows : List Row} {id : NodeId} (p : Bare → Bool) (ts : List Placed) (i : ℕ) (s : Step rows ts i id) → p (bare s.tree) ≡ true → passing p (take (suc i) ts) ≡ passing p (take i ts) ++ s.tree ∷ []
-passing_kept p ts i s h = ap (passing p) s.taken ∙ passing_here p (take i ts) [] s.tree h
+pub passing_kept : (p : Bare → Bool) (before : List Placed) (t : Placed) → p (bare t) ≡ true → passing p (before ++ t ∷ []) ≡ passing p before ++ t ∷ []
+passing_kept p before t h = passing_here p before [] t h
 
-pub passing_skipped : {rows : List Row} {id : NodeId} (p : Bare → Bool) (ts : List Placed) (i : ℕ) (s : Step rows ts i id) → p (bare s.tree) ≡ false → passing p (take (suc i) ts) ≡ passing p (take i ts)
-passing_skipped p ts i s h = ap (passing p) s.taken ∙ filter-append (λ u. p (bare u)) (take i ts) (s.tree ∷ []) ∙ (ap (λ b. passing p (take i ts) ++ cond b (s.tree ∷ []) []) h ∙ append-nil (passing p (take i ts)))
+pub passing_skipped : (p : Bare → Bool) (before : List Placed) (t : Placed) → p (bare t) ≡ false → passing p (before ++ t ∷ []) ≡ passing p before
+passing_skipped p before t h = filter-append (λ u. p (bare u)) before (t ∷ []) ∙ (ap (λ b. passing p before ++ cond b (t ∷ []) []) h ∙ append-nil (passing p before))
 
-pub passing_all : {rows : List Row} {id : NodeId} (p : Bare → Bool) (ts : List Placed) (i : ℕ) (s : Step rows ts i id) → p (bare s.tree) ≡ true → passing p ts ≡ passing p (take i ts) ++ s.tree ∷ passing p (drop (suc i) ts)
-passing_all p ts i s h = ap (passing p) s.whole ∙ passing_here p (take i ts) (drop (suc i) ts) s.tree h
+pub passing_all : (p : Bare → Bool) (ts before us rest : List Placed) (t : Placed) → ts ≡ before ++ us → us ≡ t ∷ rest → p (bare t) ≡ true → passing p ts ≡ passing p before ++ t ∷ passing p rest
+passing_all p ts before us rest t e f h = ap (passing p) (e ∙ ap (λ v. before ++ v) f) ∙ passing_here p before rest t h
 
 -- forms and values, with one more of each at the end
 pub after_push : {A : Type 0} (M : List A → Bare → A → Type 0) (ts : List Placed) (xs : List A) (t : Placed) (x : A) → EachAfter M [] (map bare ts) xs → M xs (bare t) x → EachAfter M [] (map bare (ts ++ t ∷ [])) (xs ++ x ∷ [])

@@ -21,12 +21,11 @@ use Rattle.edif_spec.specs.declared.fault.MeaningFault.{MeaningFault}
 use Rattle.edif_spec.specs.declared.fault.MeaningFault.TheVariants.{Clash, OverLimit}
 use Rattle.edif_spec.proofs.FaultForms.{filter_bare, map_length, after_length}
 use Rattle.edif_spec.proofs.FaultPlaces.{after_later}
-use Rattle.edif_tree.specs.Nodes as nodes
+use Rattle.edif_tree.specs.Handles.{all}
 use Rattle.edif_build.specs.Cells.{IsSoundCell, ReadCell}
-use Rattle.edif_grammar.specs.Forms.{Stand}
-use Rattle.edif_parts.specs.Parts.{ArePartsOf, holds}
-use Rattle.edif_grammar.specs.declared.lent.Parts.{Parts}
-use Rattle.edif_build.proofs.CellLemmas.{HasThree, three_of}
+use Rattle.edif_grammar.specs.Forms.{ArePartsOf}
+use Rattle.edif_grammar.specs.declared.lent.Form.{Form}
+use Rattle.edif_build.proofs.CellLemmas.{ThreeNodes, three_nodes}
 use Rattle.edif_contents.specs.Known.{KnownLibs, OpensLib, AddsCell, with_cell}
 use Rattle.edif_build.specs.Libraries.{CellsAre, CellsFail, FailsAt, IsSoundLib, LibsAre, LibsFail, ReadHead}
 use Rattle.edif_parts.specs.Names.{Define, ids}
@@ -135,9 +134,9 @@ opened old mid head place a =
     }
 
 -- one more library
-pub library_added : (rows : List nodes.Row) (ts : List Placed) (t : Placed) (old mid new : KnownLibs) (h : Head) → LibsAre ts old → ReadHead rows t h → length old.libs < 1024 → OpensLib old h.head h.place mid None
+pub library_added : (ts : List Placed) (t : Placed) (old mid new : KnownLibs) (h : Head) → LibsAre ts old → ReadHead t h → length old.libs < 1024 → OpensLib old h.head h.place mid None
     → CellsAre old.libs h.head (old.lib_names ++ (h.head.name.id, h.place) ∷ []) (those_of keywords.Cell (followers keywords.Library t)) new → LibsAre (ts ++ t ∷ []) new
-library_added rows ts t old mid new h k r n a c =
+library_added ts t old mid new h k r n a c =
     let l : design.Lib = record { head = h.head; cells = c.cells } in
     let P : List Bare → Type 0 = λ v. EachAfter (MeansHere old.libs h.head) [] v c.cells in
     let m : MeansLibrary old.libs (bare t) l = record {
@@ -170,8 +169,8 @@ library_added rows ts t old mid new h k r n a c =
 pub library_fault : (ts : List Placed) (t : Placed) (old : KnownLibs) (f : MeaningFault) → LibsAre ts old → LibraryFault old.libs t f → FailsAt LibsFail ts t f
 library_fault ts t old f h b = λ rest. inl (after_later MeansLibrary LibraryFault [] ts (t ∷ rest) old.libs f h.mean (inl b))
 
-pub library_repeats : (rows : List nodes.Row) (ts : List Placed) (t : Placed) (old new : KnownLibs) (h : Head) (earlier : ℕ) → LibsAre ts old → ReadHead rows t h → OpensLib old h.head h.place new (Some earlier) → FailsAt LibsFail ts t (Clash Duplicate h.place earlier)
-library_repeats rows ts t old new h earlier k r a = λ rest. inr (inl (name_repeats ts old.lib_names t rest h.head.name.id earlier h.place k.define a.0 r.place))
+pub library_repeats : (ts : List Placed) (t : Placed) (old new : KnownLibs) (h : Head) (earlier : ℕ) → LibsAre ts old → ReadHead t h → OpensLib old h.head h.place new (Some earlier) → FailsAt LibsFail ts t (Clash Duplicate h.place earlier)
+library_repeats ts t old new h earlier k r a = λ rest. inr (inl (name_repeats ts old.lib_names t rest h.head.name.id earlier h.place k.define a.0 r.place))
 
 pub library_beyond : (ts : List Placed) (t : Placed) (old : KnownLibs) (place : ℕ) → LibsAre ts old → 1024 ≤ length old.libs → place ≡ place_of t → FailsAt LibsFail ts t (OverLimit 1024 place)
 library_beyond ts t old place h l p = λ rest.
@@ -181,10 +180,10 @@ library_beyond ts t old place h l p = λ rest.
     inr (inr (t, get_behind ts rest t 1024 e, ap (λ v. OverLimit 1024 v) p))
 
 -- what is wrong with its cells
-pub library_cells : (rows : List nodes.Row) (before : List design.Lib) (t : Placed) (h : Head) (f : MeaningFault) → ReadHead rows t h → CellsFail before h.head (those_of keywords.Cell (followers keywords.Library t)) f → LibraryFault before t f
-library_cells rows before t h f r (inl b) = stands.library_cells (record { name_part = r.name_part; head = h.head; there = r.at_name; name = r.name; external = r.external; fault = b })
-library_cells rows before t h f r (inr (inl b)) = stands.cell_again b
-library_cells rows before t h f r (inr (inr b)) = stands.many_cells b
+pub library_cells : (before : List design.Lib) (t : Placed) (h : Head) (f : MeaningFault) → ReadHead t h → CellsFail before h.head (those_of keywords.Cell (followers keywords.Library t)) f → LibraryFault before t f
+library_cells before t h f r (inl b) = stands.library_cells (record { name_part = r.name_part; head = h.head; there = r.at_name; name = r.name; external = r.external; fault = b })
+library_cells before t h f r (inr (inl b)) = stands.cell_again b
+library_cells before t h f r (inr (inr b)) = stands.many_cells b
 
 -- the keyword of a library
 pub its_row : (e : Bool) → row (library_keyword e) ≡ Takes (name_definition ∷ the keywords.EdifLevel ∷ the keywords.Technology ∷ []) (Many keywords.Status ∷ Many keywords.Cell ∷ Many keywords.Comment ∷ Many keywords.UserData ∷ [])
@@ -212,24 +211,22 @@ pub its_rows_fault : (e : Bool) (before : List design.Lib) (t : Placed) (f : Mea
 its_rows_fault false before t f h b = stands.library_row h b
 its_rows_fault true before t f h b = stands.external_row h b
 
-pub its_held : (e : Bool) → holds (row keywords.Edif) (library_keyword e) ≡ true
-its_held true = refl
-its_held false = refl
-
 -- the nodes of its parts
-pub record HeadNodes (rows : List nodes.Row) (e : Bool) (t : Placed) (p : Parts) : Type 0 where
-  pub three : HasThree rows (library_keyword e) name_definition (the keywords.EdifLevel) (the keywords.Technology) t p.fixed.now
-  pub form : IsFormOf (library_keyword e) (bare t) (bare three.fit.a ∷ bare three.fit.b ∷ bare three.fit.x ∷ []) (map bare (followers keywords.Library t))
-  pub inner : Stand rows p.inner.now (followers keywords.Library t)
+pub record HeadNodes (e : Bool) (t : Placed) (p : Form) : Type 0 where
+  pub three : ThreeNodes (library_keyword e) name_definition (the keywords.EdifLevel) (the keywords.Technology) t p
+  pub form : (u v w : Placed) → slice_get (all p.fixed) 0 ≡ Some u → slice_get (all p.fixed) 1 ≡ Some v → slice_get (all p.fixed) 2 ≡ Some w → IsFormOf (library_keyword e) (bare t) (bare u ∷ bare v ∷ bare w ∷ []) (map bare (followers keywords.Library t))
+  pub inner : all p.inner ≡ followers keywords.Library t
 
-pub head_nodes : (rows : List nodes.Row) (e : Bool) (k : Keyword) (t : Placed) (p : Parts) → k ≡ library_keyword e → ArePartsOf rows keywords.Edif k t p → HeadNodes rows e t p
-head_nodes rows e k t p q a =
-    let P : Keyword → Type 0 = λ v. ArePartsOf rows keywords.Edif v t p in
-    let b : ArePartsOf rows keywords.Edif (library_keyword e) t p = subst P q a in
-    let n = three_of rows keywords.Edif (library_keyword e) name_definition (the keywords.EdifLevel) (the keywords.Technology) (Many keywords.Status ∷ Many keywords.Cell ∷ Many keywords.Comment ∷ Many keywords.UserData ∷ []) t p (its_row e) (its_kind e) refl b in
-    let F : List Placed → Type 0 = λ v. IsFormOf (library_keyword e) (bare t) (bare n.fit.a ∷ bare n.fit.b ∷ bare n.fit.x ∷ []) (map bare v) in
-    let I : List Placed → Type 0 = λ v. Stand rows p.inner.now v in
-    record { three = n; form = subst F (its_followers e t) n.fit.form; inner = subst I (its_followers e t) b.inner }
+pub head_nodes : (e : Bool) (k : Keyword) (t : Placed) (p : Form) → k ≡ library_keyword e → ArePartsOf k t p → HeadNodes e t p
+head_nodes e k t p q a =
+    let P : Keyword → Type 0 = λ v. ArePartsOf v t p in
+    let b : ArePartsOf (library_keyword e) t p = subst P q a in
+    let n = three_nodes (library_keyword e) name_definition (the keywords.EdifLevel) (the keywords.Technology) (Many keywords.Status ∷ Many keywords.Cell ∷ Many keywords.Comment ∷ Many keywords.UserData ∷ []) t p (its_row e) (its_kind e) refl b in
+    record {
+      three = n;
+      form = λ u v w g h i. (let F : List Placed → Type 0 = λ ts. IsFormOf (library_keyword e) (bare t) (bare u ∷ bare v ∷ bare w ∷ []) (map bare ts) in subst F (its_followers e t) (n.form u v w g h i));
+      inner = b.inner ∙ its_followers e t;
+    }
 
 pub either_first : (a b : Bool) → a ≡ true → true ≡ (a || b)
 either_first a b h = sym (ap (λ v. v || b) h)

@@ -21,9 +21,7 @@ use Rattle.edif_spec.proofs.Both.{both}
 use Rattle.edif_spec.proofs.FaultPlaces.{one_later}
 use Rattle.edif_spec.proofs.FileFaultsApart.{notes_there}
 use Rattle.edif_spec.proofs.KnownFile.{keyword_form}
-use Rattle.edif_tree.specs.Nodes as nodes
-use Rattle.edif_tree.specs.declared.node.NodeId.{NodeId}
-use Rattle.edif_grammar.specs.Forms.{Stand}
+use Rattle.edif_tree.specs.Handles.{here}
 use Rattle.edif_parts.specs.Names.{DefinesName, ids}
 use Rattle.edif_build.specs.Notes.{AllNoted, AreNoted, FailsBehind, HasNoteParts, IsAgain, IsNoted, IsSoundNote, ReadNotes, ReadPath, flat, is_mark}
 use Rattle.edif_build.specs.declared.notes.NoteParts.{NoteParts}
@@ -59,45 +57,44 @@ mark_tells t u r k g e =
         let w : v ≡ u = cc g in
         e ∙ ap (λ x. is_mark (bare x)) (sym w) ∙ seen_mark (keyword_form keywords.UserData t k).0 v (map bare us) ∙ h ∙ sym (ap (λ v. v && has_mark (bare t)) k)
 
-pub no_mark : (rows : List nodes.Row) (ids : List NodeId) (t : Placed) → has_keyword keywords.UserData (bare t) ≡ true → Stand rows ids (arguments t) → slice_get ids 0 ≡ None → false ≡ is_note (bare t)
-no_mark rows ids t k st g =
+pub no_mark : (t : Placed) → has_keyword keywords.UserData (bare t) ≡ true → length (arguments t) < 1 → false ≡ is_note (bare t)
+no_mark t k l =
     let f = keyword_form keywords.UserData t k in
-    go ids (arguments t) st g (sym (ap has_mark f.1))
+    go (arguments t) l (sym (ap has_mark f.1))
   where
-    go : (ids : List NodeId) (us : List Placed) → Stand rows ids us → slice_get ids 0 ≡ None → has_mark (form (word (keyword_form keywords.UserData t k).0 ∷ map bare us)) ≡ has_mark (bare t) → false ≡ is_note (bare t)
-    go [] [] st g h = h ∙ sym (ap (λ v. v && has_mark (bare t)) k)
-    go [] (u ∷ us) st g h = absurd st
-    go (i ∷ ids) us st g h = absurd (cc g)
+    go : (us : List Placed) → length us < 1 → has_mark (form (word (keyword_form keywords.UserData t k).0 ∷ map bare us)) ≡ has_mark (bare t) → false ≡ is_note (bare t)
+    go [] l h = h ∙ sym (ap (λ v. v && has_mark (bare t)) k)
+    go (u ∷ us) l h = absurd (omega arith)
 
 steps_count : (libs : List design.Lib) (id : design.CellId) (ts : List Bare) (ns : List (List ℕ)) → MeansPath libs id ts ns → 0 < length ns → 0 < length ts
 steps_count libs id [] [] m l = l
 steps_count libs id [] (n ∷ ns) m l = absurd m
 steps_count libs id (t ∷ ts) ns m l = omega arith
 
-pub note_is : (rows : List nodes.Row) (libs : List design.Lib) (top : design.CellId) (t : Placed) (p : NoteParts) (ns : List (List ℕ)) (q : design.Property) (place : ℕ) → is_note (bare t) ≡ true → (h : HasNoteParts rows t p) → ReadPath libs top h.path ns
-    → MeansProperty (bare h.property) q × IsTypedProperty q × (defined h.property ≡ Some (q.key.id, place)) → IsNoted libs top t (record { path = ns; property = q }) place
-note_is rows libs top t p ns q place n h r m =
+pub note_is : (libs : List design.Lib) (top : design.CellId) (t : Placed) (p : NoteParts) (ns : List (List ℕ)) (q : design.Property) (place : ℕ) → is_note (bare t) ≡ true → (h : HasNoteParts t p) → ReadPath libs top (here p.path) ns
+    → MeansProperty (bare (here p.property)) q × IsTypedProperty q × (defined (here p.property) ≡ Some (q.key.id, place)) → IsNoted libs top t (record { path = ns; property = q }) place
+note_is libs top t p ns q place n h r m =
     let u = both (has_keyword keywords.UserData (bare t)) (has_mark (bare t)) n in
     let k = keyword_form keywords.UserData t u.0 in
-    let e : bare t ≡ form (word k.0 ∷ bare h.mark ∷ bare h.path ∷ bare h.property ∷ []) = k.1 ∙ ap (λ v. form (word k.0 ∷ map bare v)) h.are in
-    let w = marked k.0 h.mark (bare h.path ∷ bare h.property ∷ []) (sym (ap has_mark e) ∙ u.1) in
-    let s = keyword_form keywords.Path h.path h.is_path in
+    let e : bare t ≡ form (word k.0 ∷ bare h.mark ∷ bare (here p.path) ∷ bare (here p.property) ∷ []) = k.1 ∙ ap (λ v. form (word k.0 ∷ map bare v)) h.are in
+    let w = marked k.0 h.mark (bare (here p.path) ∷ bare (here p.property) ∷ []) (sym (ap has_mark e) ∙ u.1) in
+    let s = keyword_form keywords.Path (here p.path) h.is_path in
     record {
       mean = record {
         spelled = k.0;
         mark = w.0;
         path_word = s.0;
-        steps = map bare (arguments h.path);
-        property_part = bare h.property;
-        is = e ∙ (λ i. form (word k.0 ∷ w.1 i ∷ s.1 i ∷ bare h.property ∷ []));
+        steps = map bare (arguments (here p.path));
+        property_part = bare (here p.property);
+        is = e ∙ (λ i. form (word k.0 ∷ w.1 i ∷ s.1 i ∷ bare (here p.property) ∷ []));
         path_keyword = s.2;
-        some_step = steps_count libs top (map bare (arguments h.path)) ns r.mean r.some_step;
+        some_step = steps_count libs top (map bare (arguments (here p.path))) ns r.mean r.some_step;
         path = r.mean;
         property = m.0;
       };
       sound = record { typed = record { path = r.typed; property = m.1 }; some_step = r.some_step };
-      path_part = h.path;
-      property_part = h.property;
+      path_part = here p.path;
+      property_part = here p.property;
       at_path = ap (λ v. slice_get v 1) h.are;
       at_property = ap (λ v. slice_get v 2) h.are;
       named = m.2;

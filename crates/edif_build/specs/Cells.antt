@@ -15,8 +15,8 @@ use Rattle.edif_spec.specs.declared.fault.ClashKind.TheVariants.{SecondView}
 use Rattle.edif_spec.specs.declared.fault.Kind.TheVariants.{BadForm}
 use Rattle.edif_spec.specs.declared.fault.MeaningFault.{MeaningFault}
 use Rattle.edif_spec.specs.declared.fault.MeaningFault.TheVariants.{At, Clash}
-use Rattle.edif_tree.specs.Nodes as nodes
-use Rattle.edif_tree.specs.declared.node.NodeId.{NodeId}
+use Rattle.edif_tree.specs.Handles.{here}
+use Rattle.edif_tree.specs.declared.node.Node.{Node}
 use Rattle.edif_contents.specs.Insides.{ReadContents}
 use Rattle.edif_parts.specs.Interfaces.{ReadInterface}
 use Rattle.edif_parts.specs.Names.{ids}
@@ -31,9 +31,9 @@ ReadOnce R (t ∷ []) (Some x) = R t x
 ReadOnce R ts o = ⊥
 
 -- the node of the one form, where there is one
-abbrev pub OneNode : List nodes.Row → List Placed → Option NodeId → Type 0
-OneNode rows ts None = ts ≡ []
-OneNode rows ts (Some id) = (t : Placed) × (ts ≡ t ∷ []) × nodes.IsAt rows id t
+abbrev pub OneNode : List Placed → Option Node → Type 0
+OneNode ts None = ts ≡ []
+OneNode ts (Some node) = ts ≡ here node ∷ []
 
 -- among the views of a cell: a second one, or none at all
 abbrev pub ViewsFault : List Placed → ℕ → MeaningFault → Type 0

@@ -12,25 +12,24 @@ use Rattle.edif_spec.specs.declared.keyword.Keyword.TheVariants as keywords
 use Rattle.edif_spec.specs.declared.fault.ClashKind.TheVariants.{SecondDesign}
 use Rattle.edif_spec.specs.declared.fault.MeaningFault.{MeaningFault}
 use Rattle.edif_spec.specs.declared.fault.MeaningFault.TheVariants.{Clash}
-use Rattle.edif_tree.specs.Nodes as nodes
-use Rattle.edif_tree.specs.declared.node.NodeId.{NodeId}
-use Rattle.edif_grammar.specs.Forms.{Fits, Stand}
+use Rattle.edif_tree.specs.Handles.{all}
+use Rattle.edif_grammar.specs.Forms.{Fits}
 use Rattle.edif_contents.specs.Known.{KnownLibs}
 use Rattle.edif_build.specs.Levels.{IsKeywordMap}
 use Rattle.edif_build.specs.Libraries.{LibsAre, LibsFail}
 use Rattle.edif_build.specs.Notes.{ReadTop}
 use Rattle.edif_build.specs.declared.file.FileForm.{FileForm}
-use Rattle.edif_grammar.specs.declared.lent.Parts.{Parts}
+use Rattle.edif_grammar.specs.declared.lent.Form.{Form}
 use Rattle.edif_build.specs.declared.top.Top.{Top}
 
 -- the parts of the form of a file, which fits but for a second design
-pub record ReadRoot (rows : List nodes.Row) (t : Placed) (p : Parts) : Type 0 where
+pub record ReadRoot (t : Placed) (p : Form) : Type 0 where
   pub fits : Fits None keywords.Edif t
-  pub fixed : Stand rows p.fixed.now (take (fixed_count (row keywords.Edif)) (arguments t))
-  pub inner : Stand rows p.inner.now (followers keywords.Edif t)
+  pub fixed : all p.fixed ≡ take (fixed_count (row keywords.Edif)) (arguments t)
+  pub inner : all p.inner ≡ followers keywords.Edif t
 
--- the four fixed arguments of a file, and their nodes
-pub record HasFixed (rows : List nodes.Row) (t : Placed) (ids : List NodeId) : Type 0 where
+-- the four fixed arguments of a file
+pub record HasFixed (t : Placed) (fixed : List Placed) : Type 0 where
   pub a : Placed
   pub b : Placed
   pub x : Placed
@@ -44,7 +43,7 @@ pub record HasFixed (rows : List nodes.Row) (t : Placed) (ids : List NodeId) : T
   pub is_x : has_keyword keywords.EdifLevel (bare x) ≡ true
   pub is_y : has_keyword keywords.KeywordMap (bare y) ≡ true
   pub form : IsFormOf keywords.Edif (bare t) (bare a ∷ bare b ∷ bare x ∷ bare y ∷ []) (map bare (followers keywords.Edif t))
-  pub nodes : Stand rows ids (a ∷ b ∷ x ∷ y ∷ [])
+  pub are : fixed ≡ a ∷ b ∷ x ∷ y ∷ []
 
 -- the place of the one design, where there is one
 abbrev pub DesignAt : List Placed → Option ℕ → Type 0
@@ -56,9 +55,9 @@ abbrev pub SecondDesigns : List Placed → MeaningFault → Type 0
 SecondDesigns ts f = AtTwo (λ a b. f ≡ Clash SecondDesign (place_of b) (place_of a)) (those_of keywords.Design ts)
 
 -- The form of a file, by its parts.
-pub record ReadForm (rows : List nodes.Row) (t : Placed) (f : FileForm) : Type 0 where
-  pub fixed : HasFixed rows t f.fixed.now
-  pub inner : Stand rows f.inner.now (followers keywords.Edif t)
+pub record ReadForm (t : Placed) (f : FileForm) : Type 0 where
+  pub fixed : HasFixed t (all f.fixed)
+  pub inner : all f.inner ≡ followers keywords.Edif t
   pub design : DesignAt (followers keywords.Edif t) f.design
 
 -- The title, the version, the level and the keyword map that the fixed arguments of a file mean.

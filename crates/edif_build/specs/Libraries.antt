@@ -13,9 +13,8 @@ use Rattle.edif_spec.specs.Rows.{EachAfter, IsFormOf, has_keyword}
 use Rattle.edif_spec.specs.Stands.{AmongAfter, CellFault, LibraryFault}
 use Rattle.edif_spec.specs.declared.keyword.Keyword.TheVariants as keywords
 use Rattle.edif_spec.specs.declared.fault.MeaningFault.{MeaningFault}
-use Rattle.edif_tree.specs.Nodes as nodes
+use Rattle.edif_tree.specs.Handles.{all}
 use Rattle.edif_build.specs.Cells.{IsSoundCell}
-use Rattle.edif_grammar.specs.Forms.{Stand}
 use Rattle.edif_contents.specs.Known.{KnownLibs}
 use Rattle.edif_parts.specs.Names.{Define, ids}
 use Rattle.edif_build.specs.declared.libraries.Head.{Head}
@@ -66,7 +65,7 @@ abbrev pub FailsIn : (List Placed → MeaningFault → Type 0) → List Placed �
 FailsIn F ts f = (rest : List Placed) → F (ts ++ rest) f
 
 -- The head of a library: its name, its level, and the nodes of what follows.
-pub record ReadHead (rows : List nodes.Row) (t : Placed) (h : Head) : Type 0 where
+pub record ReadHead (t : Placed) (h : Head) : Type 0 where
   pub name_part : Placed
   pub level_part : Placed
   pub technology_part : Placed
@@ -77,4 +76,4 @@ pub record ReadHead (rows : List nodes.Row) (t : Placed) (h : Head) : Type 0 whe
   pub level : IsLevel keywords.EdifLevel (bare level_part)
   pub external : h.head.external ≡ has_keyword keywords.External (bare t)
   pub place : defined t ≡ Some (h.head.name.id, h.place)
-  pub inner : Stand rows h.inner.now (followers keywords.Library t)
+  pub inner : all h.inner ≡ followers keywords.Library t

@@ -16,7 +16,7 @@ use Rattle.edif_spec.specs.declared.keyword.Keyword.TheVariants as keywords
 use Rattle.edif_spec.specs.declared.fault.ClashKind.TheVariants.{Duplicate}
 use Rattle.edif_spec.specs.declared.fault.MeaningFault.{MeaningFault}
 use Rattle.edif_spec.specs.declared.fault.MeaningFault.TheVariants.{Clash}
-use Rattle.edif_tree.specs.Nodes as nodes
+use Rattle.edif_tree.specs.Handles.{here}
 use Rattle.edif_build.specs.declared.notes.NoteAt.{NoteAt}
 use Rattle.edif_build.specs.declared.notes.NoteParts.{NoteParts}
 use Rattle.edif_build.specs.declared.top.Top.{Top}
@@ -27,15 +27,11 @@ pub record IsSoundNote (n : design.Note) : Type 0 where
   pub some_step : 0 < length n.path
 
 -- the shape of a note: its mark, its path and its property, and the nodes of the last two
-pub record HasNoteParts (rows : List nodes.Row) (t : Placed) (p : NoteParts) : Type 0 where
+pub record HasNoteParts (t : Placed) (p : NoteParts) : Type 0 where
   pub mark : Placed
-  pub path : Placed
-  pub property : Placed
-  pub are : arguments t ≡ mark ∷ path ∷ property ∷ []
-  pub is_path : has_keyword keywords.Path (bare path) ≡ true
-  pub is_property : has_keyword keywords.Property (bare property) ≡ true
-  pub path_at : nodes.IsAt rows p.path path
-  pub property_at : nodes.IsAt rows p.property property
+  pub are : arguments t ≡ mark ∷ here p.path ∷ here p.property ∷ []
+  pub is_path : has_keyword keywords.Path (bare (here p.path)) ≡ true
+  pub is_property : has_keyword keywords.Property (bare (here p.property)) ≡ true
 
 -- what is wrong with the shape of a note
 abbrev pub ShapeFault : Placed → MeaningFault → Type 0

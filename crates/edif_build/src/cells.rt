@@ -1,7 +1,6 @@
 //! Views and cells.
-ghost use Rattle.std.specs.Prelude.{◌≡◌, ◌≤◌, [], ◌∷◌, IfNone, IfSome, IsTrue, List, Some, codes, false, length, map, true};
-ghost use Rattle.std.specs.List.{All};
-ghost use Rattle.spelling_spec.specs.Tree.{Placed, bare};
+ghost use Rattle.std.specs.Prelude.{◌≡◌, ◌≤◌, IfNone, IfSome, IsTrue, Some, false, length, true};
+ghost use Rattle.spelling_spec.specs.Tree.{bare};
 ghost use Rattle.edif_spec.specs.Canonical.{kind_word};
 ghost use Rattle.edif_spec.specs.Design as design;
 ghost use Rattle.edif_spec.specs.Faults.{Among, those_of};
@@ -10,9 +9,8 @@ ghost use Rattle.edif_spec.specs.Means.{IsNetlist, MeansKind};
 ghost use Rattle.edif_spec.specs.Rows.{has_keyword};
 ghost use Rattle.edif_spec.specs.Stands.{CellFault, CellTypeFault, ContentsFault, TypeFault, ViewFault, is_cell_type};
 ghost use Rattle.edif_spec.specs.declared.keyword.Keyword.TheVariants.{Cell as CellWord, CellType, Contents as ContentsWord, View as ViewWord, ViewType};
-ghost use Rattle.edif_tree.specs.Nodes.{IsAt, IsNode};
+ghost use Rattle.edif_tree.specs.Handles.{here, all};
 ghost use Rattle.edif_build.specs.Cells.{OneNode, ReadCell, ReadOnce, ReadView, ViewsFault, body_of, contents_of, names_of};
-ghost use Rattle.edif_grammar.specs.Forms.{Stand};
 ghost use Rattle.edif_contents.specs.Insides.{ReadContents};
 ghost use Rattle.edif_parts.specs.Names.{ids};
 ghost use Rattle.edif_parts.specs.Reading.{Answers};
@@ -27,7 +25,7 @@ use edif_parts::names::{NameAt, Names, read_name};
 use edif_parts::parts::{is_word, read_parts};
 use edif_parts::properties::read_properties;
 use edif_spec::{ClashKind, Keyword, Kind};
-use edif_tree::{NodeId, Tree};
+use edif_tree::{Node, Nodes};
 use netlist_schema::{CellBody, CellKind, Contents, Ident, Name, Port, Property, Row};
 use std::alloc::Global;
 
@@ -70,13 +68,12 @@ fn kind_named(word: &Ident) -> Option<CellKind>
 }
 
 /// The type that the form at a node means.
-fn read_kind(alloc: Global, tree: &Tree, node: NodeId) -> Result<CellKind, EdifError>
-    requires node { IsNode tree.now.rows node }
-    requires keyword { (t : Placed) → IsAt tree.now.rows node t → has_keyword CellType (bare t) ≡ true }
-    ensures { (t : Placed) → IsAt tree.now.rows node t → Answers (MeansKind (bare t)) (CellTypeFault t) result }
+fn read_kind(alloc: Global, node: Node<'_>) -> Result<CellKind, EdifError>
+    requires { has_keyword CellType (bare (here node)) ≡ true }
+    ensures { Answers (MeansKind (bare (here node.entry))) (CellTypeFault (here node.entry)) result }
 {
-    let parts = read_parts(alloc, tree, node, Keyword::Cell, Keyword::CellType)?;
-    let word = reference_at(tree, parts.fixed[0]);
+    let parts = read_parts(alloc, node, Keyword::CellType)?;
+    let word = reference_at(parts.fixed.at(0));
     match kind_named(word.name) {
         Some(kind) => Ok(kind),
         None => Err(bad_form(word.place)),
@@ -84,13 +81,12 @@ fn read_kind(alloc: Global, tree: &Tree, node: NodeId) -> Result<CellKind, EdifE
 }
 
 /// Reads the type of a view, which is to be a netlist.
-fn read_view_type(alloc: Global, tree: &Tree, node: NodeId) -> Result<(), EdifError>
-    requires node { IsNode tree.now.rows node }
-    requires keyword { (t : Placed) → IsAt tree.now.rows node t → has_keyword ViewType (bare t) ≡ true }
-    ensures { (t : Placed) → IsAt tree.now.rows node t → Answers (λ _. IsNetlist (bare t)) (TypeFault t) result }
+fn read_view_type(alloc: Global, node: Node<'_>) -> Result<(), EdifError>
+    requires { has_keyword ViewType (bare (here node)) ≡ true }
+    ensures { Answers (λ _. IsNetlist (bare (here node.entry))) (TypeFault (here node.entry)) result }
 {
-    let parts = read_parts(alloc, tree, node, Keyword::View, Keyword::ViewType)?;
-    let word = reference_at(tree, parts.fixed[0]);
+    let parts = read_parts(alloc, node, Keyword::ViewType)?;
+    let word = reference_at(parts.fixed.at(0));
     if is_word(word.name, b"NETLIST") {
         return Ok(());
     }
@@ -100,21 +96,19 @@ fn read_view_type(alloc: Global, tree: &Tree, node: NodeId) -> Result<(), EdifEr
 /// The contents among these followers of a view, where there are some, in a cell with these ports.
 fn read_contents_among(
     alloc: Global,
-    tree: &Tree,
-    inner: &[NodeId],
+    inner: Nodes<'_>,
     libs: &Libraries,
     own: Option<u32>,
     ports: &[Port],
     names: &Names,
 ) -> Result<Option<Inside>, EdifError>
-    requires nodes { (ts : List Placed) × Stand tree.now.rows inner.now ts × (length (those_of ContentsWord ts) ≤ 1) }
+    requires few { length (those_of ContentsWord (all inner)) ≤ 1 }
     requires names { ids names.now ≡ design.port_ids ports.now }
-    ensures { (ts : List Placed) → Stand tree.now.rows inner.now ts
-        → Answers (ReadOnce (ReadContents libs.now.libs own ports.now) (those_of ContentsWord ts)) (Among (ContentsFault libs.now.libs own ports.now) (those_of ContentsWord ts)) result }
+    ensures { Answers (ReadOnce (ReadContents libs.now.libs own ports.now) (those_of ContentsWord (all inner.entry))) (Among (ContentsFault libs.now.libs own ports.now) (those_of ContentsWord (all inner.entry))) result }
 {
-    for node in inner {
-        if is_form_of(tree, *node, Keyword::Contents) {
-            let inside = read_contents(alloc, tree, *node, libs, own, ports, names)?;
+    for node in inner.iter() {
+        if is_form_of(node, Keyword::Contents) {
+            let inside = read_contents(alloc, node, libs, own, ports, names)?;
             return Ok(Some(inside));
         }
     }
@@ -124,22 +118,20 @@ fn read_contents_among(
 /// The view that a form at a node means, of a cell of the library `own`.
 fn read_view(
     alloc: Global,
-    tree: &Tree,
-    node: NodeId,
+    node: Node<'_>,
     libs: &Libraries,
     own: Option<u32>,
 ) -> Result<View, EdifError>
-    requires node { IsNode tree.now.rows node }
-    requires keyword { (t : Placed) → IsAt tree.now.rows node t → has_keyword ViewWord (bare t) ≡ true }
-    ensures { (t : Placed) → IsAt tree.now.rows node t → Answers (ReadView libs.now.libs own t) (ViewFault libs.now.libs own t) result }
+    requires { has_keyword ViewWord (bare (here node)) ≡ true }
+    ensures { Answers (ReadView libs.now.libs own (here node.entry)) (ViewFault libs.now.libs own (here node.entry)) result }
 {
-    let parts = read_parts(alloc, tree, node, Keyword::Cell, Keyword::View)?;
-    let name = read_name(alloc, tree, parts.fixed[0])?;
-    read_view_type(alloc, tree, parts.fixed[1])?;
-    let interface = read_interface(alloc, tree, parts.fixed[2])?;
+    let parts = read_parts(alloc, node, Keyword::View)?;
+    let name = read_name(alloc, parts.fixed.at(0))?;
+    read_view_type(alloc, parts.fixed.at(1))?;
+    let interface = read_interface(alloc, parts.fixed.at(2))?;
     let ports = interface.ports.as_slice();
-    let inside = read_contents_among(alloc, tree, parts.inner, libs, own, ports, &interface.names)?;
-    let properties = read_properties(alloc, tree, parts.inner)?;
+    let inside = read_contents_among(alloc, parts.inner, libs, own, ports, &interface.names)?;
+    let properties = read_properties(alloc, parts.inner)?;
     Ok(View {
         name: name.name,
         properties,
@@ -149,21 +141,19 @@ fn read_view(
 }
 
 /// The node of the one view among the followers of a cell at a place. Takes no memory.
-fn one_view(tree: &Tree, inner: &[NodeId], place: u64) -> Result<NodeId, EdifError>
-    requires { (ts : List Placed) × Stand tree.now.rows inner.now ts }
-    ensures { (ts : List Placed) → Stand tree.now.rows inner.now ts
-        → Answers (λ id. OneNode tree.now.rows (those_of ViewWord ts) (Some id)) (ViewsFault (those_of ViewWord ts) place) result }
+fn one_view(inner: Nodes<'_>, place: u64) -> Result<Node<'_>, EdifError>
+    ensures { Answers (λ found. OneNode (those_of ViewWord (all inner.entry)) (Some found)) (ViewsFault (those_of ViewWord (all inner.entry)) place) result }
 {
-    let mut view = None;
-    for node in inner {
-        if !is_form_of(tree, *node, Keyword::View) {
+    let mut view: Option<Node<'_>> = None;
+    for node in inner.iter() {
+        if !is_form_of(node, Keyword::View) {
             continue;
         }
         if let Some(first) = view {
-            let place = tree.place(*node);
-            return Err(clash(ClashKind::SecondView, place, tree.place(first)));
+            let earlier = first.place();
+            return Err(clash(ClashKind::SecondView, node.place(), earlier));
         }
-        view = Some(*node);
+        view = Some(node);
     }
     match view {
         Some(view) => Ok(view),
@@ -243,20 +233,18 @@ fn cell_of(
 /// The cell of the library `own` that a form at a node means.
 pub fn read_cell(
     alloc: Global,
-    tree: &Tree,
-    node: NodeId,
+    node: Node<'_>,
     libs: &Libraries,
     own: u32,
 ) -> Result<CellAt, EdifError>
-    requires node { IsNode tree.now.rows node }
-    requires keyword { (t : Placed) → IsAt tree.now.rows node t → has_keyword CellWord (bare t) ≡ true }
-    ensures { (t : Placed) → IsAt tree.now.rows node t → Answers (ReadCell libs.now.libs (Some own) t) (CellFault libs.now.libs (Some own) t) result }
+    requires { has_keyword CellWord (bare (here node)) ≡ true }
+    ensures { Answers (ReadCell libs.now.libs (Some own) (here node.entry)) (CellFault libs.now.libs (Some own) (here node.entry)) result }
 {
-    let parts = read_parts(alloc, tree, node, Keyword::Library, Keyword::Cell)?;
-    let found = one_view(tree, parts.inner, parts.place)?;
-    let name = read_name(alloc, tree, parts.fixed[0])?;
-    let kind = read_kind(alloc, tree, parts.fixed[1])?;
-    let view = read_view(alloc, tree, found, libs, Some(own))?;
-    let properties = read_properties(alloc, tree, parts.inner)?;
+    let parts = read_parts(alloc, node, Keyword::Cell)?;
+    let found = one_view(parts.inner, parts.place)?;
+    let name = read_name(alloc, parts.fixed.at(0))?;
+    let kind = read_kind(alloc, parts.fixed.at(1))?;
+    let view = read_view(alloc, found, libs, Some(own))?;
+    let properties = read_properties(alloc, parts.inner)?;
     Ok(cell_of(alloc, name, kind, properties, view))
 }

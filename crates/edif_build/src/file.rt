@@ -1,15 +1,14 @@
 //! The form of a file.
-ghost use Rattle.std.specs.Prelude.{◌≡◌, ◌⊎◌, ◌+◌, ◌<◌, [], List, Ok, Err, drop, length, slice_index_or, take};
+ghost use Rattle.std.specs.Prelude.{◌≡◌, ◌⊎◌, [], Ok, Err};
 ghost use Rattle.spelling_spec.specs.Tree.{Placed, bare};
 ghost use Rattle.netlist_schema.specs.Valid.{IsValid};
 ghost use Rattle.edif_spec.specs.Design as design;
 ghost use Rattle.edif_spec.specs.Means.{MeansFile};
 ghost use Rattle.edif_spec.specs.Stands.{FileFault, Stands};
 ghost use Rattle.edif_spec.specs.declared.fault.MeaningFault.{MeaningFault};
-ghost use Rattle.edif_tree.specs.Nodes.{IsAt, IsNode};
-ghost use Rattle.edif_tree.specs.declared.node.NodeId.{NodeId};
+ghost use Rattle.edif_tree.specs.Handles.{here, all};
+ghost use Rattle.edif_tree.specs.Nodes.{IsAt};
 ghost use Rattle.edif_build.specs.Files.{DesignAt, FollowersFail, HasFixed, ReadFollowers, ReadForm, ReadHeads, ReadRoot, SecondDesigns, head_of, notes_of};
-ghost use Rattle.edif_grammar.specs.Forms.{Stand};
 ghost use Rattle.edif_build.specs.Libraries.{LibsAre};
 ghost use Rattle.edif_parts.specs.Reading.{Answers};
 ghost use Rattle.edif_parts.specs.declared.error.EdifError.TheVariants.{NoMemory};
@@ -18,11 +17,11 @@ use crate::levels::{read_keyword_map, read_level, read_version};
 use crate::libraries::add_libraries;
 use crate::top::{Top, read_top};
 use edif_contents::known::Libraries;
-use edif_grammar::{Breach, Parts, is_form_of, parts_of};
+use edif_grammar::{Breach, Form, is_form_of, parts_of};
 use edif_parts::error::{EdifError, bad_form, clash};
 use edif_parts::names::read_name;
 use edif_spec::{ClashKind, Keyword, MeaningFault};
-use edif_tree::{NodeId, Tree};
+use edif_tree::{Node, Nodes, Tree};
 use netlist_schema::{Copied, Design, Lib, Name, Row};
 use std::alloc::Global;
 
@@ -30,26 +29,26 @@ use std::alloc::Global;
 #[derive(Clone, Copy)]
 pub struct FileForm<'a> {
     /// Its name, its version, its level and its keyword map.
-    pub fixed: &'a [NodeId],
+    pub fixed: Nodes<'a>,
     /// What follows them, in order.
-    pub inner: &'a [NodeId],
+    pub inner: Nodes<'a>,
     /// The place of the design among what follows, where there is one.
     pub design: Option<usize>,
 }
 
 /// The place of the one design among these followers of a file, where there is one. Takes no memory.
-fn find_design(tree: &Tree, inner: &[NodeId]) -> Result<Option<usize>, EdifError>
-    requires { (ts : List Placed) × Stand tree.now.rows inner.now ts }
-    ensures { (ts : List Placed) → Stand tree.now.rows inner.now ts → Answers (DesignAt ts) (SecondDesigns ts) result }
+fn find_design(inner: Nodes<'_>) -> Result<Option<usize>, EdifError>
+    ensures { Answers (DesignAt (all inner.entry)) (SecondDesigns (all inner.entry)) result }
 {
     let mut found = None;
     for i in 0..inner.len() {
-        if !is_form_of(tree, inner[i], Keyword::Design) {
+        let node = inner.at(i);
+        if !is_form_of(node, Keyword::Design) {
             continue;
         }
         if let Some(first) = found {
-            let place = tree.place(inner[i]);
-            return Err(clash(ClashKind::SecondDesign, place, tree.place(inner[first])));
+            let earlier = inner.at(first).place();
+            return Err(clash(ClashKind::SecondDesign, node.place(), earlier));
         }
         found = Some(i);
     }
@@ -57,11 +56,10 @@ fn find_design(tree: &Tree, inner: &[NodeId]) -> Result<Option<usize>, EdifError
 }
 
 /// The parts of the form at a node, where it is that of a file.
-fn read_root(alloc: Global, tree: &Tree, root: NodeId) -> Result<Parts<'_>, EdifError>
-    requires { IsNode tree.now.rows root }
-    ensures { (t : Placed) → IsAt tree.now.rows root t → Answers (ReadRoot tree.now.rows t) (Stands t) result }
+fn read_root(alloc: Global, root: Node<'_>) -> Result<Form<'_>, EdifError>
+    ensures { Answers (ReadRoot (here root.entry)) (Stands (here root.entry)) result }
 {
-    match parts_of(tree, root, None) {
+    match parts_of(root, None) {
         Ok(parts) => Ok(parts),
         Err(Breach::NotInProfile { keyword, place }) => {
             let keyword = keyword.copy(alloc)?;
@@ -72,12 +70,11 @@ fn read_root(alloc: Global, tree: &Tree, root: NodeId) -> Result<Parts<'_>, Edif
 }
 
 /// The form of a file at a node, with one design at most.
-fn read_form(alloc: Global, tree: &Tree, root: NodeId) -> Result<FileForm<'_>, EdifError>
-    requires { IsNode tree.now.rows root }
-    ensures { (t : Placed) → IsAt tree.now.rows root t → Answers (ReadForm tree.now.rows t) (Stands t) result }
+fn read_form(alloc: Global, root: Node<'_>) -> Result<FileForm<'_>, EdifError>
+    ensures { Answers (ReadForm (here root.entry)) (Stands (here root.entry)) result }
 {
-    let parts = read_root(alloc, tree, root)?;
-    let design = find_design(tree, parts.inner)?;
+    let parts = read_root(alloc, root)?;
+    let design = find_design(parts.inner)?;
     Ok(FileForm {
         fixed: parts.fixed,
         inner: parts.inner,
@@ -86,63 +83,37 @@ fn read_form(alloc: Global, tree: &Tree, root: NodeId) -> Result<FileForm<'_>, E
 }
 
 /// The title of a file, whose version, level and keyword map are read beside it.
-fn read_heads(alloc: Global, tree: &Tree, fixed: &[NodeId]) -> Result<Name, EdifError>
-    requires { (t : Placed) × HasFixed tree.now.rows t fixed.now }
-    ensures { (t : Placed) → HasFixed tree.now.rows t fixed.now → Answers (ReadHeads t) (FileFault t) result }
+fn read_heads(alloc: Global, fixed: Nodes<'_>) -> Result<Name, EdifError>
+    requires { (t : Placed) × HasFixed t (all fixed) }
+    ensures { (t : Placed) → HasFixed t (all fixed.entry) → Answers (ReadHeads t) (FileFault t) result }
 {
-    read_version(alloc, tree, fixed[1])?;
-    read_level(alloc, tree, fixed[2], Keyword::EdifLevel)?;
-    read_keyword_map(alloc, tree, fixed[3])?;
-    let title = read_name(alloc, tree, fixed[0])?;
+    read_version(alloc, fixed.at(1))?;
+    read_level(alloc, fixed.at(2), Keyword::EdifLevel)?;
+    read_keyword_map(alloc, fixed.at(3))?;
+    let title = read_name(alloc, fixed.at(0))?;
     Ok(title.name)
-}
-
-/// The nodes before a place. Takes no memory.
-fn before(inner: &[NodeId], at: usize) -> &[NodeId]
-    requires { at < length inner.now }
-    ensures { result.now ≡ take at inner.now }
-{
-    &inner[..at]
-}
-
-/// The node at a place. Takes no memory.
-fn node_at(inner: &[NodeId], at: usize) -> NodeId
-    requires { at < length inner.now }
-    ensures { (d : NodeId) → result ≡ slice_index_or inner.now at d }
-{
-    inner[at]
-}
-
-/// The nodes behind a place. Takes no memory.
-fn behind(inner: &[NodeId], at: usize) -> &[NodeId]
-    requires { at < length inner.now }
-    ensures { result.now ≡ drop (at + 1) inner.now }
-{
-    &inner[at + 1..]
 }
 
 /// The top among these followers of a file, whose libraries are added. The design's form sees those before it.
 fn read_followers(
     alloc: Global,
-    tree: &Tree,
-    inner: &[NodeId],
+    inner: Nodes<'_>,
     design: Option<usize>,
     libs: &mut Libraries,
 ) -> Result<Option<Top>, EdifError>
-    requires nodes { (ts : List Placed) × Stand tree.now.rows inner.now ts × DesignAt ts design }
+    requires design { DesignAt (all inner) design }
     requires known { LibsAre [] libs.old }
-    ensures { (ts : List Placed) → Stand tree.now.rows inner.now ts → DesignAt ts design → LibsAre [] libs.old → Answers (ReadFollowers ts libs.new) (FollowersFail ts) result }
+    ensures { Answers (ReadFollowers (all inner.entry) libs.new) (FollowersFail (all inner.entry)) result }
 {
     let Some(at) = design else {
-        add_libraries(alloc, tree, inner, libs)?;
+        add_libraries(alloc, inner, libs)?;
         return Ok(None);
     };
-    let front = before(inner, at);
-    add_libraries(alloc, tree, front, libs)?;
-    let node = node_at(inner, at);
-    let top = read_top(alloc, tree, node, libs)?;
-    let back = behind(inner, at);
-    add_libraries(alloc, tree, back, libs)?;
+    let (before, _) = inner.split_at(at);
+    add_libraries(alloc, before, libs)?;
+    let top = read_top(alloc, inner.at(at), libs)?;
+    let (_, behind) = inner.split_at(at + 1);
+    add_libraries(alloc, behind, libs)?;
     Ok(Some(top))
 }
 
@@ -164,11 +135,10 @@ fn design_of(alloc: Global, title: Name, libs: Row<Lib>, top: Option<Top>) -> De
 fn read_whole(alloc: Global, tree: &Tree) -> Result<Design, EdifError>
     ensures { (t : Placed) → IsAt tree.now.rows tree.now.root t → Answers (λ d. MeansFile (bare t) d) (Stands t) result }
 {
-    let root = tree.root();
-    let form = read_form(alloc, tree, root)?;
-    let title = read_heads(alloc, tree, form.fixed)?;
+    let form = read_form(alloc, tree.root())?;
+    let title = read_heads(alloc, form.fixed)?;
     let mut libs = Libraries::new(alloc);
-    let top = read_followers(alloc, tree, form.inner, form.design, &mut libs)?;
+    let top = read_followers(alloc, form.inner, form.design, &mut libs)?;
     let libs = libs.into_libs()?;
     Ok(design_of(alloc, title, libs, top))
 }

@@ -8,8 +8,7 @@ ghost use Rattle.edif_spec.specs.Means.{is_library};
 ghost use Rattle.edif_spec.specs.Rows.{has_keyword};
 ghost use Rattle.edif_spec.specs.Stands.{LibraryFault, libraries};
 ghost use Rattle.edif_spec.specs.declared.keyword.Keyword.TheVariants.{Cell as CellWord};
-ghost use Rattle.edif_tree.specs.Nodes.{IsAt, IsNode};
-ghost use Rattle.edif_grammar.specs.Forms.{Stand};
+ghost use Rattle.edif_tree.specs.Handles.{here, all};
 ghost use Rattle.edif_build.specs.Libraries.{CellsAre, CellsFail, FailsAt, FailsIn, LibsAre, LibsFail, ReadHead};
 ghost use Rattle.edif_parts.specs.Reading.{Answers};
 
@@ -21,7 +20,7 @@ use edif_parts::error::{EdifError, clash, over_limit};
 use edif_parts::names::read_name;
 use edif_parts::parts::read_parts;
 use edif_spec::{ClashKind, Keyword};
-use edif_tree::{NodeId, Tree};
+use edif_tree::{Node, Nodes};
 use netlist_schema::LibHead;
 use netlist_schema::limits::{MOST_CELLS, MOST_LIBS};
 use std::alloc::Global;
@@ -34,18 +33,17 @@ pub struct Head<'a> {
     /// The number of bytes before its identifier.
     pub place: u64,
     /// The nodes of what follows its technology, in order.
-    pub inner: &'a [NodeId],
+    pub inner: Nodes<'a>,
 }
 
 /// Whether a library stands at a node. Takes no memory.
-pub fn is_library(tree: &Tree, node: NodeId) -> bool
-    requires { IsNode tree.now.rows node }
-    ensures { (t : Placed) → IsAt tree.now.rows node t → result ≡ is_library (bare t) }
+pub fn is_library(node: Node<'_>) -> bool
+    ensures { result ≡ is_library (bare (here node.entry)) }
 {
-    if is_form_of(tree, node, Keyword::Library) {
+    if is_form_of(node, Keyword::Library) {
         return true;
     }
-    is_form_of(tree, node, Keyword::External)
+    is_form_of(node, Keyword::External)
 }
 
 /// The keyword of a library, or of an external one.
@@ -60,16 +58,15 @@ fn library_keyword(external: bool) -> Keyword
 }
 
 /// The head of the library at a node.
-fn read_head(alloc: Global, tree: &Tree, node: NodeId) -> Result<Head<'_>, EdifError>
-    requires node { IsNode tree.now.rows node }
-    requires keyword { (t : Placed) → IsAt tree.now.rows node t → is_library (bare t) ≡ true }
-    ensures { (t : Placed) → IsAt tree.now.rows node t → Answers (ReadHead tree.now.rows t) (λ f. (before : List design.Lib) → LibraryFault before t f) result }
+fn read_head(alloc: Global, node: Node<'_>) -> Result<Head<'_>, EdifError>
+    requires { is_library (bare (here node)) ≡ true }
+    ensures { Answers (ReadHead (here node.entry)) (λ f. (before : List design.Lib) → LibraryFault before (here node.entry) f) result }
 {
-    let external = is_form_of(tree, node, Keyword::External);
+    let external = is_form_of(node, Keyword::External);
     let keyword = library_keyword(external);
-    let parts = read_parts(alloc, tree, node, Keyword::Edif, keyword)?;
-    read_level(alloc, tree, parts.fixed[1], Keyword::EdifLevel)?;
-    let name = read_name(alloc, tree, parts.fixed[0])?;
+    let parts = read_parts(alloc, node, keyword)?;
+    read_level(alloc, parts.fixed.at(1), Keyword::EdifLevel)?;
+    let name = read_name(alloc, parts.fixed.at(0))?;
     Ok(Head {
         head: LibHead {
             name: name.name,
@@ -81,24 +78,17 @@ fn read_head(alloc: Global, tree: &Tree, node: NodeId) -> Result<Head<'_>, EdifE
 }
 
 /// Adds the cell at a node to the last library, which is that at `own`.
-fn add_cell(
-    alloc: Global,
-    tree: &Tree,
-    node: NodeId,
-    libs: &mut Libraries,
-    own: u32,
-) -> Result<(), EdifError>
-    requires node { IsNode tree.now.rows node }
-    requires keyword { (t : Placed) → IsAt tree.now.rows node t → has_keyword CellWord (bare t) ≡ true }
+fn add_cell(alloc: Global, node: Node<'_>, libs: &mut Libraries, own: u32) -> Result<(), EdifError>
+    requires keyword { has_keyword CellWord (bare (here node)) ≡ true }
     requires known { (before : List design.Lib) × (head : design.LibHead) × (names : List (List ℕ × ℕ)) × (ts : List Placed) × CellsAre before head names ts libs.old }
-    ensures { (before : List design.Lib) (head : design.LibHead) (names : List (List ℕ × ℕ)) (ts : List Placed) (t : Placed) → CellsAre before head names ts libs.old → own ≡ length before → IsAt tree.now.rows node t
-        → Answers (λ _. CellsAre before head names (ts ++ t ∷ []) libs.new) (FailsAt (CellsFail before head) ts t) result }
+    ensures { (before : List design.Lib) (head : design.LibHead) (names : List (List ℕ × ℕ)) (ts : List Placed) → CellsAre before head names ts libs.old → own ≡ length before
+        → Answers (λ _. CellsAre before head names (ts ++ here node.entry ∷ []) libs.new) (FailsAt (CellsFail before head) ts (here node.entry)) result }
 {
     let count = libs.cell_count();
     if count >= MOST_CELLS {
-        return Err(over_limit(MOST_CELLS as u64, tree.place(node)));
+        return Err(over_limit(MOST_CELLS as u64, node.place()));
     }
-    let cell = read_cell(alloc, tree, node, libs, own)?;
+    let cell = read_cell(alloc, node, libs, own)?;
     match libs.add(cell.cell, cell.place)? {
         Some(earlier) => Err(clash(ClashKind::Duplicate, cell.place, earlier)),
         None => Ok(()),
@@ -108,64 +98,50 @@ fn add_cell(
 /// Adds the cells among these followers of the last library, which is that at `own`.
 fn add_cells(
     alloc: Global,
-    tree: &Tree,
-    inner: &[NodeId],
+    inner: Nodes<'_>,
     libs: &mut Libraries,
     own: u32,
 ) -> Result<(), EdifError>
-    requires nodes { (ts : List Placed) × Stand tree.now.rows inner.now ts }
-    requires known { (before : List design.Lib) × (head : design.LibHead) × (names : List (List ℕ × ℕ)) × CellsAre before head names [] libs.old × (own ≡ length before) }
-    ensures { (before : List design.Lib) (head : design.LibHead) (names : List (List ℕ × ℕ)) (ts : List Placed) → CellsAre before head names [] libs.old → own ≡ length before → Stand tree.now.rows inner.now ts
-        → Answers (λ _. CellsAre before head names (those_of CellWord ts) libs.new) (CellsFail before head (those_of CellWord ts)) result }
+    requires { (before : List design.Lib) × (head : design.LibHead) × (names : List (List ℕ × ℕ)) × CellsAre before head names [] libs.old × (own ≡ length before) }
+    ensures { (before : List design.Lib) (head : design.LibHead) (names : List (List ℕ × ℕ)) → CellsAre before head names [] libs.old → own ≡ length before
+        → Answers (λ _. CellsAre before head names (those_of CellWord (all inner.entry)) libs.new) (CellsFail before head (those_of CellWord (all inner.entry))) result }
 {
-    for node in inner {
-        if !is_form_of(tree, *node, Keyword::Cell) {
+    for node in inner.iter() {
+        if !is_form_of(node, Keyword::Cell) {
             continue;
         }
-        add_cell(alloc, tree, *node, libs, own)?;
+        add_cell(alloc, node, libs, own)?;
     }
     Ok(())
 }
 
 /// Adds the library at a node.
-fn add_library(
-    alloc: Global,
-    tree: &Tree,
-    node: NodeId,
-    libs: &mut Libraries,
-) -> Result<(), EdifError>
-    requires node { IsNode tree.now.rows node }
-    requires keyword { (t : Placed) → IsAt tree.now.rows node t → is_library (bare t) ≡ true }
+fn add_library(alloc: Global, node: Node<'_>, libs: &mut Libraries) -> Result<(), EdifError>
+    requires keyword { is_library (bare (here node)) ≡ true }
     requires known { (ts : List Placed) × LibsAre ts libs.old }
-    ensures { (ts : List Placed) (t : Placed) → LibsAre ts libs.old → IsAt tree.now.rows node t → Answers (λ _. LibsAre (ts ++ t ∷ []) libs.new) (FailsAt LibsFail ts t) result }
+    ensures { (ts : List Placed) → LibsAre ts libs.old → Answers (λ _. LibsAre (ts ++ here node.entry ∷ []) libs.new) (FailsAt LibsFail ts (here node.entry)) result }
 {
     let own = libs.len();
     if own >= MOST_LIBS {
-        return Err(over_limit(MOST_LIBS as u64, tree.place(node)));
+        return Err(over_limit(MOST_LIBS as u64, node.place()));
     }
-    let head = read_head(alloc, tree, node)?;
+    let head = read_head(alloc, node)?;
     match libs.open(head.head, head.place)? {
         Some(earlier) => Err(clash(ClashKind::Duplicate, head.place, earlier)),
-        None => add_cells(alloc, tree, head.inner, libs, own as u32),
+        None => add_cells(alloc, head.inner, libs, own as u32),
     }
 }
 
 /// Adds the libraries among these followers of a file.
-pub fn add_libraries(
-    alloc: Global,
-    tree: &Tree,
-    inner: &[NodeId],
-    libs: &mut Libraries,
-) -> Result<(), EdifError>
-    requires nodes { (ts : List Placed) × Stand tree.now.rows inner.now ts }
-    requires known { (ds : List Placed) × LibsAre ds libs.old }
-    ensures { (ds ts : List Placed) → LibsAre ds libs.old → Stand tree.now.rows inner.now ts → Answers (λ _. LibsAre (ds ++ libraries ts) libs.new) (FailsIn LibsFail (ds ++ libraries ts)) result }
+pub fn add_libraries(alloc: Global, inner: Nodes<'_>, libs: &mut Libraries) -> Result<(), EdifError>
+    requires { (ds : List Placed) × LibsAre ds libs.old }
+    ensures { (ds : List Placed) → LibsAre ds libs.old → Answers (λ _. LibsAre (ds ++ libraries (all inner.entry)) libs.new) (FailsIn LibsFail (ds ++ libraries (all inner.entry))) result }
 {
-    for node in inner {
-        if !is_library(tree, *node) {
+    for node in inner.iter() {
+        if !is_library(node) {
             continue;
         }
-        add_library(alloc, tree, *node, libs)?;
+        add_library(alloc, node, libs)?;
     }
     Ok(())
 }

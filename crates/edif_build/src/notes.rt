@@ -1,12 +1,11 @@
 //! Notes: properties of occurrences, in a design's form.
-ghost use Rattle.std.specs.Prelude.{◌≡◌, ◌<◌, ◌++◌, [], ◌∷◌, ℕ, IfErr, IfOk, List, None, OnOk, drop, filter, length, true};
+ghost use Rattle.std.specs.Prelude.{◌≡◌, ◌<◌, ◌≤◌, ◌++◌, [], ◌∷◌, IfErr, IfNone, IfOk, IfSome, List, None, OnOk, filter, length, true};
 ghost use Rattle.spelling_spec.specs.Tree.{Placed, bare};
 ghost use Rattle.edif_spec.specs.Design as design;
 ghost use Rattle.edif_spec.specs.Faults.{arguments};
 ghost use Rattle.edif_spec.specs.Means.{is_note};
 ghost use Rattle.edif_spec.specs.Stands.{NoteFault, PathFault, StepFault, StepsTo};
-ghost use Rattle.edif_tree.specs.Nodes.{IsAt, IsNode};
-ghost use Rattle.edif_grammar.specs.Forms.{Stand};
+ghost use Rattle.edif_tree.specs.Handles.{here, all};
 ghost use Rattle.edif_parts.specs.Names.{DefinesName};
 ghost use Rattle.edif_build.specs.Notes.{AreNoted, FailsBehind, HasNoteParts, IsAgain, NotesFail, ReadNote, ReadNotes, ReadPath, ShapeFault, flat, is_mark};
 ghost use Rattle.edif_parts.specs.Reading.{Answers, Names as FailsBy};
@@ -18,7 +17,7 @@ use edif_parts::error::{EdifError, bad_form, clash, fault_at, over_limit};
 use edif_parts::parts::is_word;
 use edif_parts::properties::read_property;
 use edif_spec::{ClashKind, Keyword, Kind};
-use edif_tree::{NodeId, Shape, Tree};
+use edif_tree::{Node, Nodes, Shape};
 use indexmap::IndexMap;
 use netlist_schema::limits::MOST_NOTES;
 use netlist_schema::{CellId, Copied, Ident, Inst, NoMemory, Note, Row};
@@ -36,11 +35,11 @@ pub struct NoteAt {
 
 /// The parts of a note behind its mark.
 #[derive(Clone, Copy)]
-pub struct NoteParts {
+pub struct NoteParts<'a> {
     /// The node of its path.
-    pub path: NodeId,
+    pub path: Node<'a>,
     /// The node of its property.
-    pub property: NodeId,
+    pub property: Node<'a>,
 }
 
 /// Bytes that tell notes apart, no two equal, each with a place. Contracts see them in order.
@@ -93,48 +92,39 @@ fn key_of(alloc: Global, path: &[Ident], key: &Ident) -> Result<Vec<u8>, NoMemor
     Ok(bytes)
 }
 
-/// The nodes behind the first. Takes no memory.
-fn rest_of(ids: &[NodeId]) -> &[NodeId]
-    requires { 0 < length ids.now }
-    ensures rest { result.now ≡ drop 1 ids.now }
-    ensures some { 0 < length ids.now }
+/// The nodes of a form's arguments, behind its keyword, where there are at least so many. Takes no memory.
+fn arguments_at(node: Node<'_>, least: usize) -> Option<Nodes<'_>>
+    requires { 0 < least }
+    ensures some { IfSome result (λ found. (all found ≡ arguments (here node.entry)) × (least ≤ length (all found))) }
+    ensures none { IfNone result (length (arguments (here node.entry)) < least) }
 {
-    &ids[1..]
-}
-
-/// The nodes of a form's arguments, behind its keyword; none where no form stands. Takes no memory.
-fn arguments_at(tree: &Tree, node: NodeId) -> &[NodeId]
-    requires { IsNode tree.now.rows node }
-    ensures { (t : Placed) → IsAt tree.now.rows node t → Stand tree.now.rows result.now (arguments t) }
-{
-    let Shape::Form(ids) = tree.shape(node) else {
-        return &[];
+    let Shape::Form(nodes) = node.shape() else {
+        return None;
     };
-    if ids.is_empty() {
-        return &[];
+    let (_, arguments) = nodes.split_first()?;
+    if arguments.len() < least {
+        return None;
     }
-    rest_of(ids)
+    Some(arguments)
 }
 
 /// The parts of the note at a node. Takes no memory.
-fn note_parts(tree: &Tree, node: NodeId) -> Result<NoteParts, EdifError>
-    requires { IsNode tree.now.rows node }
-    ensures { (t : Placed) → IsAt tree.now.rows node t → Answers (HasNoteParts tree.now.rows t) (ShapeFault t) result }
+fn note_parts(node: Node<'_>) -> Result<NoteParts<'_>, EdifError>
+    ensures { Answers (HasNoteParts (here node.entry)) (ShapeFault (here node.entry)) result }
 {
-    let inner = arguments_at(tree, node);
-    if inner.len() < 3 {
-        return Err(bad_form(tree.place(node)));
+    let Some(inner) = arguments_at(node, 3) else {
+        return Err(bad_form(node.place()));
+    };
+    let path = inner.at(1);
+    if !is_form_of(path, Keyword::Path) {
+        return Err(bad_form(path.place()));
     }
-    let path = inner[1];
-    if !is_form_of(tree, path, Keyword::Path) {
-        return Err(bad_form(tree.place(path)));
-    }
-    let property = inner[2];
-    if !is_form_of(tree, property, Keyword::Property) {
-        return Err(bad_form(tree.place(property)));
+    let property = inner.at(2);
+    if !is_form_of(property, Keyword::Property) {
+        return Err(bad_form(property.place()));
     }
     if inner.len() > 3 {
-        return Err(bad_form(tree.place(inner[3])));
+        return Err(bad_form(inner.at(3).place()));
     }
     Ok(NoteParts { path, property })
 }
@@ -153,17 +143,11 @@ fn insts_at(libs: &Libraries, id: CellId) -> &[Inst]
 }
 
 /// The instance that the step at a node means, in a cell. Takes no memory.
-fn read_step<'a>(
-    tree: &Tree,
-    node: NodeId,
-    libs: &'a Libraries,
-    id: CellId,
-) -> Result<&'a Inst, EdifError>
-    requires { IsNode tree.now.rows node }
-    ensures { (t : Placed) → IsAt tree.now.rows node t → Answers (λ x. StepsTo libs.now.libs id t x.now) (StepFault libs.now.libs id (λ _. ⊥) t) result }
+fn read_step<'a>(node: Node<'_>, libs: &'a Libraries, id: CellId) -> Result<&'a Inst, EdifError>
+    ensures { Answers (λ x. StepsTo libs.now.libs id (here node.entry) x.now) (StepFault libs.now.libs id (λ _. ⊥) (here node.entry)) result }
 {
-    let place = tree.place(node);
-    let Shape::Word(name) = tree.shape(node) else {
+    let place = node.place();
+    let Shape::Word(name) = node.shape() else {
         return Err(bad_form(place));
     };
     let Meant::Found(index) = libs.inst(id, name) else {
@@ -178,22 +162,19 @@ fn read_step<'a>(
 /// The identifiers that the steps of the path at a node mean, from the top cell on.
 fn read_path(
     alloc: Global,
-    tree: &Tree,
-    node: NodeId,
+    node: Node<'_>,
     libs: &Libraries,
     top: CellId,
 ) -> Result<Row<Ident>, EdifError>
-    requires { IsNode tree.now.rows node }
-    ensures { (t : Placed) → IsAt tree.now.rows node t → Answers (ReadPath libs.now.libs top t) (PathFault libs.now.libs top t) result }
+    ensures { Answers (ReadPath libs.now.libs top (here node.entry)) (PathFault libs.now.libs top (here node.entry)) result }
 {
-    let steps = arguments_at(tree, node);
-    if steps.is_empty() {
-        return Err(fault_at(Kind::BadPath, tree.place(node)));
-    }
+    let Some(steps) = arguments_at(node, 1) else {
+        return Err(fault_at(Kind::BadPath, node.place()));
+    };
     let mut path = Vec::new(alloc);
     let mut id = top;
-    for step in steps {
-        let inst = read_step(tree, *step, libs, id)?;
+    for step in steps.iter() {
+        let inst = read_step(step, libs, id)?;
         let name = Copied::copy(&inst.name.id, alloc)?;
         path.push(name)?;
         id = inst.of;
@@ -204,18 +185,16 @@ fn read_path(
 /// The note at a node, from the top cell on.
 fn read_note(
     alloc: Global,
-    tree: &Tree,
-    node: NodeId,
+    node: Node<'_>,
     libs: &Libraries,
     top: CellId,
 ) -> Result<NoteAt, EdifError>
-    requires node { IsNode tree.now.rows node }
-    requires note { (t : Placed) → IsAt tree.now.rows node t → is_note (bare t) ≡ true }
-    ensures { (t : Placed) → IsAt tree.now.rows node t → Answers (ReadNote libs.now.libs top t) (NoteFault libs.now.libs top t) result }
+    requires { is_note (bare (here node)) ≡ true }
+    ensures { Answers (ReadNote libs.now.libs top (here node.entry)) (NoteFault libs.now.libs top (here node.entry)) result }
 {
-    let parts = note_parts(tree, node)?;
-    let path = read_path(alloc, tree, parts.path, libs, top)?;
-    let property = read_property(alloc, tree, parts.property)?;
+    let parts = note_parts(node)?;
+    let path = read_path(alloc, parts.path, libs, top)?;
+    let property = read_property(alloc, parts.property)?;
     Ok(NoteAt {
         note: Note {
             path,
@@ -226,25 +205,23 @@ fn read_note(
 }
 
 /// Whether a note stands at a node. Takes no memory.
-fn is_note(tree: &Tree, node: NodeId) -> bool
-    requires { IsNode tree.now.rows node }
-    ensures { (t : Placed) → IsAt tree.now.rows node t → result ≡ is_note (bare t) }
+fn is_note(node: Node<'_>) -> bool
+    ensures { result ≡ is_note (bare (here node.entry)) }
 {
-    if !is_form_of(tree, node, Keyword::UserData) {
+    if !is_form_of(node, Keyword::UserData) {
         return false;
     }
-    match arguments_at(tree, node).first() {
-        Some(mark) => is_mark(tree, *mark),
+    match arguments_at(node, 1) {
+        Some(inner) => is_mark(inner.at(0)),
         None => false,
     }
 }
 
 /// Whether the mark of notes stands at a node. Takes no memory.
-fn is_mark(tree: &Tree, node: NodeId) -> bool
-    requires { IsNode tree.now.rows node }
-    ensures { (t : Placed) → IsAt tree.now.rows node t → result ≡ is_mark (bare t) }
+fn is_mark(node: Node<'_>) -> bool
+    ensures { result ≡ is_mark (bare (here node.entry)) }
 {
-    match tree.shape(node) {
+    match node.shape() {
         Shape::Word(name) => is_word(name, b"netdb_note"),
         _ => false,
     }
@@ -253,22 +230,20 @@ fn is_mark(tree: &Tree, node: NodeId) -> bool
 /// Adds the note at a node to the notes, whose keys are `keys`.
 fn add_note(
     alloc: Global,
-    tree: &Tree,
-    node: NodeId,
+    node: Node<'_>,
     libs: &Libraries,
     top: CellId,
     keys: &mut NoteKeys,
     notes: &mut Vec<Note>,
 ) -> Result<(), EdifError>
-    requires node { IsNode tree.now.rows node }
-    requires note { (t : Placed) → IsAt tree.now.rows node t → is_note (bare t) ≡ true }
-    ensures { (ts : List Placed) (t : Placed) → AreNoted libs.now.libs top ts notes.old.items keys.old → IsAt tree.now.rows node t
-        → Answers (λ _. AreNoted libs.now.libs top (ts ++ t ∷ []) notes.new.items keys.new) (FailsBehind libs.now.libs top ts t) result }
+    requires { is_note (bare (here node)) ≡ true }
+    ensures { (ts : List Placed) → AreNoted libs.now.libs top ts notes.old.items keys.old
+        → Answers (λ _. AreNoted libs.now.libs top (ts ++ here node.entry ∷ []) notes.new.items keys.new) (FailsBehind libs.now.libs top ts (here node.entry)) result }
 {
     if notes.len() >= MOST_NOTES {
-        return Err(over_limit(MOST_NOTES as u64, tree.place(node)));
+        return Err(over_limit(MOST_NOTES as u64, node.place()));
     }
-    let note = read_note(alloc, tree, node, libs, top)?;
+    let note = read_note(alloc, node, libs, top)?;
     let key = key_of(alloc, note.note.path.as_slice(), &note.note.property.key.id)?;
     keys.add(key, note.place)?;
     notes.push(note.note)?;
@@ -278,21 +253,19 @@ fn add_note(
 /// The notes among these followers of a design's form, in order, from the top cell on.
 pub fn read_notes(
     alloc: Global,
-    tree: &Tree,
-    inner: &[NodeId],
+    inner: Nodes<'_>,
     libs: &Libraries,
     top: CellId,
 ) -> Result<Row<Note>, EdifError>
-    requires { (ts : List Placed) × Stand tree.now.rows inner.now ts }
-    ensures { (ts : List Placed) → Stand tree.now.rows inner.now ts → Answers (ReadNotes libs.now.libs top (filter (λ u. is_note (bare u)) ts)) (NotesFail libs.now.libs top (filter (λ u. is_note (bare u)) ts)) result }
+    ensures { Answers (ReadNotes libs.now.libs top (filter (λ u. is_note (bare u)) (all inner.entry))) (NotesFail libs.now.libs top (filter (λ u. is_note (bare u)) (all inner.entry))) result }
 {
     let mut keys = NoteKeys::new(alloc);
     let mut notes = Vec::new(alloc);
-    for node in inner {
-        if !is_note(tree, *node) {
+    for node in inner.iter() {
+        if !is_note(node) {
             continue;
         }
-        add_note(alloc, tree, *node, libs, top, &mut keys, &mut notes)?;
+        add_note(alloc, node, libs, top, &mut keys, &mut notes)?;
     }
     Ok(Row::of(notes))
 }

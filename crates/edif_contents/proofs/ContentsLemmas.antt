@@ -1,5 +1,5 @@
 -- Contents, from the instances and the nets that are read.
-use Rattle.std.proofs.Common.{◌≡◌, ℕ, List, [], ◌∷◌, map, refl, sym, subst, inl, inr, Option, Some}
+use Rattle.std.proofs.Common.{◌≡◌, ℕ, List, [], ◌∷◌, map, refl, sym, subst, inl, inr, Option}
 use Rattle.spelling_spec.specs.Tree.{Bare, Placed, bare}
 use Rattle.edif_spec.specs.Design as design
 use Rattle.edif_spec.specs.Keyword.{Follower, Many}
@@ -11,14 +11,13 @@ use Rattle.edif_spec.specs.Stands as stands
 use Rattle.edif_spec.specs.declared.keyword.Keyword.TheVariants as keywords
 use Rattle.edif_spec.specs.declared.fault.MeaningFault.{MeaningFault}
 use Rattle.edif_spec.proofs.KnownCells.{parts_bare}
-use Rattle.edif_tree.specs.Nodes.{Row}
 use Rattle.edif_contents.specs.Inners.{InstsFault, ReadInsts}
 use Rattle.edif_contents.specs.Insides.{ReadContents}
 use Rattle.edif_contents.specs.Nets.{NetsFaultIn, ReadNets}
-use Rattle.edif_parts.specs.Parts.{ArePartsOf}
+use Rattle.edif_grammar.specs.Forms.{ArePartsOf}
 use Rattle.edif_contents.specs.declared.contents.Inside.{Inside}
 use Rattle.edif_contents.specs.declared.ends.Surroundings.{Surroundings}
-use Rattle.edif_grammar.specs.declared.lent.Parts.{Parts}
+use Rattle.edif_grammar.specs.declared.lent.Form.{Form}
 use Rattle.edif_contents.specs.declared.insts.Insts.{Insts}
 use Rattle.edif_grammar.proofs.FormLemmas.{fit0}
 
@@ -49,10 +48,10 @@ nets_fail s own t r f a e b =
     go m (inr (inr (inr (inr b)))) = stands.many_ends b
 
 -- the contents
-pub contents_read : (rows : List Row) (s : Surroundings) (own : Option ℕ) (t : Placed) (p : Parts) (r : Insts) (nets : List design.Net) (i : Inside) → ArePartsOf rows keywords.View keywords.Contents t p → ReadInsts s.libs.now.libs own (followers keywords.Contents t) r → s.insts.now ≡ r.list.items
+pub contents_read : (s : Surroundings) (own : Option ℕ) (t : Placed) (p : Form) (r : Insts) (nets : List design.Net) (i : Inside) → ArePartsOf keywords.Contents t p → ReadInsts s.libs.now.libs own (followers keywords.Contents t) r → s.insts.now ≡ r.list.items
     → ReadNets s (followers keywords.Contents t) nets → i.contents.insts ≡ r.list.items → i.contents.nets ≡ nets → i.insts ≡ r.names → ReadContents s.libs.now.libs own s.ports.now t i
-contents_read rows s own t p r nets i a x e y d n m =
-    let f = fit0 (Some keywords.View) keywords.Contents follows t refl refl refl a.fits in
+contents_read s own t p r nets i a x e y d n m =
+    let f = fit0 keywords.Contents follows t refl refl refl a.fits in
     let P : List design.Inst → Type 0 = λ v. Each (MeansNet s.libs.now.libs s.ports.now v) (those keywords.Net (map bare (followers keywords.Contents t))) y.rows in
     let made : Inside = record { contents = record { insts = r.list.items; nets = nets }; insts = r.names } in
     let whole : ReadContents s.libs.now.libs own s.ports.now t made = record {

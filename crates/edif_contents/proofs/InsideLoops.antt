@@ -1,5 +1,5 @@
 -- The loops over the instances and the nets of contents.
-use Rattle.std.proofs.Common.{◌≡◌, ℕ, suc, ◌+◌, ◌<◌, ◌≤◌, List, [], ◌∷◌, ◌++◌, map, take, drop, length, replicate, refl, sym, ap, ◌∙◌, subst, inl, inr, true, false, Option, None, arith, length-append}
+use Rattle.std.proofs.Common.{◌≡◌, ℕ, ◌+◌, ◌<◌, ◌≤◌, List, [], ◌∷◌, ◌++◌, map, length, replicate, refl, sym, ap, ◌∙◌, subst, inl, inr, true, false, Option, None, arith, length-append}
 use Rattle.std.specs.Prelude.{◌^◌}
 use Rattle.std.specs.List.{All, AllByRecursion, AllZip, flat_map}
 use Rattle.std.proofs.lemmas.List.Elements.{All-from_recursion, recursion_from_All}
@@ -18,14 +18,11 @@ use Rattle.edif_spec.specs.declared.fault.MeaningFault.TheVariants.{OverLimit}
 use Rattle.edif_spec.proofs.FaultForms.{filter_bare, map_length}
 use Rattle.edif_spec.proofs.NetFaultsApart.{net_declares, zip_append, zip_flat, zip_length}
 use Rattle.edif_spec.proofs.RowForms.{GivesName, flat_append, length_numbered, net_names_are, nets_counted, rows_fine}
-use Rattle.edif_tree.specs.Nodes.{Row}
-use Rattle.edif_tree.specs.declared.node.NodeId.{NodeId}
-use Rattle.edif_grammar.specs.Forms.{Stand}
-use Rattle.edif_grammar.proofs.StandLemmas.{stand_length}
+use Rattle.edif_tree.specs.Handles.{all}
 use Rattle.edif_parts.specs.Names.{DefinesName, ids}
-use Rattle.edif_parts.proofs.NamedForms.{NamedForms, forms_distinct, forms_each, forms_end, forms_push, forms_skip, forms_start, forms_valid}
+use Rattle.edif_parts.proofs.NamedForms.{NamedForms, forms_distinct, forms_each, forms_push, forms_skip, forms_start, forms_valid}
 use Rattle.edif_parts.proofs.NameLists.{none_distinct}
-use Rattle.edif_parts.proofs.Steps.{Step, here, kept, skipped, take_all}
+use Rattle.edif_parts.proofs.Steps.{those_keep, those_skip}
 use Rattle.edif_contents.specs.Inners as inners
 use Rattle.edif_contents.specs.Inners.{ReadInsts}
 use Rattle.edif_contents.specs.Joins.{AreJoined, RowEndsFault, bits, bits_of_row, row_of}
@@ -42,11 +39,11 @@ forms_count : {A : Type 0} (M : Bare → A → Type 0) (V : A → Type 0) (g : A
 forms_count M V g k ts xs ns f = sym (map_length bare (those_of k ts)) ∙ zip_length M (map bare (those_of k ts)) xs f.means
 
 -- a form beyond the limit
-pub forms_beyond : {A : Type 0} (M : Bare → A → Type 0) (V : A → Type 0) (g : A → List ℕ) (k : Keyword) {rows : List Row} {id : NodeId} (ts : List Placed) (i : ℕ) (s : Step rows ts i id) (xs : List A) (ns : List (List ℕ × ℕ)) (limit place : ℕ)
-    → has_keyword k (bare s.tree) ≡ true → NamedForms M V g k (take i ts) xs ns → length xs ≤ limit → limit ≤ length xs → place ≡ place_of s.tree → Beyond limit (those_of k ts) (OverLimit limit place)
-forms_beyond M V g k ts i s xs ns limit place h f a b p =
+pub forms_beyond : {A : Type 0} (M : Bare → A → Type 0) (V : A → Type 0) (g : A → List ℕ) (k : Keyword) (ts before rest : List Placed) (t : Placed) (xs : List A) (ns : List (List ℕ × ℕ)) (limit place : ℕ)
+    → those_of k ts ≡ those_of k before ++ t ∷ those_of k rest → NamedForms M V g k before xs ns → length xs ≤ limit → limit ≤ length xs → place ≡ place_of t → Beyond limit (those_of k ts) (OverLimit limit place)
+forms_beyond M V g k ts before rest t xs ns limit place e f a b p =
     let P : List Placed → Type 0 = λ v. Beyond limit v (OverLimit limit place) in
-    subst P (sym (here k ts i s h)) (beyond_one limit (length xs) place (those_of k (take i ts)) (those_of k (drop (suc i) ts)) s.tree (forms_count M V g k (take i ts) xs ns f) a b p)
+    subst P (sym e) (beyond_one limit (length xs) place (those_of k before) (those_of k rest) t (forms_count M V g k before xs ns f) a b p)
 
 -- Instances.
 abbrev pub inst_name : design.Inst → List ℕ
@@ -62,28 +59,25 @@ pub record InstsSoFar (libs : List design.Lib) (own : Option ℕ) (ts : List Pla
 pub insts_start : (libs : List design.Lib) (own : Option ℕ) → InstsSoFar libs own [] [] []
 insts_start libs own = record { forms = forms_start (MeansInst libs own) inners.IsFine inst_name keywords.Instance; count = omega arith }
 
-pub insts_push : (libs : List design.Lib) (own : Option ℕ) {rows : List Row} {id : NodeId} (ts : List Placed) (i : ℕ) (s : Step rows ts i id) (xs : List design.Inst) (r : InstAt) (ns ms : List (List ℕ × ℕ))
-    → has_keyword keywords.Instance (bare s.tree) ≡ true → inners.ReadInst libs own s.tree r → DefinesName ns r.inst.name.id r.place ms None → length xs < 1048576 → InstsSoFar libs own (take i ts) xs ns → InstsSoFar libs own (take (suc i) ts) (xs ++ r.inst ∷ []) ms
-insts_push libs own ts i s xs r ns ms h a d l f =
+pub insts_push : (libs : List design.Lib) (own : Option ℕ) (ts : List Placed) (t : Placed) (xs : List design.Inst) (r : InstAt) (ns ms : List (List ℕ × ℕ))
+    → has_keyword keywords.Instance (bare t) ≡ true → inners.ReadInst libs own t r → DefinesName ns r.inst.name.id r.place ms None → length xs < 1048576 → InstsSoFar libs own ts xs ns → InstsSoFar libs own (ts ++ t ∷ []) (xs ++ r.inst ∷ []) ms
+insts_push libs own ts t xs r ns ms h a d l f =
     record {
-      forms = forms_push (MeansInst libs own) inners.IsFine inst_name keywords.Instance ts i s xs r.inst ns ms r.place h a.mean (a.typed, a.keys) a.named d f.forms;
+      forms = forms_push (MeansInst libs own) inners.IsFine inst_name keywords.Instance ts t xs r.inst ns ms r.place h a.mean (a.typed, a.keys) a.named d f.forms;
       count = let c = length-append xs (r.inst ∷ []) in omega (arith, c, l);
     }
 
-pub insts_skip : (libs : List design.Lib) (own : Option ℕ) {rows : List Row} {id : NodeId} (ts : List Placed) (i : ℕ) (s : Step rows ts i id) (xs : List design.Inst) (ns : List (List ℕ × ℕ))
-    → has_keyword keywords.Instance (bare s.tree) ≡ false → InstsSoFar libs own (take i ts) xs ns → InstsSoFar libs own (take (suc i) ts) xs ns
-insts_skip libs own ts i s xs ns h f = record { forms = forms_skip (MeansInst libs own) inners.IsFine inst_name keywords.Instance ts i s xs ns h f.forms; count = f.count }
+pub insts_skip : (libs : List design.Lib) (own : Option ℕ) (ts : List Placed) (t : Placed) (xs : List design.Inst) (ns : List (List ℕ × ℕ)) → has_keyword keywords.Instance (bare t) ≡ false → InstsSoFar libs own ts xs ns → InstsSoFar libs own (ts ++ t ∷ []) xs ns
+insts_skip libs own ts t xs ns h f = record { forms = forms_skip (MeansInst libs own) inners.IsFine inst_name keywords.Instance ts t xs ns h f.forms; count = f.count }
 
-pub insts_end : (libs : List design.Lib) (own : Option ℕ) (rows : List Row) (nodes : List NodeId) (ts : List Placed) (i : ℕ) (r : Insts) → Stand rows nodes ts → i ≡ length nodes → InstsSoFar libs own (take i ts) r.list.items r.names → ReadInsts libs own ts r
-insts_end libs own rows nodes ts i r st e f =
-    let g = forms_end (MeansInst libs own) inners.IsFine inst_name keywords.Instance rows nodes ts i r.list.items r.names st e f.forms in
-    record {
-      mean = forms_each (MeansInst libs own) inners.IsFine inst_name keywords.Instance ts r.list.items r.names g;
-      fine = forms_valid (MeansInst libs own) inners.IsFine inst_name keywords.Instance ts r.list.items r.names g;
-      distinct = forms_distinct (MeansInst libs own) inners.IsFine inst_name keywords.Instance ts r.list.items r.names g;
-      count = f.count;
-      names = g.named;
-    }
+pub insts_end : (libs : List design.Lib) (own : Option ℕ) (ts : List Placed) (r : Insts) → InstsSoFar libs own ts r.list.items r.names → ReadInsts libs own ts r
+insts_end libs own ts r f = record {
+  mean = forms_each (MeansInst libs own) inners.IsFine inst_name keywords.Instance ts r.list.items r.names f.forms;
+  fine = forms_valid (MeansInst libs own) inners.IsFine inst_name keywords.Instance ts r.list.items r.names f.forms;
+  distinct = forms_distinct (MeansInst libs own) inners.IsFine inst_name keywords.Instance ts r.list.items r.names f.forms;
+  count = f.count;
+  names = f.forms.named;
+}
 
 -- Nets.
 abbrev pub net_name : design.Net → List ℕ
@@ -137,19 +131,22 @@ nets_start s = record {
 }
 
 -- the ends of a net that is read
-pub net_ends_are : (rows : List Row) (s : Surroundings) (t : Placed) (n : NetAt) (ss : List Stretch) (size : ℕ) → ss ≡ n.form.joined → size ≡ row_size n.form.array → ReadNet rows s t n → MeansEndsIn s size (ends_in t) ss
-net_ends_are rows s t n ss size e d r = wide_ends s.libs.now.libs s.ports.now s.insts.now t n.form ss size d e r.mean
+net_ends_are : (s : Surroundings) (t : Placed) (n : NetAt) (ss : List Stretch) (size : ℕ) → ss ≡ n.form.joined → size ≡ row_size n.form.array → ReadNet s t n → MeansEndsIn s size (ends_in t) ss
+net_ends_are s t n ss size e d r = wide_ends s.libs.now.libs s.ports.now s.insts.now t n.form ss size d e r.mean
 
-pub net_ends_count : (rows : List Row) (s : Surroundings) (t : Placed) (n : NetAt) (ss : List Stretch) (size : ℕ) → ss ≡ n.form.joined → size ≡ row_size n.form.array → ReadNet rows s t n → length n.ends.now ≡ length ss
-net_ends_count rows s t n ss size e d r =
-    stand_length rows n.ends.now (ends_in t) r.nodes
-    ∙ zip_length (λ u x. MeansEnd s.libs.now.libs s.ports.now s.insts.now (bare u) x × (x.width ≡ size)) (ends_in t) ss (net_ends_are rows s t n ss size e d r)
+pub net_ends_mean : (s : Surroundings) (t : Placed) (n : NetAt) (ss : List Stretch) (size : ℕ) → ss ≡ n.form.joined → size ≡ row_size n.form.array → ReadNet s t n → MeansEndsIn s size (all n.ends) ss
+net_ends_mean s t n ss size e d r = subst (λ v. MeansEndsIn s size v ss) (sym r.nodes) (net_ends_are s t n ss size e d r)
 
-pub net_ends_fit : (rows : List Row) (s : Surroundings) (t : Placed) (n : NetAt) (ss : List Stretch) (size : ℕ) → ss ≡ n.form.joined → size ≡ row_size n.form.array → size < 2 ^ 32 → ReadNet rows s t n → All (λ x. x.first + size ≤ 2 ^ 32) ss
-net_ends_fit rows s t n ss size e d l r =
+pub net_ends_count : (s : Surroundings) (t : Placed) (n : NetAt) (ss : List Stretch) (size : ℕ) → ss ≡ n.form.joined → size ≡ row_size n.form.array → ReadNet s t n → length (all n.ends) ≡ length ss
+net_ends_count s t n ss size e d r =
+    ap length r.nodes
+    ∙ zip_length (λ u x. MeansEnd s.libs.now.libs s.ports.now s.insts.now (bare u) x × (x.width ≡ size)) (ends_in t) ss (net_ends_are s t n ss size e d r)
+
+pub net_ends_fit : (s : Surroundings) (t : Placed) (n : NetAt) (ss : List Stretch) (size : ℕ) → ss ≡ n.form.joined → size ≡ row_size n.form.array → size < 2 ^ 32 → ReadNet s t n → All (λ x. x.first + size ≤ 2 ^ 32) ss
+net_ends_fit s t n ss size e d l r =
     let P : List Stretch → Type 0 = λ v. AllByRecursion (λ x. x.first < 2 ^ 32) v in
     All-from_recursion (λ x. x.first + size ≤ 2 ^ 32) ss
-    (all_fit s.libs.now.libs s.ports.now s.insts.now (ends_in t) ss size (net_ends_are rows s t n ss size e d r) l (subst P (sym e) (recursion_from_All (λ x. x.first < 2 ^ 32) n.form.joined r.within)))
+    (all_fit s.libs.now.libs s.ports.now s.insts.now (ends_in t) ss size (net_ends_are s t n ss size e d r) l (subst P (sym e) (recursion_from_All (λ x. x.first < 2 ^ 32) n.form.joined r.within)))
 
 -- a further row, with its ends
 row_refs : (s : Surroundings) (t : Placed) (n : NetForm) (size : ℕ) → MeansNetIn s (bare t) n → size ≡ row_size n.array → row_ends t ≡ row_of size (ends_in t)
@@ -161,26 +158,26 @@ row_counts s t n size h d = ap (λ v. repeated (λ u. v) (ends_in t)) (net_decla
 row_ends_joined : (n : NetForm) (ss : List Stretch) (size : ℕ) → ss ≡ n.joined → size ≡ row_size n.array → ends_of (nets_of n) ≡ bits_of_row size ss
 row_ends_joined n ss size e d = row_bits n 0 (row_size n.array) ∙ (ap (λ v. bits_of_row v n.joined) (sym d) ∙ ap (bits_of_row size) (sym e))
 
-pub nets_push : (s : Surroundings) {rows : List Row} {id : NodeId} (ts : List Placed) (i : ℕ) (step : Step rows ts i id) (xs ys : List design.Net) (r : NetAt) (ss : List Stretch) (size : ℕ) (ns ms : List (List ℕ × ℕ)) (js ks : List (design.End × ℕ))
-    → has_keyword keywords.Net (bare step.tree) ≡ true → ReadNet rows s step.tree r → ss ≡ r.form.joined → size ≡ row_size r.form.array → length xs + size ≤ 1048576 → RowAdded r.form r.place ns xs ms ys
-    → AreJoinedIn s (refs_in (take i ts) ++ row_of size (ends_in step.tree)) (ends_of xs ++ bits_of_row size ss) ks → NetsSoFar s (take i ts) xs ns js → NetsSoFar s (take (suc i) ts) ys ms ks
-nets_push s ts i step xs ys r ss size ns ms js ks h a e d l b j f =
-    let more : those_of keywords.Net (take (suc i) ts) ≡ those_of keywords.Net (take i ts) ++ step.tree ∷ [] = kept keywords.Net ts i step h in
-    let refs : refs_in (take (suc i) ts) ≡ refs_in (take i ts) ++ row_of size (ends_in step.tree) =
-    ap (flat_map row_ends) more ∙ (flat_push row_ends (those_of keywords.Net (take i ts)) step.tree ∙ ap (λ v. refs_in (take i ts) ++ v) (row_refs s step.tree r.form size a.mean d)) in
+pub nets_push : (s : Surroundings) (ts : List Placed) (t : Placed) (xs ys : List design.Net) (r : NetAt) (ss : List Stretch) (size : ℕ) (ns ms : List (List ℕ × ℕ)) (js ks : List (design.End × ℕ))
+    → has_keyword keywords.Net (bare t) ≡ true → ReadNet s t r → ss ≡ r.form.joined → size ≡ row_size r.form.array → length xs + size ≤ 1048576 → RowAdded r.form r.place ns xs ms ys
+    → AreJoinedIn s (refs_in ts ++ row_of size (ends_in t)) (ends_of xs ++ bits_of_row size ss) ks → NetsSoFar s ts xs ns js → NetsSoFar s (ts ++ t ∷ []) ys ms ks
+nets_push s ts t xs ys r ss size ns ms js ks h a e d l b j f =
+    let more : those_of keywords.Net (ts ++ t ∷ []) ≡ those_of keywords.Net ts ++ t ∷ [] = those_keep keywords.Net ts t h in
+    let refs : refs_in (ts ++ t ∷ []) ≡ refs_in ts ++ row_of size (ends_in t) =
+    ap (flat_map row_ends) more ∙ (flat_push row_ends (those_of keywords.Net ts) t ∙ ap (λ v. refs_in ts ++ v) (row_refs s t r.form size a.mean d)) in
     let ends : ends_of ys ≡ ends_of xs ++ bits_of_row size ss =
     ap ends_of b.nets ∙ (flat_append (λ (n : design.Net). n.ends) xs (nets_of r.form) ∙ ap (λ v. ends_of xs ++ v) (row_ends_joined r.form ss size e d)) in
-    let names : names_in (take (suc i) ts) ≡ names_in (take i ts) ++ row_names r.form r.place =
-    ap (flat_map net_names_in) more ∙ (flat_push net_names_in (those_of keywords.Net (take i ts)) step.tree
-    ∙ ap (λ v. names_in (take i ts) ++ v) (names_read s.libs.now.libs s.ports.now s.insts.now step.tree r.form r.place a.mean a.named)) in
+    let names : names_in (ts ++ t ∷ []) ≡ names_in ts ++ row_names r.form r.place =
+    ap (flat_map net_names_in) more ∙ (flat_push net_names_in (those_of keywords.Net ts) t
+    ∙ ap (λ v. names_in ts ++ v) (names_read s.libs.now.libs s.ports.now s.insts.now t r.form r.place a.mean a.named)) in
     let M : List Placed → Type 0 = λ v. AreMeant s v (f.forms ++ r.form ∷ []) in
     let P : List (Placed × ℕ × ℕ) → Type 0 = λ v. AreJoinedIn s v (ends_of xs ++ bits_of_row size ss) ks in
-    let Q : List design.End → Type 0 = λ v. AreJoinedIn s (refs_in (take (suc i) ts)) v ks in
+    let Q : List design.End → Type 0 = λ v. AreJoinedIn s (refs_in (ts ++ t ∷ [])) v ks in
     let c : length ys ≡ length xs + length (nets_of r.form) = ap length b.nets ∙ length-append xs (nets_of r.form) in
     let k : length (nets_of r.form) ≡ row_size r.form.array = length_numbered (net_at r.form) 0 (row_size r.form.array) in
     record {
       forms = f.forms ++ r.form ∷ [];
-      mean = subst M (sym more) (zip_append (λ u n. MeansNetIn s (bare u) n) (those_of keywords.Net (take i ts)) f.forms (step.tree ∷ []) (r.form ∷ []) f.mean (a.mean, tt));
+      mean = subst M (sym more) (zip_append (λ u n. MeansNetIn s (bare u) n) (those_of keywords.Net ts) f.forms (t ∷ []) (r.form ∷ []) f.mean (a.mean, tt));
       fine = all_push FineForm f.forms r.form f.fine a.fine;
       nets = b.nets ∙ (ap (λ v. v ++ nets_of r.form) f.nets ∙ sym (flat_push nets_of f.forms r.form));
       names = b.names ∙ (ap (λ v. v ++ row_names r.form r.place) f.names ∙ sym names);
@@ -189,10 +186,10 @@ nets_push s ts i step xs ys r ss size ns ms js ks h a e d l b j f =
       joins = subst Q (sym ends) (subst P (sym refs) j);
     }
 
-pub nets_skip : (s : Surroundings) {rows : List Row} {id : NodeId} (ts : List Placed) (i : ℕ) (step : Step rows ts i id) (xs : List design.Net) (ns : List (List ℕ × ℕ)) (js : List (design.End × ℕ))
-    → has_keyword keywords.Net (bare step.tree) ≡ false → NetsSoFar s (take i ts) xs ns js → NetsSoFar s (take (suc i) ts) xs ns js
-nets_skip s ts i step xs ns js h f =
-    let same : those_of keywords.Net (take (suc i) ts) ≡ those_of keywords.Net (take i ts) = skipped keywords.Net ts i step h in
+pub nets_skip : (s : Surroundings) (ts : List Placed) (t : Placed) (xs : List design.Net) (ns : List (List ℕ × ℕ)) (js : List (design.End × ℕ))
+    → has_keyword keywords.Net (bare t) ≡ false → NetsSoFar s ts xs ns js → NetsSoFar s (ts ++ t ∷ []) xs ns js
+nets_skip s ts t xs ns js h f =
+    let same : those_of keywords.Net (ts ++ t ∷ []) ≡ those_of keywords.Net ts = those_skip keywords.Net ts t h in
     let M : List Placed → Type 0 = λ v. AreMeant s v f.forms in
     let P : List (Placed × ℕ × ℕ) → Type 0 = λ v. AreJoinedIn s v (ends_of xs) js in
     record {
@@ -207,47 +204,47 @@ nets_skip s ts i step xs ns js h f =
     }
 
 -- what is wrong with the ends of the next row
-pub ends_fail : (s : Surroundings) {rows : List Row} {id : NodeId} (ts : List Placed) (i : ℕ) (step : Step rows ts i id) (n : NetForm) (size : ℕ) (f : MeaningFault) → has_keyword keywords.Net (bare step.tree) ≡ true → MeansNetIn s (bare step.tree) n → size ≡ row_size n.array
-    → RowEndsFaultIn s (refs_in (take i ts) ++ row_of size (ends_in step.tree)) (counted_in (take i ts) ++ repeated (λ u. size) (ends_in step.tree)) f → NetsFaultIn s (those_of keywords.Net ts) f
-ends_fail s ts i step n size f h m d b =
-    let before : List Placed = those_of keywords.Net (take i ts) in
-    let after : List Placed = those_of keywords.Net (drop (suc i) ts) in
-    let refs : refs_in ts ≡ (refs_in (take i ts) ++ row_of size (ends_in step.tree)) ++ flat_map row_ends after =
-    ap (flat_map row_ends) (here keywords.Net ts i step h) ∙ (flat_here row_ends before after step.tree ∙ ap (λ v. (refs_in (take i ts) ++ v) ++ flat_map row_ends after) (row_refs s step.tree n size m d)) in
-    let counts : counted_in ts ≡ (counted_in (take i ts) ++ repeated (λ u. size) (ends_in step.tree)) ++ flat_map counted_ends after =
-    ap (flat_map counted_ends) (here keywords.Net ts i step h) ∙ (flat_here counted_ends before after step.tree ∙ ap (λ v. (counted_in (take i ts) ++ v) ++ flat_map counted_ends after) (row_counts s step.tree n size m d)) in
+pub ends_fail : (s : Surroundings) (ts before rest : List Placed) (t : Placed) (n : NetForm) (size : ℕ) (f : MeaningFault) → those_of keywords.Net ts ≡ those_of keywords.Net before ++ t ∷ those_of keywords.Net rest → MeansNetIn s (bare t) n → size ≡ row_size n.array
+    → RowEndsFaultIn s (refs_in before ++ row_of size (ends_in t)) (counted_in before ++ repeated (λ u. size) (ends_in t)) f → NetsFaultIn s (those_of keywords.Net ts) f
+ends_fail s ts before rest t n size f h m d b =
+    let us : List Placed = those_of keywords.Net before in
+    let after : List Placed = those_of keywords.Net rest in
+    let refs : refs_in ts ≡ (refs_in before ++ row_of size (ends_in t)) ++ flat_map row_ends after =
+    ap (flat_map row_ends) h ∙ (flat_here row_ends us after t ∙ ap (λ v. (refs_in before ++ v) ++ flat_map row_ends after) (row_refs s t n size m d)) in
+    let counts : counted_in ts ≡ (counted_in before ++ repeated (λ u. size) (ends_in t)) ++ flat_map counted_ends after =
+    ap (flat_map counted_ends) h ∙ (flat_here counted_ends us after t ∙ ap (λ v. (counted_in before ++ v) ++ flat_map counted_ends after) (row_counts s t n size m d)) in
     let P : List (Placed × ℕ × ℕ) → Type 0 = λ v. AtTwo (SameEnd s.libs.now.libs s.ports.now s.insts.now f) v in
     let Q : List Placed → Type 0 = λ v. Beyond 4194304 v f in
-    elim (b (flat_map row_ends after) (flat_map counted_ends after)) [ inl t ↦ inr (inl (subst P (sym refs) t)) | inr o ↦ inr (inr (inr (inr (subst Q (sym counts) o)))) ]
+    elim (b (flat_map row_ends after) (flat_map counted_ends after)) [ inl x ↦ inr (inl (subst P (sym refs) x)) | inr o ↦ inr (inr (inr (inr (subst Q (sym counts) o)))) ]
 
 -- a name of the next row that is there already
-pub names_fail : (s : Surroundings) {rows : List Row} {id : NodeId} (ts : List Placed) (i : ℕ) (step : Step rows ts i id) (r : NetAt) (ns : List (List ℕ × ℕ)) (f : MeaningFault) → has_keyword keywords.Net (bare step.tree) ≡ true → ReadNet rows s step.tree r → ns ≡ names_in (take i ts)
+pub names_fail : (s : Surroundings) (ts before rest : List Placed) (t : Placed) (r : NetAt) (ns : List (List ℕ × ℕ)) (f : MeaningFault) → those_of keywords.Net ts ≡ those_of keywords.Net before ++ t ∷ those_of keywords.Net rest → ReadNet s t r → ns ≡ names_in before
     → RowNameFault r.form r.place ns f → NetsFaultIn s (those_of keywords.Net ts) f
-names_fail s ts i step r ns f h a e b =
-    let before : List Placed = those_of keywords.Net (take i ts) in
-    let after : List Placed = those_of keywords.Net (drop (suc i) ts) in
-    let row : net_names_in step.tree ≡ row_names r.form r.place = names_read s.libs.now.libs s.ports.now s.insts.now step.tree r.form r.place a.mean a.named in
+names_fail s ts before rest t r ns f h a e b =
+    let us : List Placed = those_of keywords.Net before in
+    let after : List Placed = those_of keywords.Net rest in
+    let row : net_names_in t ≡ row_names r.form r.place = names_read s.libs.now.libs s.ports.now s.insts.now t r.form r.place a.mean a.named in
     let names : names_in ts ≡ (ns ++ row_names r.form r.place) ++ flat_map net_names_in after =
-    ap (flat_map net_names_in) (here keywords.Net ts i step h) ∙ (flat_here net_names_in before after step.tree
-    ∙ (ap (λ v. (names_in (take i ts) ++ v) ++ flat_map net_names_in after) row ∙ ap (λ v. (v ++ row_names r.form r.place) ++ flat_map net_names_in after) (sym e))) in
+    ap (flat_map net_names_in) h ∙ (flat_here net_names_in us after t
+    ∙ (ap (λ v. (names_in before ++ v) ++ flat_map net_names_in after) row ∙ ap (λ v. (v ++ row_names r.form r.place) ++ flat_map net_names_in after) (sym e))) in
     let P : List (List ℕ × ℕ) → Type 0 = λ v. AtTwo (SameOfTwo f) v in
     inr (inr (inl (subst P (sym names) (b (flat_map net_names_in after)))))
 
 -- a row beyond the limit
-pub nets_beyond : (s : Surroundings) {rows : List Row} {id : NodeId} (ts : List Placed) (i : ℕ) (step : Step rows ts i id) (xs : List design.Net) (n : NetForm) (size place : ℕ) (ns : List (List ℕ × ℕ)) (js : List (design.End × ℕ))
-    → has_keyword keywords.Net (bare step.tree) ≡ true → MeansNetIn s (bare step.tree) n → size ≡ row_size n.array → place ≡ place_of step.tree → 1048576 < length xs + size → NetsSoFar s (take i ts) xs ns js → NetsFaultIn s (those_of keywords.Net ts) (OverLimit 1048576 place)
-nets_beyond s ts i step xs n size place ns js h m d p l f =
-    let before : List Placed = those_of keywords.Net (take i ts) in
-    let after : List Placed = those_of keywords.Net (drop (suc i) ts) in
-    let counts : repeated declared_width (those_of keywords.Net ts) ≡ (repeated declared_width before ++ replicate (declared_width step.tree) step.tree) ++ repeated declared_width after =
-    ap (repeated declared_width) (here keywords.Net ts i step h) ∙ flat_here (λ t. replicate (declared_width t) t) before after step.tree in
-    let c : length (repeated declared_width before) ≡ length (flat_map nets_of f.forms) = nets_counted s.libs.now.libs s.ports.now s.insts.now before f.forms f.mean in
+pub nets_beyond : (s : Surroundings) (ts before rest : List Placed) (t : Placed) (xs : List design.Net) (n : NetForm) (size place : ℕ) (ns : List (List ℕ × ℕ)) (js : List (design.End × ℕ))
+    → those_of keywords.Net ts ≡ those_of keywords.Net before ++ t ∷ those_of keywords.Net rest → MeansNetIn s (bare t) n → size ≡ row_size n.array → place ≡ place_of t → 1048576 < length xs + size → NetsSoFar s before xs ns js → NetsFaultIn s (those_of keywords.Net ts) (OverLimit 1048576 place)
+nets_beyond s ts before rest t xs n size place ns js h m d p l f =
+    let us : List Placed = those_of keywords.Net before in
+    let after : List Placed = those_of keywords.Net rest in
+    let counts : repeated declared_width (those_of keywords.Net ts) ≡ (repeated declared_width us ++ replicate (declared_width t) t) ++ repeated declared_width after =
+    ap (repeated declared_width) h ∙ flat_here (λ u. replicate (declared_width u) u) us after t in
+    let c : length (repeated declared_width us) ≡ length (flat_map nets_of f.forms) = nets_counted s.libs.now.libs s.ports.now s.insts.now us f.forms f.mean in
     let k : length xs ≡ length (flat_map nets_of f.forms) = ap length f.nets in
-    let w : declared_width step.tree ≡ row_size n.array = net_declares s.libs.now.libs s.ports.now s.insts.now step.tree n m in
-    let a : length (repeated declared_width before) ≤ 1048576 = let g = f.count in omega (arith, c, k, g) in
-    let b : 1048576 < length (repeated declared_width before) + declared_width step.tree = omega (arith, c, k, w, d, l) in
+    let w : declared_width t ≡ row_size n.array = net_declares s.libs.now.libs s.ports.now s.insts.now t n m in
+    let a : length (repeated declared_width us) ≤ 1048576 = let g = f.count in omega (arith, c, k, g) in
+    let b : 1048576 < length (repeated declared_width us) + declared_width t = omega (arith, c, k, w, d, l) in
     let P : List Placed → Type 0 = λ v. Beyond 1048576 v (OverLimit 1048576 place) in
-    inr (inr (inr (inl (subst P (sym counts) (beyond_row 1048576 (declared_width step.tree) place (repeated declared_width before) (repeated declared_width after) step.tree a b p)))))
+    inr (inr (inr (inl (subst P (sym counts) (beyond_row 1048576 (declared_width t) place (repeated declared_width us) (repeated declared_width after) t a b p)))))
 
 -- names alone, beside the nets that they name
 names_are : (ns : List (List ℕ × ℕ)) (xs : List design.Net) → AllZip GivesName ns xs → ids ns ≡ map net_name xs
@@ -256,31 +253,26 @@ names_are [] (x ∷ xs) h = absurd h
 names_are (n ∷ ns) [] h = absurd h
 names_are (n ∷ ns) (x ∷ xs) h = cc (h.0, names_are ns xs h.1)
 
-pub nets_end : (s : Surroundings) (rows : List Row) (nodes : List NodeId) (ts : List Placed) (i : ℕ) (xs : List design.Net) (ns : List (List ℕ × ℕ)) (js : List (design.End × ℕ)) → Stand rows nodes ts → i ≡ length nodes → NetsSoFar s (take i ts) xs ns js → ReadNets s ts xs
-nets_end s rows nodes ts i xs ns js st e f =
-    let P : List Placed → Type 0 = λ v. NetsSoFar s v xs ns js in
-    all_read s ts xs ns js (subst P (ap (λ n. take n ts) e ∙ take_all rows nodes ts st) f)
-  where
-    all_read : (s : Surroundings) (ts : List Placed) (xs : List design.Net) (ns : List (List ℕ × ℕ)) (js : List (design.End × ℕ)) → NetsSoFar s ts xs ns js → ReadNets s ts xs
-    all_read s ts xs ns js g =
-        let us : List Placed = those_of keywords.Net ts in
-        let D : List design.End → Type 0 = AreDistinct in
-        let N : List (List ℕ) → Type 0 = AreDistinct in
-        let R : List Bare → Type 0 = λ v. Each (MeansNetIn s) v g.forms in
-        let F : List design.Net → Type 0 = λ v. AllByRecursion IsFine v in
-        let l : length (bits js) ≡ length js = map_length (λ (j : design.End × ℕ). j.0) js in
-        let m : length (bits js) ≡ length (ends_of xs) = ap length g.joins.ends in
-        let n : length js ≤ 4194304 = g.joins.count in
-        let z : AllZip GivesName (names_in ts) (flat_map nets_of g.forms) =
-        zip_flat (λ u n. MeansNetIn s (bare u) n) GivesName net_names_in nets_of (λ u n h. net_names_are s.libs.now.libs s.ports.now s.insts.now u n h) us g.forms g.mean in
-        let named : ids ns ≡ map net_name xs = ap ids g.names ∙ (names_are (names_in ts) (flat_map nets_of g.forms) z ∙ ap (map net_name) (sym g.nets)) in
-        record {
-          rows = g.forms;
-          mean = subst R (filter_bare (has_keyword keywords.Net) ts) (each_bare (MeansNetIn s) us g.forms g.mean);
-          nets = g.nets;
-          fine = All-from_recursion IsFine xs (subst F (sym g.nets) (rows_fine g.forms g.fine));
-          names = subst N named g.distinct;
-          count = g.count;
-          ends = omega (arith, l, m, n);
-          joined_once = subst D g.joins.ends g.joins.distinct;
-        }
+pub nets_end : (s : Surroundings) (ts : List Placed) (xs : List design.Net) (ns : List (List ℕ × ℕ)) (js : List (design.End × ℕ)) → NetsSoFar s ts xs ns js → ReadNets s ts xs
+nets_end s ts xs ns js g =
+    let us : List Placed = those_of keywords.Net ts in
+    let D : List design.End → Type 0 = AreDistinct in
+    let N : List (List ℕ) → Type 0 = AreDistinct in
+    let R : List Bare → Type 0 = λ v. Each (MeansNetIn s) v g.forms in
+    let F : List design.Net → Type 0 = λ v. AllByRecursion IsFine v in
+    let l : length (bits js) ≡ length js = map_length (λ (j : design.End × ℕ). j.0) js in
+    let m : length (bits js) ≡ length (ends_of xs) = ap length g.joins.ends in
+    let n : length js ≤ 4194304 = g.joins.count in
+    let z : AllZip GivesName (names_in ts) (flat_map nets_of g.forms) =
+    zip_flat (λ u n. MeansNetIn s (bare u) n) GivesName net_names_in nets_of (λ u n h. net_names_are s.libs.now.libs s.ports.now s.insts.now u n h) us g.forms g.mean in
+    let named : ids ns ≡ map net_name xs = ap ids g.names ∙ (names_are (names_in ts) (flat_map nets_of g.forms) z ∙ ap (map net_name) (sym g.nets)) in
+    record {
+      rows = g.forms;
+      mean = subst R (filter_bare (has_keyword keywords.Net) ts) (each_bare (MeansNetIn s) us g.forms g.mean);
+      nets = g.nets;
+      fine = All-from_recursion IsFine xs (subst F (sym g.nets) (rows_fine g.forms g.fine));
+      names = subst N named g.distinct;
+      count = g.count;
+      ends = omega (arith, l, m, n);
+      joined_once = subst D g.joins.ends g.joins.distinct;
+    }

@@ -17,9 +17,6 @@ use Rattle.edif_spec.specs.Stands.{MeansRowEnd, SameEnd}
 use Rattle.edif_spec.specs.declared.fault.ClashKind.TheVariants.{EndTwice}
 use Rattle.edif_spec.specs.declared.fault.MeaningFault.{MeaningFault}
 use Rattle.edif_spec.specs.declared.fault.MeaningFault.TheVariants.{Clash, OverLimit}
-use Rattle.edif_tree.specs.Nodes.{Row, IsAt}
-use Rattle.edif_tree.specs.declared.node.NodeId.{NodeId}
-use Rattle.edif_grammar.specs.Forms.{Stand}
 use Rattle.edif_contents.specs.Joins.{bits, row_of, Joined, IsTwice, AreJoined}
 use Rattle.edif_parts.proofs.NameLists.{none_distinct, distinct_push}
 
@@ -32,24 +29,19 @@ abbrev pub MeanRow : List design.Lib → List design.Port → List design.Inst �
 MeanRow libs ports insts size us ss = AllZip (λ u s. MeansEnd libs ports insts (bare u) s × (s.width ≡ size)) us ss
 
 -- the end at the next node, with what it means
-pub record EndStep (libs : List design.Lib) (ports : List design.Port) (insts : List design.Inst) (rows : List Row) (k size : ℕ) (us : List Placed) (ss : List Stretch) (i : ℕ) (id : NodeId) (s : Stretch) : Type 0 where
-  pub tree : Placed
-  pub at : IsAt rows id tree
-  pub mean : MeansRowEnd libs ports insts (tree, k, size) (end_of k s)
-  pub taken : take (suc i) (net_row k size us) ≡ take i (net_row k size us) ++ (tree, k, size) ∷ []
-  pub whole : net_row k size us ≡ take i (net_row k size us) ++ (tree, k, size) ∷ drop (suc i) (net_row k size us)
+pub record EndStep (libs : List design.Lib) (ports : List design.Port) (insts : List design.Inst) (k size : ℕ) (us : List Placed) (ss : List Stretch) (i : ℕ) (t : Placed) (s : Stretch) : Type 0 where
+  pub mean : MeansRowEnd libs ports insts (t, k, size) (end_of k s)
+  pub taken : take (suc i) (net_row k size us) ≡ take i (net_row k size us) ++ (t, k, size) ∷ []
+  pub whole : net_row k size us ≡ take i (net_row k size us) ++ (t, k, size) ∷ drop (suc i) (net_row k size us)
   pub ends_taken : take (suc i) (map (end_of k) ss) ≡ take i (map (end_of k) ss) ++ end_of k s ∷ []
 
-pub end_step : (libs : List design.Lib) (ports : List design.Port) (insts : List design.Inst) (rows : List Row) (ids : List NodeId) (k size : ℕ) (us : List Placed) (ss : List Stretch) (i : ℕ) (d : NodeId) (z : Stretch)
-    → Stand rows ids us → MeanRow libs ports insts size us ss → i < length ss → EndStep libs ports insts rows k size us ss i (get_or ids i d) (get_or ss i z)
-end_step libs ports insts rows ids k size [] [] i d z st m l = absurd (omega arith)
-end_step libs ports insts rows ids k size [] (s ∷ ss) i d z st m l = absurd m
-end_step libs ports insts rows ids k size (u ∷ us) [] i d z st m l = absurd m
-end_step libs ports insts rows [] k size (u ∷ us) (s ∷ ss) i d z st m l = absurd st
-end_step libs ports insts rows (id ∷ ids) k size (u ∷ us) (s ∷ ss) zero d z st m l = record { tree = u; at = st.0; mean = (s, m.0.0, m.0.1, refl); taken = refl; whole = refl; ends_taken = refl }
-end_step libs ports insts rows (id ∷ ids) k size (u ∷ us) (s ∷ ss) (suc i) d z st m l =
-    let r = end_step libs ports insts rows ids k size us ss i d z st.1 m.1 (omega arith) in
-    record { tree = r.tree; at = r.at; mean = r.mean; taken = ap (λ v. (u, k, size) ∷ v) r.taken; whole = ap (λ v. (u, k, size) ∷ v) r.whole; ends_taken = ap (λ v. end_of k s ∷ v) r.ends_taken }
+pub end_step : (libs : List design.Lib) (ports : List design.Port) (insts : List design.Inst) (k size : ℕ) (us : List Placed) (ss : List Stretch) (i : ℕ) (t : Placed) (z : Stretch) → MeanRow libs ports insts size us ss → slice_get us i ≡ Some t → EndStep libs ports insts k size us ss i t (get_or ss i z)
+end_step libs ports insts k size [] ss i t z m e = absurd (cc e)
+end_step libs ports insts k size (u ∷ us) [] i t z m e = absurd m
+end_step libs ports insts k size (u ∷ us) (s ∷ ss) zero t z m e = let w : u ≡ t = cc e in subst (λ v. EndStep libs ports insts k size (u ∷ us) (s ∷ ss) zero v s) w (record { mean = (s, m.0.0, m.0.1, refl); taken = refl; whole = refl; ends_taken = refl })
+end_step libs ports insts k size (u ∷ us) (s ∷ ss) (suc i) t z m e =
+    let r = end_step libs ports insts k size us ss i t z m.1 e in
+    record { mean = r.mean; taken = ap (λ v. (u, k, size) ∷ v) r.taken; whole = ap (λ v. (u, k, size) ∷ v) r.whole; ends_taken = ap (λ v. end_of k s ∷ v) r.ends_taken }
 
 -- Lists.
 pub zip_push : {A B : Type 0} (R : A → B → Type 0) (xs : List A) (ys : List B) (x : A) (y : B) → AllZip R xs ys → R x y → AllZip R (xs ++ x ∷ []) (ys ++ y ∷ [])
@@ -71,22 +63,6 @@ take_whole (x ∷ xs) = ap (λ v. x ∷ v) (take_whole xs)
 map_count : {A B : Type 0} (f : A → B) (xs : List A) → length (map f xs) ≡ length xs
 map_count f [] = refl
 map_count f (x ∷ xs) = ap suc (map_count f xs)
-
-pub taken_count : {A B : Type 0} (R : A → B → Type 0) (xs : List A) (ys : List B) (i : ℕ) → AllZip R xs ys → i < length xs → length (take i ys) ≡ i
-taken_count R [] ys i h l = absurd (omega (arith, l))
-taken_count R (x ∷ xs) [] i h l = absurd h
-taken_count R (x ∷ xs) (y ∷ ys) zero h l = refl
-taken_count R (x ∷ xs) (y ∷ ys) (suc i) h l = ap suc (taken_count R xs ys i h.1 (omega (arith, l)))
-
-get_here : {A : Type 0} (xs ys : List A) (y : A) → slice_get (xs ++ y ∷ ys) (length xs) ≡ Some y
-get_here [] ys y = refl
-get_here (x ∷ xs) ys y = get_here xs ys y
-
--- more forms than allowed, at the first one beyond
-pub beyond_here : (limit n place : ℕ) (ts us : List Placed) (t : Placed) → length ts ≡ n → n ≤ limit → limit ≤ n → place ≡ place_of t → Beyond limit (ts ++ t ∷ us) (OverLimit limit place)
-beyond_here limit n place ts us t c a b p =
-    let e : length ts ≡ limit = omega arith in
-    (t, ap (λ v. slice_get (ts ++ t ∷ us) v) (sym e) ∙ get_here ts us t, ap (λ v. OverLimit limit v) p)
 
 -- one of the list, and then this one
 two_here : {A : Type 0} (R : A → A → Type 0) (xs ys : List A) (y : A) → AtOne (λ x. R x y) xs → AtTwo R (xs ++ y ∷ ys)
@@ -132,16 +108,16 @@ joined_push libs ports insts ts es js new t e place h m p n l =
     })
 
 -- one more of the ends of a net
-pub joined_step : (libs : List design.Lib) (ports : List design.Port) (insts : List design.Inst) (rows : List Row) (id : NodeId) (k size : ℕ) (ts : List (Placed × ℕ × ℕ)) (us : List Placed) (es : List design.End) (ss : List Stretch) (js new : List (design.End × ℕ)) (i place : ℕ) (s : Stretch)
-    → (t : EndStep libs ports insts rows k size us ss i id s) → AreJoined libs ports insts (ts ++ take i (net_row k size us)) (es ++ take i (map (end_of k) ss)) js → place ≡ place_of t.tree → Joined js (end_of k s) place new → length js < 4194304
+pub joined_step : (libs : List design.Lib) (ports : List design.Port) (insts : List design.Inst) (k size : ℕ) (ts : List (Placed × ℕ × ℕ)) (us : List Placed) (es : List design.End) (ss : List Stretch) (js new : List (design.End × ℕ)) (i place : ℕ) (t : Placed) (s : Stretch)
+    → EndStep libs ports insts k size us ss i t s → AreJoined libs ports insts (ts ++ take i (net_row k size us)) (es ++ take i (map (end_of k) ss)) js → place ≡ place_of t → Joined js (end_of k s) place new → length js < 4194304
     → AreJoined libs ports insts (ts ++ take (suc i) (net_row k size us)) (es ++ take (suc i) (map (end_of k) ss)) new
-joined_step libs ports insts rows id k size ts us es ss js new i place s t h p n l =
+joined_step libs ports insts k size ts us es ss js new i place t s w h p n l =
     let e = end_of k s in
-    let a : (ts ++ take i (net_row k size us)) ++ (t.tree, k, size) ∷ [] ≡ ts ++ take (suc i) (net_row k size us) = append_assoc ts (take i (net_row k size us)) ((t.tree, k, size) ∷ []) ∙ ap (λ v. ts ++ v) (sym t.taken) in
-    let b : (es ++ take i (map (end_of k) ss)) ++ e ∷ [] ≡ es ++ take (suc i) (map (end_of k) ss) = append_assoc es (take i (map (end_of k) ss)) (e ∷ []) ∙ ap (λ v. es ++ v) (sym t.ends_taken) in
+    let a : (ts ++ take i (net_row k size us)) ++ (t, k, size) ∷ [] ≡ ts ++ take (suc i) (net_row k size us) = append_assoc ts (take i (net_row k size us)) ((t, k, size) ∷ []) ∙ ap (λ v. ts ++ v) (sym w.taken) in
+    let b : (es ++ take i (map (end_of k) ss)) ++ e ∷ [] ≡ es ++ take (suc i) (map (end_of k) ss) = append_assoc es (take i (map (end_of k) ss)) (e ∷ []) ∙ ap (λ v. es ++ v) (sym w.ends_taken) in
     let P : List (Placed × ℕ × ℕ) → Type 0 = λ v. AreJoined libs ports insts v ((es ++ take i (map (end_of k) ss)) ++ e ∷ []) new in
     let Q : List design.End → Type 0 = λ v. AreJoined libs ports insts (ts ++ take (suc i) (net_row k size us)) v new in
-    subst Q b (subst P a (joined_push libs ports insts (ts ++ take i (net_row k size us)) (es ++ take i (map (end_of k) ss)) js new (t.tree, k, size) e place h t.mean p n l))
+    subst Q b (subst P a (joined_push libs ports insts (ts ++ take i (net_row k size us)) (es ++ take i (map (end_of k) ss)) js new (t, k, size) e place h w.mean p n l))
 
 -- the whole list about the next of the ends
 around_here : {A : Type 0} (ts us rest : List A) (i : ℕ) (t : A) → us ≡ take i us ++ t ∷ drop (suc i) us → (ts ++ us) ++ rest ≡ (ts ++ take i us) ++ t ∷ (drop (suc i) us ++ rest)
@@ -149,17 +125,17 @@ around_here ts us rest i t e =
     ap (λ v. (ts ++ v) ++ rest) e ∙ (ap (λ v. v ++ rest) (sym (append_assoc ts (take i us) (t ∷ drop (suc i) us))) ∙ append_assoc (ts ++ take i us) (t ∷ drop (suc i) us) rest)
 
 -- an end of a net that is joined already
-pub joined_twice : (libs : List design.Lib) (ports : List design.Port) (insts : List design.Inst) (rows : List Row) (id : NodeId) (k size : ℕ) (ts rest : List (Placed × ℕ × ℕ)) (us : List Placed) (es : List design.End) (ss : List Stretch) (js : List (design.End × ℕ)) (i place : ℕ) (s : Stretch) (f : MeaningFault)
-    → (t : EndStep libs ports insts rows k size us ss i id s) → AreJoined libs ports insts (ts ++ take i (net_row k size us)) (es ++ take i (map (end_of k) ss)) js → place ≡ place_of t.tree → IsTwice js (end_of k s) place f
+pub joined_twice : (libs : List design.Lib) (ports : List design.Port) (insts : List design.Inst) (k size : ℕ) (ts rest : List (Placed × ℕ × ℕ)) (us : List Placed) (es : List design.End) (ss : List Stretch) (js : List (design.End × ℕ)) (i place : ℕ) (t : Placed) (s : Stretch) (f : MeaningFault)
+    → EndStep libs ports insts k size us ss i t s → AreJoined libs ports insts (ts ++ take i (net_row k size us)) (es ++ take i (map (end_of k) ss)) js → place ≡ place_of t → IsTwice js (end_of k s) place f
     → AtTwo (SameEnd libs ports insts f) ((ts ++ net_row k size us) ++ rest)
-joined_twice libs ports insts rows id k size ts rest us es ss js i place s f t h p w =
+joined_twice libs ports insts k size ts rest us es ss js i place t s f x h p w =
     let e = end_of k s in
-    let here : Placed × ℕ × ℕ = (t.tree, k, size) in
+    let here : Placed × ℕ × ℕ = (t, k, size) in
     let S : Placed × ℕ × ℕ → Placed × ℕ × ℕ → Type 0 = SameEnd libs ports insts f in
     let one : AtOne (λ u. S u here) (ts ++ take i (net_row k size us)) =
-    zip_contains (StandsFor libs ports insts) (λ u. S u here) (ts ++ take i (net_row k size us)) js (e, w.0) (λ u r. (e, r.0, t.mean, w.2 ∙ (ap (λ v. Clash EndTwice v w.0) p ∙ ap (λ v. Clash EndTwice (place_of t.tree) v) r.1))) h.mean w.1 in
+    zip_contains (StandsFor libs ports insts) (λ u. S u here) (ts ++ take i (net_row k size us)) js (e, w.0) (λ u r. (e, r.0, x.mean, w.2 ∙ (ap (λ v. Clash EndTwice v w.0) p ∙ ap (λ v. Clash EndTwice (place_of t) v) r.1))) h.mean w.1 in
     let P : List (Placed × ℕ × ℕ) → Type 0 = λ v. AtTwo S v in
-    subst P (sym (around_here ts (net_row k size us) rest i here t.whole)) (two_here S (ts ++ take i (net_row k size us)) (drop (suc i) (net_row k size us) ++ rest) here one)
+    subst P (sym (around_here ts (net_row k size us) rest i here x.whole)) (two_here S (ts ++ take i (net_row k size us)) (drop (suc i) (net_row k size us) ++ rest) here one)
 
 -- at the end of a net
 pub joined_all : (libs : List design.Lib) (ports : List design.Port) (insts : List design.Inst) (k size : ℕ) (ts : List (Placed × ℕ × ℕ)) (us : List Placed) (es : List design.End) (ss : List Stretch) (js : List (design.End × ℕ)) (i : ℕ) → MeanRow libs ports insts size us ss → i ≡ length ss
@@ -252,18 +228,24 @@ count_repeated size (u ∷ us) =
     let m = suc-mul (length us) size in
     omega (arith, a, b, r, m)
 
-pub room_beyond : (limit joined size i place : ℕ) (us before rest : List Placed) (t : Placed) → us ≡ take i us ++ t ∷ drop (suc i) us → length (take i us) ≡ i → length before ≡ joined → joined + i * size ≤ limit → limit < (joined + i * size) + size → place ≡ place_of t
+pub count_more : (us : List Placed) (t : Placed) (size : ℕ) → length (us ++ t ∷ []) * size ≡ length us * size + size
+count_more us t size =
+    let a : length (us ++ t ∷ []) ≡ suc (length us) = length-append us (t ∷ []) ∙ omega arith in
+    let m = suc-mul (length us) size in
+    ap (λ n. n * size) a ∙ omega (arith, m)
+
+pub room_beyond : (limit joined size place : ℕ) (us seen left before rest : List Placed) (t : Placed) → us ≡ seen ++ t ∷ left → length before ≡ joined → joined + length seen * size ≤ limit → limit < (joined + length seen * size) + size → place ≡ place_of t
     → Beyond limit ((before ++ repeated (λ u. size) us) ++ rest) (OverLimit limit place)
-room_beyond limit joined size i place us before rest t whole short told low high p =
+room_beyond limit joined size place us seen left before rest t whole told low high p =
     let R : List Placed → List Placed = repeated (λ u. size) in
-    let A = R (take i us) in
+    let A = R seen in
     let B = replicate size t in
-    let C = R (drop (suc i) us) in
-    let n = limit - (joined + i * size) in
-    let parted : R us ≡ A ++ (B ++ C) = ap R whole ∙ flat_map-append (λ (u : Placed). replicate size u) (take i us) (t ∷ drop (suc i) us) in
+    let C = R left in
+    let n = limit - (joined + length seen * size) in
+    let parted : R us ≡ A ++ (B ++ C) = ap R whole ∙ flat_map-append (λ (u : Placed). replicate size u) seen (t ∷ left) in
     let all : (before ++ R us) ++ rest ≡ (before ++ A) ++ (B ++ (C ++ rest)) = ap (λ v. (before ++ v) ++ rest) parted ∙ simp append_assoc in
     let a = length-append before A in
-    let b : length A ≡ i * size = count_repeated size (take i us) ∙ ap (λ v. v * size) short in
+    let b : length A ≡ length seen * size = count_repeated size seen in
     let e : limit ≡ length (before ++ A) + n = omega (arith, a, b, told, low) in
     let l : n < size = omega (arith, low, high) in
     (t, ap (λ v. slice_get ((before ++ R us) ++ rest) v) e ∙ (ap (λ v. slice_get v (length (before ++ A) + n)) all ∙ (skip_front (before ++ A) (B ++ (C ++ rest)) n ∙ get_repeated t size n (C ++ rest) l)), ap (λ v. OverLimit limit v) p)

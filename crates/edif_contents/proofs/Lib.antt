@@ -1,6 +1,6 @@
 pub mod ContentsLemmas
 pub mod EndLemmas
-pub mod FixedNodes
+pub mod Followers
 pub mod InsideLoops
 pub mod InstLemmas
 pub mod JoinKeys

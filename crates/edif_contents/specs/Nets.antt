@@ -14,19 +14,18 @@ use Rattle.edif_spec.specs.Rows.{Each, IsFormOf, those}
 use Rattle.edif_spec.specs.Stands.{NetFault, SameEnd, counted_ends, ends_in, net_names_in, row_ends}
 use Rattle.edif_spec.specs.declared.fault.MeaningFault.{MeaningFault}
 use Rattle.edif_spec.specs.declared.keyword.Keyword.TheVariants as keywords
-use Rattle.edif_tree.specs.Nodes.{Row}
+use Rattle.edif_tree.specs.Handles.{all}
 use Rattle.edif_contents.specs.Ends.{ReadEnd}
-use Rattle.edif_grammar.specs.Forms.{Stand}
 use Rattle.edif_parts.specs.Names.{DefinesName, ids}
 use Rattle.edif_contents.specs.declared.ends.Surroundings.{Surroundings}
 use Rattle.edif_contents.specs.declared.nets.JoinedAt.{JoinedAt}
 use Rattle.edif_contents.specs.declared.nets.NetAt.{NetAt}
 
 -- What a net joins: the ends that its forms mean, and the nodes of these.
-pub record ReadJoined (rows : List Row) (s : Surroundings) (t : Placed) (j : JoinedAt) : Type 0 where
+pub record ReadJoined (s : Surroundings) (t : Placed) (j : JoinedAt) : Type 0 where
   pub form : IsFormOf keywords.Joined (bare t) [] (map bare (parts keywords.Joined keywords.PortRef t))
   pub ends : AllZip (ReadEnd s) (parts keywords.Joined keywords.PortRef t) j.ends
-  pub nodes : Stand rows j.nodes.now (parts keywords.Joined keywords.PortRef t)
+  pub nodes : all j.nodes ≡ parts keywords.Joined keywords.PortRef t
 
 -- what a net means as it is written, and what is wrong with one
 abbrev pub MeansNetIn : Surroundings → Bare → NetForm → Type 0
@@ -40,12 +39,12 @@ abbrev pub IsFine : design.Net → Type 0
 IsFine n = IsTypedNet n × HasDistinctKeys n.properties
 
 -- The net that a form means as it is written, whose bits begin at numbers of 32 bits; the place of its name, and the nodes of its ends.
-pub record ReadNet (rows : List Row) (s : Surroundings) (t : Placed) (n : NetAt) : Type 0 where
+pub record ReadNet (s : Surroundings) (t : Placed) (n : NetAt) : Type 0 where
   pub mean : MeansNetIn s (bare t) n.form
   pub fine : FineForm n.form
   pub within : All (λ s. s.first < 2 ^ 32) n.form.joined
   pub named : defined t ≡ Some (n.form.name.id, n.place)
-  pub nodes : Stand rows n.ends.now (ends_in t)
+  pub nodes : all n.ends ≡ ends_in t
 
 -- the names of the nets of a form, all at the place of the form's name
 abbrev pub row_names : NetForm → ℕ → List (List ℕ × ℕ)

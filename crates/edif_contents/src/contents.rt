@@ -1,11 +1,11 @@
 //! The contents of a cell: instances and nets.
 ghost use Rattle.std.specs.Prelude.{◌≡◌, true};
-ghost use Rattle.spelling_spec.specs.Tree.{Placed, bare};
+ghost use Rattle.spelling_spec.specs.Tree.{bare};
 ghost use Rattle.edif_spec.specs.Design as design;
 ghost use Rattle.edif_spec.specs.Rows.{has_keyword};
 ghost use Rattle.edif_spec.specs.Stands.{ContentsFault};
 ghost use Rattle.edif_spec.specs.declared.keyword.Keyword.TheVariants.{Contents as ContentsWord};
-ghost use Rattle.edif_tree.specs.Nodes.{IsAt, IsNode};
+ghost use Rattle.edif_tree.specs.Handles.{here};
 ghost use Rattle.edif_contents.specs.Insides.{ReadContents};
 ghost use Rattle.edif_parts.specs.Names.{ids};
 ghost use Rattle.edif_parts.specs.Reading.{Answers};
@@ -18,7 +18,7 @@ use edif_parts::error::EdifError;
 use edif_parts::names::Names;
 use edif_parts::parts::read_parts;
 use edif_spec::Keyword;
-use edif_tree::{NodeId, Tree};
+use edif_tree::Node;
 use netlist_schema::{Contents, Port, Row};
 use std::alloc::Global;
 
@@ -34,20 +34,18 @@ pub struct Inside {
 /// The contents that a form at a node means, in a cell with these ports, whose names are `names`, of the library `own`.
 pub fn read_contents(
     alloc: Global,
-    tree: &Tree,
-    node: NodeId,
+    node: Node<'_>,
     libs: &Libraries,
     own: Option<u32>,
     ports: &[Port],
     names: &Names,
 ) -> Result<Inside, EdifError>
-    requires node { IsNode tree.now.rows node }
-    requires keyword { (t : Placed) → IsAt tree.now.rows node t → has_keyword ContentsWord (bare t) ≡ true }
+    requires keyword { has_keyword ContentsWord (bare (here node)) ≡ true }
     requires names { ids names.now ≡ design.port_ids ports.now }
-    ensures { (t : Placed) → IsAt tree.now.rows node t → Answers (ReadContents libs.now.libs own ports.now t) (ContentsFault libs.now.libs own ports.now t) result }
+    ensures { Answers (ReadContents libs.now.libs own ports.now (here node.entry)) (ContentsFault libs.now.libs own ports.now (here node.entry)) result }
 {
-    let parts = read_parts(alloc, tree, node, Keyword::View, Keyword::Contents)?;
-    let insts = read_insts(alloc, tree, parts.inner, libs, own)?;
+    let parts = read_parts(alloc, node, Keyword::Contents)?;
+    let insts = read_insts(alloc, parts.inner, libs, own)?;
     let around = Surroundings {
         libs,
         ports,
@@ -55,7 +53,7 @@ pub fn read_contents(
         insts: insts.list.as_slice(),
         inst_names: &insts.names,
     };
-    let nets = read_nets(alloc, tree, parts.inner, &around)?;
+    let nets = read_nets(alloc, parts.inner, &around)?;
     let Insts { list, names } = insts;
     Ok(Inside {
         contents: Contents {

@@ -9,9 +9,8 @@ ghost use Rattle.edif_spec.specs.Means.{MeansBits, MeansInstRef, meant, width_at
 ghost use Rattle.edif_spec.specs.Rows.{Perhaps, has_keyword, is_one_of};
 ghost use Rattle.edif_spec.specs.Stands.{BitFault, InstRefFault};
 ghost use Rattle.edif_spec.specs.declared.keyword.Keyword.TheVariants.{InstanceRef, Member, PortRef};
-ghost use Rattle.edif_tree.specs.Nodes.{IsAt, IsNode};
+ghost use Rattle.edif_tree.specs.Handles.{here, all};
 ghost use Rattle.edif_contents.specs.Ends.{AreNamed, EndFaultIn, ReadEnd, ports_for};
-ghost use Rattle.edif_grammar.specs.Forms.{Stand};
 ghost use Rattle.edif_parts.specs.Names.{Tells, ids};
 ghost use Rattle.edif_parts.specs.Reading.{Answers};
 
@@ -23,7 +22,7 @@ use edif_parts::error::{EdifError, fault_at};
 use edif_parts::names::Names;
 use edif_parts::parts::{integer_at, read_parts};
 use edif_spec::{Keyword, Kind, Stretch};
-use edif_tree::{NodeId, Shape, Tree};
+use edif_tree::{Node, Nodes, Shape};
 use netlist_schema::{Ident, Inst, Port};
 use std::alloc::Global;
 
@@ -63,29 +62,23 @@ pub struct EndAt {
 }
 
 /// The place of the instance that a reference at a node means.
-fn read_inst_ref(alloc: Global, tree: &Tree, node: NodeId, names: &Names) -> Result<u32, EdifError>
-    requires node { IsNode tree.now.rows node }
-    requires keyword { (t : Placed) → IsAt tree.now.rows node t → has_keyword InstanceRef (bare t) ≡ true }
-    ensures { (t : Placed) (insts : List design.Inst) → IsAt tree.now.rows node t → ids names.now ≡ design.inst_ids insts → Answers (MeansInstRef insts (bare t)) (InstRefFault insts t) result }
+fn read_inst_ref(alloc: Global, node: Node<'_>, names: &Names) -> Result<u32, EdifError>
+    requires { has_keyword InstanceRef (bare (here node)) ≡ true }
+    ensures { (insts : List design.Inst) → ids names.now ≡ design.inst_ids insts → Answers (MeansInstRef insts (bare (here node.entry))) (InstRefFault insts (here node.entry)) result }
 {
-    let name = read_reference(alloc, tree, node, Keyword::PortRef, Keyword::InstanceRef)?;
+    let name = read_reference(alloc, node, Keyword::InstanceRef)?;
     resolve(names.meant(name.name), name.place)
 }
 
 /// The place of the instance that what follows the bit of an end means, where an instance follows.
-fn read_inst_among(
-    alloc: Global,
-    tree: &Tree,
-    inner: &[NodeId],
-    names: &Names,
-) -> Result<Option<u32>, EdifError>
-    requires { (ts : List Placed) × Stand tree.now.rows inner.now ts × AllByRecursion (λ u. has_keyword InstanceRef (bare u) ≡ true) ts × (length ts ≤ 1) }
-    ensures { (ts : List Placed) (insts : List design.Inst) → Stand tree.now.rows inner.now ts → ids names.now ≡ design.inst_ids insts
-        → Answers (Perhaps (MeansInstRef insts) (map bare ts)) (Among (InstRefFault insts) ts) result }
+fn read_inst_among(alloc: Global, inner: Nodes<'_>, names: &Names) -> Result<Option<u32>, EdifError>
+    requires { AllByRecursion (λ u. has_keyword InstanceRef (bare u) ≡ true) (all inner) × (length (all inner) ≤ 1) }
+    ensures { (insts : List design.Inst) → ids names.now ≡ design.inst_ids insts
+        → Answers (Perhaps (MeansInstRef insts) (map bare (all inner.entry))) (Among (InstRefFault insts) (all inner.entry)) result }
 {
-    match inner.first() {
-        Some(node) => {
-            let inst = read_inst_ref(alloc, tree, *node, names)?;
+    match inner.split_first() {
+        Some((node, _)) => {
+            let inst = read_inst_ref(alloc, node, names)?;
             Ok(Some(inst))
         }
         None => Ok(None),
@@ -160,65 +153,55 @@ fn whole_port(around: &Surroundings, inst: Option<u32>, name: Reference) -> Resu
 /// The bit that a member of a port means.
 fn read_member(
     alloc: Global,
-    tree: &Tree,
-    node: NodeId,
+    node: Node<'_>,
     around: &Surroundings,
     inst: Option<u32>,
 ) -> Result<Bits, EdifError>
-    requires node { IsNode tree.now.rows node }
-    requires keyword { (t : Placed) → IsAt tree.now.rows node t → has_keyword Member (bare t) ≡ true }
+    requires keyword { has_keyword Member (bare (here node)) ≡ true }
     requires names { AreNamed around.now }
-    ensures { (t : Placed) → IsAt tree.now.rows node t → Answers (λ b. MeansBits (ports_for around.now inst) (bare t) b.port b.first b.width) (BitFault (ports_for around.now inst) t) result }
+    ensures { Answers (λ b. MeansBits (ports_for around.now inst) (bare (here node.entry)) b.port b.first b.width) (BitFault (ports_for around.now inst) (here node.entry)) result }
 {
-    let parts = read_parts(alloc, tree, node, Keyword::PortRef, Keyword::Member)?;
-    let name = reference_at(tree, parts.fixed[0]);
+    let parts = read_parts(alloc, node, Keyword::Member)?;
+    let name = reference_at(parts.fixed.at(0));
     let port = resolve(port_meant(around, inst, name.name), name.place)?;
-    let index = parts.fixed[1];
-    match bit_below(integer_at(tree, index), port_width(around, inst, port)) {
+    let index = parts.fixed.at(1);
+    match bit_below(integer_at(index), port_width(around, inst, port)) {
         Some(first) => Ok(Bits {
             port,
             first,
             width: 1,
         }),
-        None => Err(fault_at(Kind::BadIndex, tree.place(index))),
+        None => Err(fault_at(Kind::BadIndex, index.place())),
     }
 }
 
 /// The bits that a port, or a member of one, at a node means.
 fn read_bits(
     alloc: Global,
-    tree: &Tree,
-    node: NodeId,
+    node: Node<'_>,
     around: &Surroundings,
     inst: Option<u32>,
 ) -> Result<Bits, EdifError>
-    requires node { IsNode tree.now.rows node }
-    requires choice { (t : Placed) → IsAt tree.now.rows node t → is_one_of (AnIdentifier ∷ AForm Member ∷ []) (bare t) ≡ true }
+    requires choice { is_one_of (AnIdentifier ∷ AForm Member ∷ []) (bare (here node)) ≡ true }
     requires names { AreNamed around.now }
-    ensures { (t : Placed) → IsAt tree.now.rows node t → Answers (λ b. MeansBits (ports_for around.now inst) (bare t) b.port b.first b.width) (BitFault (ports_for around.now inst) t) result }
+    ensures { Answers (λ b. MeansBits (ports_for around.now inst) (bare (here node.entry)) b.port b.first b.width) (BitFault (ports_for around.now inst) (here node.entry)) result }
 {
-    match tree.shape(node) {
-        Shape::Word(_) => whole_port(around, inst, reference_at(tree, node)),
-        _ => read_member(alloc, tree, node, around, inst),
+    match node.shape() {
+        Shape::Word(_) => whole_port(around, inst, reference_at(node)),
+        _ => read_member(alloc, node, around, inst),
     }
 }
 
 /// The end that a form at a node means, and where its bits are named.
-pub fn read_end(
-    alloc: Global,
-    tree: &Tree,
-    node: NodeId,
-    around: &Surroundings,
-) -> Result<EndAt, EdifError>
-    requires node { IsNode tree.now.rows node }
-    requires keyword { (t : Placed) → IsAt tree.now.rows node t → has_keyword PortRef (bare t) ≡ true }
+pub fn read_end(alloc: Global, node: Node<'_>, around: &Surroundings) -> Result<EndAt, EdifError>
+    requires keyword { has_keyword PortRef (bare (here node)) ≡ true }
     requires names { AreNamed around.now }
-    ensures { (t : Placed) → IsAt tree.now.rows node t → Answers (ReadEnd around.now t) (EndFaultIn around.now t) result }
+    ensures { Answers (ReadEnd around.now (here node.entry)) (EndFaultIn around.now (here node.entry)) result }
 {
-    let parts = read_parts(alloc, tree, node, Keyword::Joined, Keyword::PortRef)?;
-    let inst = read_inst_among(alloc, tree, parts.inner, around.inst_names)?;
-    let named = parts.fixed[0];
-    let found = read_bits(alloc, tree, named, around, inst)?;
+    let parts = read_parts(alloc, node, Keyword::PortRef)?;
+    let inst = read_inst_among(alloc, parts.inner, around.inst_names)?;
+    let named = parts.fixed.at(0);
+    let found = read_bits(alloc, named, around, inst)?;
     Ok(EndAt {
         stretch: Stretch {
             inst,
@@ -226,6 +209,6 @@ pub fn read_end(
             first: found.first,
             width: found.width,
         },
-        place: tree.place(named),
+        place: named.place(),
     })
 }

@@ -1,12 +1,11 @@
 //! Instances.
-ghost use Rattle.std.specs.Prelude.{◌≡◌, List, true};
-ghost use Rattle.spelling_spec.specs.Tree.{Placed, bare};
+ghost use Rattle.std.specs.Prelude.{◌≡◌, true};
+ghost use Rattle.spelling_spec.specs.Tree.{bare};
 ghost use Rattle.edif_spec.specs.Faults.{those_of};
 ghost use Rattle.edif_spec.specs.Rows.{has_keyword};
 ghost use Rattle.edif_spec.specs.Stands.{InstFault};
 ghost use Rattle.edif_spec.specs.declared.keyword.Keyword.TheVariants.{Instance};
-ghost use Rattle.edif_tree.specs.Nodes.{IsAt, IsNode};
-ghost use Rattle.edif_grammar.specs.Forms.{Stand};
+ghost use Rattle.edif_tree.specs.Handles.{here, all};
 ghost use Rattle.edif_contents.specs.Inners.{InstsFault, ReadInst, ReadInsts};
 ghost use Rattle.edif_parts.specs.Reading.{Answers};
 
@@ -20,7 +19,7 @@ use edif_parts::parts::read_parts;
 use edif_parts::properties::read_properties;
 use edif_parts::texts::read_text_among;
 use edif_spec::Keyword;
-use edif_tree::{NodeId, Tree};
+use edif_tree::{Node, Nodes};
 use netlist_schema::Inst;
 use netlist_schema::limits::MOST_INSTS;
 use std::alloc::Global;
@@ -37,20 +36,18 @@ pub struct InstAt {
 /// The instance that a form at a node means, in the library `own`.
 pub fn read_inst(
     alloc: Global,
-    tree: &Tree,
-    node: NodeId,
+    node: Node<'_>,
     libs: &Libraries,
     own: Option<u32>,
 ) -> Result<InstAt, EdifError>
-    requires node { IsNode tree.now.rows node }
-    requires keyword { (t : Placed) → IsAt tree.now.rows node t → has_keyword Instance (bare t) ≡ true }
-    ensures { (t : Placed) → IsAt tree.now.rows node t → Answers (ReadInst libs.now.libs own t) (InstFault libs.now.libs own t) result }
+    requires { has_keyword Instance (bare (here node)) ≡ true }
+    ensures { Answers (ReadInst libs.now.libs own (here node.entry)) (InstFault libs.now.libs own (here node.entry)) result }
 {
-    let parts = read_parts(alloc, tree, node, Keyword::Contents, Keyword::Instance)?;
-    let name = read_name(alloc, tree, parts.fixed[0])?;
-    let of = read_view_ref(alloc, tree, parts.fixed[1], libs, own)?;
-    let designator = read_text_among(alloc, tree, parts.inner, Keyword::Designator)?;
-    let properties = read_properties(alloc, tree, parts.inner)?;
+    let parts = read_parts(alloc, node, Keyword::Instance)?;
+    let name = read_name(alloc, parts.fixed.at(0))?;
+    let of = read_view_ref(alloc, parts.fixed.at(1), libs, own)?;
+    let designator = read_text_among(alloc, parts.inner, Keyword::Designator)?;
+    let properties = read_properties(alloc, parts.inner)?;
     Ok(InstAt {
         inst: Inst {
             name: name.name,
@@ -74,20 +71,18 @@ pub struct Insts {
 /// The instances among these followers of a form, in order, with names that differ.
 pub fn read_insts(
     alloc: Global,
-    tree: &Tree,
-    inner: &[NodeId],
+    inner: Nodes<'_>,
     libs: &Libraries,
     own: Option<u32>,
 ) -> Result<Insts, EdifError>
-    requires { (ts : List Placed) × Stand tree.now.rows inner.now ts }
-    ensures { (ts : List Placed) → Stand tree.now.rows inner.now ts → Answers (ReadInsts libs.now.libs own ts) (InstsFault libs.now.libs own (those_of Instance ts)) result }
+    ensures { Answers (ReadInsts libs.now.libs own (all inner.entry)) (InstsFault libs.now.libs own (those_of Instance (all inner.entry))) result }
 {
     let mut names = Names::new(alloc);
     let mut list = Vec::new(alloc);
-    for node in inner {
-        if is_form_of(tree, *node, Keyword::Instance) {
-            room(list.len(), MOST_INSTS, tree.place(*node))?;
-            let read = read_inst(alloc, tree, *node, libs, own)?;
+    for node in inner.iter() {
+        if is_form_of(node, Keyword::Instance) {
+            room(list.len(), MOST_INSTS, node.place())?;
+            let read = read_inst(alloc, node, libs, own)?;
             names.add(&read.inst.name.id, read.place)?;
             list.push(read.inst)?;
         }

@@ -8,13 +8,13 @@ ghost use Rattle.edif_spec.specs.Faults.{AtTwo, Beyond, repeated};
 ghost use Rattle.edif_spec.specs.Means.{MeansEnd};
 ghost use Rattle.edif_spec.specs.Nets.{end_of};
 ghost use Rattle.edif_spec.specs.Stands.{SameEnd};
-ghost use Rattle.edif_grammar.specs.Forms.{Stand};
+ghost use Rattle.edif_tree.specs.Handles.{all};
 ghost use Rattle.edif_contents.specs.Joins.{AreJoined, IsTwice, Joined, RowEndsFault, bits_of_row, row_of};
 ghost use Rattle.edif_parts.specs.Reading.{Answers, Names as FailsBy};
 
 use edif_parts::error::{EdifError, clash, over_limit};
 use edif_spec::{ClashKind, Stretch};
-use edif_tree::{NodeId, Tree};
+use edif_tree::Nodes;
 use indexmap::IndexMap;
 use netlist_schema::End;
 use netlist_schema::limits::MOST_ENDS;
@@ -93,43 +93,40 @@ pub fn end_of(k: u32, stretch: &Stretch) -> End
 
 /// Joins the ends of the net of number `k` of a row of this size, at these nodes. The error is the first that is joined already.
 fn join_net(
-    tree: &Tree,
-    nodes: &[NodeId],
+    nodes: Nodes<'_>,
     stretches: &[Stretch],
     size: u32,
     k: u32,
     joins: &mut Joins,
 ) -> Result<(), EdifError>
-    requires nodes { (us : List Placed) × Stand tree.now.rows nodes.now us }
-    requires count { length nodes.now ≡ length stretches.now }
+    requires count { length (all nodes) ≡ length stretches.now }
     requires within { All (λ s. k + s.first < 2 ^ 32) stretches.now }
     requires room { length joins.old + length stretches.now ≤ MOST_ENDS }
     ensures length { OnOk result (length joins.new ≡ length joins.old + length stretches.now) }
-    ensures joined { (libs : List design.Lib) (ports : List design.Port) (insts : List design.Inst) (ts : List (Placed × ℕ × ℕ)) (us : List Placed) (es : List design.End)
-        → Stand tree.now.rows nodes.now us → AllZip (λ u s. MeansEnd libs ports insts (bare u) s × (s.width ≡ size)) us stretches.now → AreJoined libs ports insts ts es joins.old
+    ensures joined { let us = all nodes.entry in (libs : List design.Lib) (ports : List design.Port) (insts : List design.Inst) (ts : List (Placed × ℕ × ℕ)) (es : List design.End)
+        → AllZip (λ u s. MeansEnd libs ports insts (bare u) s × (s.width ≡ size)) us stretches.now → AreJoined libs ports insts ts es joins.old
         → Answers (λ _. AreJoined libs ports insts (ts ++ map (λ u. (u, k, size)) us) (es ++ map (end_of k) stretches.now) joins.new)
         (λ f. (rest : List (Placed × ℕ × ℕ)) → AtTwo (SameEnd libs ports insts f) ((ts ++ map (λ u. (u, k, size)) us) ++ rest)) result }
 {
     for (index, stretch) in stretches.iter().enumerate() {
-        joins.add(end_of(k, stretch), tree.place(nodes[index]))?;
+        joins.add(end_of(k, stretch), nodes.at(index).place())?;
     }
     Ok(())
 }
 
 /// Whether there is room for so many ends at each of these nodes, behind those that are joined; else the first node beyond the limit
 /// is named.
-fn ends_room(tree: &Tree, nodes: &[NodeId], size: u32, joined: usize) -> Result<(), EdifError>
-    requires nodes { (us : List Placed) × Stand tree.now.rows nodes.now us }
+fn ends_room(nodes: Nodes<'_>, size: u32, joined: usize) -> Result<(), EdifError>
     requires joined { joined ≤ MOST_ENDS }
-    ensures ok { OnOk result (joined + length nodes.now * size ≤ MOST_ENDS) }
-    ensures err { IfErr result (λ e. (us before : List Placed) → Stand tree.now.rows nodes.now us → length before ≡ joined
-        → FailsBy (λ f. (more : List Placed) → Beyond MOST_ENDS ((before ++ repeated (λ u. size) us) ++ more) f) e) }
+    ensures ok { OnOk result (joined + length (all nodes.entry) * size ≤ MOST_ENDS) }
+    ensures err { IfErr result (λ e. (before : List Placed) → length before ≡ joined
+        → FailsBy (λ f. (more : List Placed) → Beyond MOST_ENDS ((before ++ repeated (λ u. size) (all nodes.entry)) ++ more) f) e) }
 {
     let mut count = joined as u64;
-    for node in nodes {
+    for node in nodes.iter() {
         count += u64::from(size);
         if count > MOST_ENDS as u64 {
-            return Err(over_limit(MOST_ENDS as u64, tree.place(*node)));
+            return Err(over_limit(MOST_ENDS as u64, node.place()));
         }
     }
     Ok(())
@@ -138,25 +135,23 @@ fn ends_room(tree: &Tree, nodes: &[NodeId], size: u32, joined: usize) -> Result<
 /// Joins the ends of a row of so many nets, net by net, at these nodes. The error is the first that is joined already, or the first
 /// form beyond the limit.
 pub fn join_row(
-    tree: &Tree,
-    nodes: &[NodeId],
+    nodes: Nodes<'_>,
     stretches: &[Stretch],
     size: u32,
     joins: &mut Joins,
 ) -> Result<(), EdifError>
-    requires nodes { (us : List Placed) × Stand tree.now.rows nodes.now us }
-    requires count { length nodes.now ≡ length stretches.now }
+    requires count { length (all nodes) ≡ length stretches.now }
     requires within { All (λ s. s.first + size ≤ 2 ^ 32) stretches.now }
     requires joined { length joins.old ≤ MOST_ENDS }
-    ensures { (libs : List design.Lib) (ports : List design.Port) (insts : List design.Inst) (ts : List (Placed × ℕ × ℕ)) (us before : List Placed) (es : List design.End)
-        → Stand tree.now.rows nodes.now us → AllZip (λ u s. MeansEnd libs ports insts (bare u) s × (s.width ≡ size)) us stretches.now
+    ensures { let us = all nodes.entry in (libs : List design.Lib) (ports : List design.Port) (insts : List design.Inst) (ts : List (Placed × ℕ × ℕ)) (before : List Placed) (es : List design.End)
+        → AllZip (λ u s. MeansEnd libs ports insts (bare u) s × (s.width ≡ size)) us stretches.now
         → AreJoined libs ports insts ts es joins.old → length before ≡ length ts
         → Answers (λ _. AreJoined libs ports insts (ts ++ row_of size us) (es ++ bits_of_row size stretches.now) joins.new)
         (RowEndsFault libs ports insts (ts ++ row_of size us) (before ++ repeated (λ u. size) us)) result }
 {
-    ends_room(tree, nodes, size, joins.len())?;
+    ends_room(nodes, size, joins.len())?;
     for k in 0..size {
-        join_net(tree, nodes, stretches, size, k, joins)?;
+        join_net(nodes, stretches, size, k, joins)?;
     }
     Ok(())
 }

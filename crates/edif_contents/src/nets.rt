@@ -3,17 +3,16 @@ ghost use Rattle.std.specs.Prelude.{◌≡◌, ◌+◌, ◌^◌, ◌<◌, ◌≤
 ghost use Rattle.std.specs.List.{All, AllByRecursion, AllZip};
 ghost use Rattle.spelling_spec.specs.Tree.{Placed, bare};
 ghost use Rattle.edif_spec.specs.Faults.{Among, those_of};
-ghost use Rattle.edif_spec.specs.Rows.{Each, has_keyword};
+ghost use Rattle.edif_spec.specs.Rows.{has_keyword};
 ghost use Rattle.edif_spec.specs.Stands.{JoinedFault};
 ghost use Rattle.edif_spec.specs.declared.fault.MeaningFault.TheVariants.{OverLimit};
 ghost use Rattle.edif_spec.specs.declared.keyword.Keyword.TheVariants.{Joined, Net as NetWord, PortRef};
-ghost use Rattle.edif_tree.specs.Nodes.{IsAt, IsNode};
+ghost use Rattle.edif_tree.specs.Handles.{here, all};
 ghost use Rattle.edif_contents.specs.Ends.{AreNamed, EndFaultIn, ReadEnd, WidthFaultIn};
 ghost use Rattle.netlist_schema.specs.Names.{AreDistinct};
 ghost use Rattle.netlist_schema.specs.declared.limits.TheConstants.{MOST_NETS};
 ghost use Rattle.edif_spec.specs.Nets.{end_of, name_at, net_at, row_size};
 ghost use Rattle.edif_spec.specs.Stands.{width_kind};
-ghost use Rattle.edif_grammar.specs.Forms.{Stand};
 ghost use Rattle.edif_contents.specs.Nets.{NetAdded, NetFaultIn, NetsFaultIn, ReadJoined, ReadNet, ReadNets, RowAdded, RowNameFault};
 ghost use Rattle.edif_parts.specs.Names.{IsAgain, ids};
 ghost use Rattle.edif_parts.specs.Reading.{Answers};
@@ -28,7 +27,7 @@ use edif_parts::parts::read_parts;
 use edif_parts::ports::{BusName, read_bus_name};
 use edif_parts::properties::read_properties;
 use edif_spec::{Keyword, Kind, NetForm, Stretch};
-use edif_tree::{NodeId, Tree};
+use edif_tree::{Node, Nodes};
 use netlist_schema::limits::MOST_NETS;
 use netlist_schema::{Copied, End, Name, Net, NoMemory, Row, Width};
 use std::alloc::Global;
@@ -39,7 +38,7 @@ pub struct JoinedAt<'a> {
     /// The ends, in order.
     pub ends: Row<EndAt>,
     /// Their nodes.
-    pub nodes: &'a [NodeId],
+    pub nodes: Nodes<'a>,
 }
 
 /// A net as it is written, where its name stands, and the nodes of its ends.
@@ -50,23 +49,22 @@ pub struct NetAt<'a> {
     /// The number of bytes before the identifier of its name.
     pub place: u64,
     /// The nodes of its ends, in order.
-    pub ends: &'a [NodeId],
+    pub ends: Nodes<'a>,
 }
 
 /// The ends that the forms at these nodes mean.
 fn read_ends(
     alloc: Global,
-    tree: &Tree,
-    nodes: &[NodeId],
+    nodes: Nodes<'_>,
     around: &Surroundings,
 ) -> Result<Row<EndAt>, EdifError>
-    requires nodes { (ts : List Placed) × Stand tree.now.rows nodes.now ts × AllByRecursion (λ u. has_keyword PortRef (bare u) ≡ true) ts }
+    requires nodes { AllByRecursion (λ u. has_keyword PortRef (bare u) ≡ true) (all nodes) }
     requires names { AreNamed around.now }
-    ensures { (ts : List Placed) → Stand tree.now.rows nodes.now ts → Answers (AllZip (ReadEnd around.now) ts) (Among (EndFaultIn around.now) ts) result }
+    ensures { Answers (AllZip (ReadEnd around.now) (all nodes.entry)) (Among (EndFaultIn around.now) (all nodes.entry)) result }
 {
     let mut ends = Vec::new(alloc);
-    for node in nodes {
-        let end = read_end(alloc, tree, *node, around)?;
+    for node in nodes.iter() {
+        let end = read_end(alloc, node, around)?;
         ends.push(end)?;
     }
     Ok(Row::of(ends))
@@ -75,18 +73,15 @@ fn read_ends(
 /// What the form at a node says that a net joins.
 fn read_joined<'a>(
     alloc: Global,
-    tree: &'a Tree,
-    node: NodeId,
+    node: Node<'a>,
     around: &Surroundings,
 ) -> Result<JoinedAt<'a>, EdifError>
-    requires node { IsNode tree.now.rows node }
-    requires keyword { (t : Placed) → IsAt tree.now.rows node t → has_keyword Joined (bare t) ≡ true }
+    requires keyword { has_keyword Joined (bare (here node)) ≡ true }
     requires names { AreNamed around.now }
-    ensures { (t : Placed) → IsAt tree.now.rows node t
-        → Answers (ReadJoined tree.now.rows around.now t) (JoinedFault around.now.libs.now.libs around.now.ports.now around.now.insts.now t) result }
+    ensures { Answers (ReadJoined around.now (here node.entry)) (JoinedFault around.now.libs.now.libs around.now.ports.now around.now.insts.now (here node.entry)) result }
 {
-    let parts = read_parts(alloc, tree, node, Keyword::Net, Keyword::Joined)?;
-    let ends = read_ends(alloc, tree, parts.inner, around)?;
+    let parts = read_parts(alloc, node, Keyword::Joined)?;
+    let ends = read_ends(alloc, parts.inner, around)?;
     Ok(JoinedAt {
         ends,
         nodes: parts.inner,
@@ -149,20 +144,18 @@ fn stretches_of(alloc: Global, ends: &[EndAt]) -> Result<Row<Stretch>, NoMemory>
 /// The net that a form at a node means, as it is written.
 pub fn read_net<'a>(
     alloc: Global,
-    tree: &'a Tree,
-    node: NodeId,
+    node: Node<'a>,
     around: &Surroundings,
 ) -> Result<NetAt<'a>, EdifError>
-    requires node { IsNode tree.now.rows node }
-    requires keyword { (t : Placed) → IsAt tree.now.rows node t → has_keyword NetWord (bare t) ≡ true }
+    requires keyword { has_keyword NetWord (bare (here node)) ≡ true }
     requires names { AreNamed around.now }
-    ensures { (t : Placed) → IsAt tree.now.rows node t → Answers (ReadNet tree.now.rows around.now t) (NetFaultIn around.now t) result }
+    ensures { Answers (ReadNet around.now (here node.entry)) (NetFaultIn around.now (here node.entry)) result }
 {
-    let parts = read_parts(alloc, tree, node, Keyword::Contents, Keyword::Net)?;
-    let BusName { name, array, place } = read_bus_name(alloc, tree, parts.fixed[0])?;
-    let joined = read_joined(alloc, tree, parts.fixed[1], around)?;
+    let parts = read_parts(alloc, node, Keyword::Net)?;
+    let BusName { name, array, place } = read_bus_name(alloc, parts.fixed.at(0))?;
+    let joined = read_joined(alloc, parts.fixed.at(1), around)?;
     check_widths(joined.ends.as_slice(), &array)?;
-    let properties = read_properties(alloc, tree, parts.inner)?;
+    let properties = read_properties(alloc, parts.inner)?;
     let stretches = stretches_of(alloc, joined.ends.as_slice())?;
     Ok(NetAt {
         form: NetForm {
@@ -290,29 +283,21 @@ fn nets_room(count: usize, size: u32, place: u64) -> Result<(), EdifError>
 /// once.
 pub fn read_nets(
     alloc: Global,
-    tree: &Tree,
-    inner: &[NodeId],
+    inner: Nodes<'_>,
     around: &Surroundings,
 ) -> Result<Row<Net>, EdifError>
-    requires nodes { (ts : List Placed) × Stand tree.now.rows inner.now ts }
-    requires names { AreNamed around.now }
-    ensures { (ts : List Placed) → Stand tree.now.rows inner.now ts → Answers (ReadNets around.now ts) (NetsFaultIn around.now (those_of NetWord ts)) result }
+    requires { AreNamed around.now }
+    ensures { Answers (ReadNets around.now (all inner.entry)) (NetsFaultIn around.now (those_of NetWord (all inner.entry))) result }
 {
     let mut names = Names::new(alloc);
     let mut joins = Joins::new(alloc);
     let mut nets = Vec::new(alloc);
-    for node in inner {
-        if is_form_of(tree, *node, Keyword::Net) {
-            let read = read_net(alloc, tree, *node, around)?;
+    for node in inner.iter() {
+        if is_form_of(node, Keyword::Net) {
+            let read = read_net(alloc, node, around)?;
             let size = row_size(&read.form.array);
-            nets_room(nets.len(), size, tree.place(*node))?;
-            join_row(
-                tree,
-                read.ends,
-                read.form.joined.as_slice(),
-                size,
-                &mut joins,
-            )?;
+            nets_room(nets.len(), size, node.place())?;
+            join_row(read.ends, read.form.joined.as_slice(), size, &mut joins)?;
             add_row(alloc, read.form, read.place, &mut names, &mut nets)?;
         }
     }

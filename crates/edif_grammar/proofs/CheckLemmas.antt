@@ -1,6 +1,7 @@
 -- Steps of the checks of a row.
 use Rattle.std.proofs.Common.{◌≡◌, ℕ, zero, suc, ◌+◌, ◌<◌, ◌≤◌, List, [], ◌∷◌, ◌++◌, map, length, drop, get_or, refl, sym, ap, ◌∙◌, subst, inl, inr, Bool, true, false, Some, arith, nat_eq}
 use Rattle.std.specs.Prelude.{cond, slice_get}
+use Rattle.std.specs.List.{AllByRecursion}
 use Rattle.spelling_spec.specs.Tree.{Placed, bare}
 use Rattle.edif_spec.specs.Keyword.{row, Row, Takes, Choice, Follower, Many, One}
 use Rattle.edif_spec.specs.Rows.{has_keyword, is_one_of, is_follower}
@@ -12,7 +13,9 @@ use Rattle.edif_spec.specs.declared.fault.Kind.TheVariants.{BadForm}
 use Rattle.edif_spec.specs.declared.fault.MeaningFault.{MeaningFault}
 use Rattle.edif_spec.specs.declared.fault.MeaningFault.TheVariants.{At}
 use Rattle.edif_grammar.specs.Forms.{HasOwnKind}
-use Rattle.edif_grammar.specs.Rules.{is_plain}
+use Rattle.edif_grammar.specs.Rules.{choices, is_plain}
+use Rattle.edif_grammar.specs.declared.rules.Wanted.{Wanted}
+use Rattle.std.proofs.lemmas.List.{length-map}
 use Rattle.edif_grammar.specs.Checks.{ArgumentFits, FixedFits, OnceFits}
 use Rattle.edif_grammar.proofs.FormLemmas.{none_of_two, second_plain}
 
@@ -50,14 +53,6 @@ get_within [] i x e = absurd (cc e)
 get_within (y ∷ xs) zero x e = omega arith
 get_within (y ∷ xs) (suc i) x e = let l : i < length xs = get_within xs i x e in omega arith
 
-drop_get : {A : Type 0} (xs : List A) (i : ℕ) (x : A) → slice_get xs i ≡ Some x → drop i xs ≡ x ∷ drop (suc i) xs
-drop_get [] i x e = absurd (cc e)
-drop_get (y ∷ xs) zero x e = let w : y ≡ x = cc e in ap (λ v. v ∷ xs) w
-drop_get (y ∷ xs) (suc i) x e = drop_get xs i x e
-
-next : (i : ℕ) → suc i ≡ i + 1
-next i = omega arith
-
 kept : (b : Bool) (x : Placed) (xs : List Placed) → b ≡ true → cond b (x ∷ xs) xs ≡ x ∷ xs
 kept true x xs e = refl
 kept false x xs e = absurd (cc e)
@@ -67,11 +62,11 @@ skipped true x xs e = absurd (cc e)
 skipped false x xs e = refl
 
 -- one that has the keyword, and one that has not, where the rest begins
-pub take_one : (k : Keyword) (ts : List Placed) (i : ℕ) (t : Placed) → slice_get ts i ≡ Some t → has_keyword k (bare t) ≡ true → those_of k (drop i ts) ≡ t ∷ those_of k (drop (i + 1) ts)
-take_one k ts i t e h = ap (those_of k) (drop_get ts i t e) ∙ (kept (has_keyword k (bare t)) t (those_of k (drop (suc i) ts)) h ∙ ap (λ n. t ∷ those_of k (drop n ts)) (next i))
+pub take_one : (k : Keyword) (us ts : List Placed) (t : Placed) → us ≡ t ∷ ts → has_keyword k (bare t) ≡ true → those_of k us ≡ t ∷ those_of k ts
+take_one k us ts t e h = ap (those_of k) e ∙ kept (has_keyword k (bare t)) t (those_of k ts) h
 
-pub skip_one : (k : Keyword) (ts : List Placed) (i : ℕ) (t : Placed) → slice_get ts i ≡ Some t → has_keyword k (bare t) ≡ false → those_of k (drop i ts) ≡ those_of k (drop (i + 1) ts)
-skip_one k ts i t e h = ap (those_of k) (drop_get ts i t e) ∙ (skipped (has_keyword k (bare t)) t (those_of k (drop (suc i) ts)) h ∙ ap (λ n. those_of k (drop n ts)) (next i))
+pub skip_one : (k : Keyword) (us ts : List Placed) (t : Placed) → us ≡ t ∷ ts → has_keyword k (bare t) ≡ false → those_of k us ≡ those_of k ts
+skip_one k us ts t e h = ap (those_of k) e ∙ skipped (has_keyword k (bare t)) t (those_of k ts) h
 
 -- what is seen grows by one
 pub first_seen : (b : Bool) (before all rest : List Placed) (t : Placed) → b ≡ false → IsSeen b before → all ≡ before ++ t ∷ rest → all ≡ (t ∷ []) ++ rest
@@ -84,18 +79,22 @@ second_seen true before all rest t f e s h p =
     let P : List Placed → Type 0 = λ v. AtTwo (λ x y. f ≡ At BadForm (place_of y)) v in
     subst P (sym (h ∙ ap (λ v. v ++ t ∷ rest) s.1)) (inl (inl p))
 
-drop_end : {A : Type 0} (n : ℕ) (xs : List A) → length xs ≤ n → drop n xs ≡ []
-drop_end zero [] l = refl
-drop_end zero (x ∷ xs) l = absurd (omega arith)
-drop_end (suc n) [] l = refl
-drop_end (suc n) (x ∷ xs) l = drop_end n xs (omega arith)
-
-pub seen_once : (k : Keyword) (b : Bool) (before ts : List Placed) (n : ℕ) → IsSeen b before → length ts ≤ n → those_of k ts ≡ before ++ those_of k (drop n ts) → length (those_of k ts) ≤ 1
-seen_once k b before ts n s l h = go b before s (h ∙ ap (λ v. before ++ those_of k v) (drop_end n ts l))
+pub seen_once : (k : Keyword) (b : Bool) (before ts us : List Placed) → IsSeen b before → us ≡ [] → those_of k ts ≡ before ++ those_of k us → length (those_of k ts) ≤ 1
+seen_once k b before ts us s l h = go b before s (h ∙ ap (λ v. before ++ those_of k v) l)
   where
     go : (b : Bool) (before : List Placed) → IsSeen b before → those_of k ts ≡ before ++ [] → length (those_of k ts) ≤ 1
     go false before s e = let q = ap length (e ∙ ap (λ v. v ++ []) s) in omega (arith, q)
     go true before s e = let q = ap length (e ∙ ap (λ v. v ++ []) s.1) in omega (arith, q)
+
+-- One that is left may follow, or is a fault.
+pub follows_too : (fs : List Follower) (us ts : List Placed) (t : Placed) → us ≡ t ∷ ts → is_follower fs (bare t) ≡ true → AllByRecursion (λ u. is_follower fs (bare u) ≡ true) ts → AllByRecursion (λ u. is_follower fs (bare u) ≡ true) us
+follows_too fs us ts t e h k = let P : List Placed → Type 0 = λ v. AllByRecursion (λ u. is_follower fs (bare u) ≡ true) v in subst P (sym e) (h, k)
+
+pub fault_first : (wrong : Placed → MeaningFault) (fs : List Follower) (us ts : List Placed) (t : Placed) (f : MeaningFault) → us ≡ t ∷ ts → is_follower fs (bare t) ≡ false → f ≡ wrong t → FollowerFault wrong fs us f
+fault_first wrong fs us ts t f e h q = let P : List Placed → Type 0 = λ v. FollowerFault wrong fs v f in subst P (sym e) (inl (h, q))
+
+pub fault_later : (wrong : Placed → MeaningFault) (fs : List Follower) (us ts : List Placed) (t : Placed) (f : MeaningFault) → us ≡ t ∷ ts → FollowerFault wrong fs ts f → FollowerFault wrong fs us f
+fault_later wrong fs us ts t f e b = let P : List Placed → Type 0 = λ v. FollowerFault wrong fs v f in subst P (sym e) (inr b)
 
 -- Faults at a place.
 pub fixed_at : (wrong : Placed → MeaningFault) (place : ℕ) (cs : List (List Choice)) (ts : List Placed) (i : ℕ) (c : List Choice) (t : Placed) (f : MeaningFault) → slice_get cs i ≡ Some c → slice_get ts i ≡ Some t → is_one_of c (bare t) ≡ false → f ≡ wrong t
@@ -148,10 +147,10 @@ fixed_own kind r place (c ∷ cs) (t ∷ ts) f h l (inl b) = go (h 0 c t refl re
     go (inr o) = subst HasOwnKind (sym b.1) o
 fixed_own kind r place (c ∷ cs) (t ∷ ts) f h l (inr b) = fixed_own kind r place cs ts f (λ j c t. h (suc j) c t) (omega arith) b
 
-no_other : (wrong : Placed → MeaningFault) (fs : List Follower) (ts : List Placed) (f : MeaningFault) → ((j : ℕ) (u : Placed) → slice_get ts j ≡ Some u → is_follower fs (bare u) ≡ true) → FollowerFault wrong fs ts f → ⊥
+no_other : (wrong : Placed → MeaningFault) (fs : List Follower) (ts : List Placed) (f : MeaningFault) → AllByRecursion (λ u. is_follower fs (bare u) ≡ true) ts → FollowerFault wrong fs ts f → ⊥
 no_other wrong fs [] f h b = b
-no_other wrong fs (t ∷ ts) f h (inl b) = let w : true ≡ false = sym (h 0 t refl) ∙ b.0 in cc w
-no_other wrong fs (t ∷ ts) f h (inr b) = no_other wrong fs ts f (λ j u. h (suc j) u) b
+no_other wrong fs (t ∷ ts) f h (inl b) = let w : true ≡ false = sym h.0 ∙ b.0 in cc w
+no_other wrong fs (t ∷ ts) f h (inr b) = no_other wrong fs ts f h.1 b
 
 two_own : (k : Keyword) (f : MeaningFault) (xs : List Placed) → is_plain k ≡ false → AtTwo (λ x y. f ≡ second k x y) xs → HasOwnKind f
 two_own k f [] p h = absurd h
@@ -174,7 +173,7 @@ seconds_own (One k ∷ fs) ts f h (inl b) = go (h 0 (One k) refl)
 seconds_own (One k ∷ fs) ts f h (inr b) = seconds_own fs ts f (λ j a. h (suc j) a) b
 
 pub row_own : (kind : Kind) (cs : List (List Choice)) (fs : List Follower) (t : Placed) (f : MeaningFault) → FixedFits kind (Takes cs fs) cs (arguments t) → length cs ≤ length (arguments t)
-    → ((j : ℕ) (u : Placed) → slice_get (drop (length cs) (arguments t)) j ≡ Some u → is_follower fs (bare u) ≡ true)
+    → AllByRecursion (λ u. is_follower fs (bare u) ≡ true) (drop (length cs) (arguments t))
     → ((j : ℕ) (a : Follower) → slice_get fs j ≡ Some a → OnceFits a (drop (length cs) (arguments t))) → Breaches kind (Takes cs fs) t f → HasOwnKind f
 row_own kind cs fs t f x l y z (inl b) = fixed_own kind (Takes cs fs) (place_of t) cs (arguments t) f x l b
 row_own kind cs fs t f x l y z (inr (inl b)) = absurd (no_other (misplaced BadForm (Takes cs fs)) fs (drop (length cs) (arguments t)) f y b)
@@ -182,3 +181,7 @@ row_own kind cs fs t f x l y z (inr (inr b)) = seconds_own fs (drop (length cs) 
 
 pub row_back : (k : Keyword) (cs : List (List Choice)) (fs : List Follower) (t : Placed) (f : MeaningFault) → row k ≡ Takes cs fs → RowFault k t f → Breaches (token_kind k) (Takes cs fs) t f
 row_back k cs fs t f r b = let P : Row → Type 0 = λ v. Breaches (token_kind k) v t f in subst P r b
+
+-- what stands behind the fixed arguments
+pub behind_fixed : (wanted : List Wanted) (us vs ts : List Placed) → vs ≡ drop (length wanted) us → us ≡ ts → vs ≡ drop (length (map choices wanted)) ts
+behind_fixed wanted us vs ts e f = e ∙ ap (drop (length wanted)) f ∙ ap (λ n. drop n ts) (sym (length-map wanted choices))

@@ -1,6 +1,6 @@
 -- A form that fits, as a form of its keyword: its fixed arguments one by one, what may follow, and the nodes of its parts.
-use Rattle.std.proofs.Common.{◌≡◌, ℕ, zero, suc, ◌≤◌, List, [], ◌∷◌, ◌++◌, map, length, take, drop, refl, ap, sym, ◌∙◌, subst, ◌⊎◌, inl, inr, Bool, true, false, ◌&&◌, Option, Some, None, arith}
-use Rattle.std.specs.Prelude.{cond, slice_get}
+use Rattle.std.proofs.Common.{◌≡◌, ℕ, zero, suc, ◌≤◌, List, [], ◌∷◌, ◌++◌, map, length, take, drop, refl, ap, sym, ◌∙◌, subst, ◌⊎◌, inl, inr, Bool, true, false, ◌&&◌, Option, Some, None, Result, Ok, Err, arith}
+use Rattle.std.specs.Prelude.{cond, slice_get, IfOk, IfErr}
 use Rattle.std.specs.List.{AllZip, AllByRecursion}
 use Rattle.spelling_spec.specs.Tree.{Bare, Placed, Form', Word', Integer', String', End, More, bare}
 use Rattle.edif_spec.specs.Keyword.{row, Row, Takes, Choice, Follower, Many, One, name_definition, the, integer}
@@ -14,7 +14,9 @@ use Rattle.edif_spec.specs.declared.fault.MeaningFault.{MeaningFault}
 use Rattle.edif_spec.specs.declared.fault.MeaningFault.TheVariants.{NotInProfile, At}
 use Rattle.edif_spec.proofs.FaultForms.{filter_bare, map_length}
 use Rattle.edif_spec.proofs.KnownForms as known
-use Rattle.edif_grammar.specs.Forms.{HasOwnKind, Fits}
+use Rattle.edif_grammar.specs.Forms.{ArePartsOf, Fails, Fits, FitsOwn, HasOwnKind, HasParts, fault_of, row_above}
+use Rattle.edif_grammar.specs.declared.lent.Form.{Form}
+use Rattle.edif_grammar.specs.declared.lent.Breach.{Breach}
 pub use Rattle.edif_grammar.specs.Rules.{is_plain}
 
 -- What is wrong in a way of its own.
@@ -114,8 +116,8 @@ fixed_step F kind r place (c ∷ cs) (t ∷ ts) h o = (go (known.test (is_one_of
 pub in_row : (k : Keyword) (cs : List (List Choice)) (fs : List Follower) (t : Placed) (f : MeaningFault) → row k ≡ Takes cs fs → Breaches (token_kind k) (Takes cs fs) t f → RowFault k t f
 in_row k cs fs t f r b = let P : Row → Type 0 = λ v. Breaches (token_kind k) v t f in subst P (sym r) b
 
-pub fixed_or : (parent : Option Keyword) (k : Keyword) (cs : List (List Choice)) (fs : List Follower) (t : Placed) → row k ≡ Takes cs fs → Fits parent k t → FixedOr k t cs (take (length cs) (arguments t))
-fixed_or parent k cs fs t r h = fixed_step (RowFault k t) (token_kind k) (Takes cs fs) (place_of t) cs (arguments t) (λ f b. in_row k cs fs t f r (inl b)) h.breaches
+pub fixed_or : (k : Keyword) (cs : List (List Choice)) (fs : List Follower) (t : Placed) → row k ≡ Takes cs fs → FitsOwn k t → FixedOr k t cs (take (length cs) (arguments t))
+fixed_or k cs fs t r h = fixed_step (RowFault k t) (token_kind k) (Takes cs fs) (place_of t) cs (arguments t) (λ f b. in_row k cs fs t f r (inl b)) h.breaches
 
 -- each fixed argument is one of its choices, where a token that is none would be a bad form
 plain_fixed : (k : Keyword) (t : Placed) (cs : List (List Choice)) (ts : List Placed) → (HasOwnKind (At (token_kind k) 0) → ⊥) → ((f : MeaningFault) → RowFault k t f → HasOwnKind f) → FixedOr k t cs ts → known.FixedFit cs ts
@@ -130,9 +132,9 @@ plain_fixed k t (c ∷ cs) (u ∷ ts) n o (inr b, h) = absurd (other (token_kind
     other kind p n h = n h
 
 -- A form that fits has its keyword, its fixed arguments and what follows.
-pub fits_row : (parent : Option Keyword) (k : Keyword) (cs : List (List Choice)) (fs : List Follower) (t : Placed) → row k ≡ Takes cs fs → Fits parent k t
+pub fits_row : (k : Keyword) (cs : List (List Choice)) (fs : List Follower) (t : Placed) → row k ≡ Takes cs fs → FitsOwn k t
     → known.FixedFit cs (take (length cs) (arguments t)) → SecondsFit fs (followers k t) → known.Fits k cs t
-fits_row parent k cs fs t r h x s = go (known.row_known k cs fs t r h.keyword)
+fits_row k cs fs t r h x s = go (known.row_known k cs fs t r h.keyword)
   where
     no : (f : MeaningFault) → HasOwnKind f → Breaches (token_kind k) (Takes cs fs) t f → SecondsFit fs (drop (length cs) (arguments t)) → ⊥
     no f o (inl b) s = no_fixed (misplaced (token_kind k) (Takes cs fs)) (place_of t) cs (arguments t) f x b
@@ -147,14 +149,14 @@ fits_row parent k cs fs t r h x s = go (known.row_known k cs fs t r h.keyword)
         absurd (no b.0 (h.breaches b.0 b.1) (subst P r b.1) (subst Q r s))
 
 -- the same where a token that is none of the choices would be a bad form
-pub fits_bad : (parent : Option Keyword) (k : Keyword) (cs : List (List Choice)) (fs : List Follower) (t : Placed) → row k ≡ Takes cs fs → token_kind k ≡ BadForm → Fits parent k t → SecondsFit fs (followers k t) → known.Fits k cs t
-fits_bad parent k cs fs t r b h s =
+pub fits_bad : (k : Keyword) (cs : List (List Choice)) (fs : List Follower) (t : Placed) → row k ≡ Takes cs fs → token_kind k ≡ BadForm → FitsOwn k t → SecondsFit fs (followers k t) → known.Fits k cs t
+fits_bad k cs fs t r b h s =
     let plain : HasOwnKind (At (token_kind k) 0) → ⊥ = λ o. let P : Kind → Type 0 = λ v. HasOwnKind (At v 0) in subst P b o in
-    fits_row parent k cs fs t r h (plain_fixed k t cs (take (length cs) (arguments t)) plain h.breaches (fixed_or parent k cs fs t r h)) s
+    fits_row k cs fs t r h (plain_fixed k t cs (take (length cs) (arguments t)) plain h.breaches (fixed_or k cs fs t r h)) s
 
 -- The same where no breach of the row has a kind of its own: `refl` shows it of each keyword but the five that have.
-pub fits_plain : (parent : Option Keyword) (k : Keyword) (cs : List (List Choice)) (fs : List Follower) (t : Placed) → row k ≡ Takes cs fs → token_kind k ≡ BadForm → are_plain fs ≡ true → Fits parent k t → known.Fits k cs t
-fits_plain parent k cs fs t r b p h = fits_bad parent k cs fs t r b h (plain_fit fs (followers k t) p)
+pub fits_plain : (k : Keyword) (cs : List (List Choice)) (fs : List Follower) (t : Placed) → row k ≡ Takes cs fs → token_kind k ≡ BadForm → are_plain fs ≡ true → FitsOwn k t → known.Fits k cs t
+fits_plain k cs fs t r b p h = fits_bad k cs fs t r b h (plain_fit fs (followers k t) p)
 
 -- Its fixed arguments are the first of its arguments.
 take_front : {A : Type 0} (xs ys : List A) → take (length xs) (xs ++ ys) ≡ xs
@@ -282,30 +284,30 @@ fixed4 k c d e g fs t r h = go h.fixed (fixed_are k (c ∷ d ∷ e ∷ g ∷ [])
     go (a ∷ b ∷ x ∷ y ∷ []) w s z f = record { a = a; b = b; x = x; y = y; fixed = w; at_a = ap (λ v. slice_get v 0) s; at_b = ap (λ v. slice_get v 1) s; at_x = ap (λ v. slice_get v 2) s; at_y = ap (λ v. slice_get v 3) s; is_a = z.0; is_b = z.1.0; is_x = z.1.1.0; is_y = z.1.1.1.0; form = f }
 
 -- From a form that fits, where no breach of its row has a kind of its own. All premises but the last are `refl` at a keyword.
-pub fit0 : (parent : Option Keyword) (k : Keyword) (fs : List Follower) (t : Placed) → row k ≡ Takes [] fs → token_kind k ≡ BadForm → are_plain fs ≡ true → Fits parent k t → Fixed0 k t
-fit0 parent k fs t r b p h = fixed0 k fs t r (fits_plain parent k [] fs t r b p h)
+pub fit0 : (k : Keyword) (fs : List Follower) (t : Placed) → row k ≡ Takes [] fs → token_kind k ≡ BadForm → are_plain fs ≡ true → FitsOwn k t → Fixed0 k t
+fit0 k fs t r b p h = fixed0 k fs t r (fits_plain k [] fs t r b p h)
 
-pub fit1 : (parent : Option Keyword) (k : Keyword) (c : List Choice) (fs : List Follower) (t : Placed) → row k ≡ Takes (c ∷ []) fs → token_kind k ≡ BadForm → are_plain fs ≡ true → Fits parent k t → Fixed1 k c t
-fit1 parent k c fs t r b p h = fixed1 k c fs t r (fits_plain parent k (c ∷ []) fs t r b p h)
+pub fit1 : (k : Keyword) (c : List Choice) (fs : List Follower) (t : Placed) → row k ≡ Takes (c ∷ []) fs → token_kind k ≡ BadForm → are_plain fs ≡ true → FitsOwn k t → Fixed1 k c t
+fit1 k c fs t r b p h = fixed1 k c fs t r (fits_plain k (c ∷ []) fs t r b p h)
 
-pub fit2 : (parent : Option Keyword) (k : Keyword) (c d : List Choice) (fs : List Follower) (t : Placed) → row k ≡ Takes (c ∷ d ∷ []) fs → token_kind k ≡ BadForm → are_plain fs ≡ true → Fits parent k t → Fixed2 k c d t
-fit2 parent k c d fs t r b p h = fixed2 k c d fs t r (fits_plain parent k (c ∷ d ∷ []) fs t r b p h)
+pub fit2 : (k : Keyword) (c d : List Choice) (fs : List Follower) (t : Placed) → row k ≡ Takes (c ∷ d ∷ []) fs → token_kind k ≡ BadForm → are_plain fs ≡ true → FitsOwn k t → Fixed2 k c d t
+fit2 k c d fs t r b p h = fixed2 k c d fs t r (fits_plain k (c ∷ d ∷ []) fs t r b p h)
 
-pub fit3 : (parent : Option Keyword) (k : Keyword) (c d e : List Choice) (fs : List Follower) (t : Placed) → row k ≡ Takes (c ∷ d ∷ e ∷ []) fs → token_kind k ≡ BadForm → are_plain fs ≡ true → Fits parent k t → Fixed3 k c d e t
-fit3 parent k c d e fs t r b p h = fixed3 k c d e fs t r (fits_plain parent k (c ∷ d ∷ e ∷ []) fs t r b p h)
+pub fit3 : (k : Keyword) (c d e : List Choice) (fs : List Follower) (t : Placed) → row k ≡ Takes (c ∷ d ∷ e ∷ []) fs → token_kind k ≡ BadForm → are_plain fs ≡ true → FitsOwn k t → Fixed3 k c d e t
+fit3 k c d e fs t r b p h = fixed3 k c d e fs t r (fits_plain k (c ∷ d ∷ e ∷ []) fs t r b p h)
 
 -- A cell with one view at most, and a file with one design at most.
-pub fit_cell : (parent : Option Keyword) (t : Placed) → Fits parent keywords.Cell t → length (those_of keywords.View (followers keywords.Cell t)) ≤ 1 → Fixed2 keywords.Cell name_definition (the keywords.CellType) t
-fit_cell parent t h l =
+pub fit_cell : (t : Placed) → FitsOwn keywords.Cell t → length (those_of keywords.View (followers keywords.Cell t)) ≤ 1 → Fixed2 keywords.Cell name_definition (the keywords.CellType) t
+fit_cell t h l =
     let fs : List Follower = Many keywords.Status ∷ One keywords.View ∷ Many keywords.Property ∷ Many keywords.Comment ∷ Many keywords.UserData ∷ [] in
-    fixed2 keywords.Cell name_definition (the keywords.CellType) fs t refl (fits_bad parent keywords.Cell (name_definition ∷ the keywords.CellType ∷ []) fs t refl refl h (inr l, tt))
+    fixed2 keywords.Cell name_definition (the keywords.CellType) fs t refl (fits_bad keywords.Cell (name_definition ∷ the keywords.CellType ∷ []) fs t refl refl h (inr l, tt))
 
-pub fit_edif : (parent : Option Keyword) (t : Placed) → Fits parent keywords.Edif t → length (those_of keywords.Design (followers keywords.Edif t)) ≤ 1
+pub fit_edif : (t : Placed) → FitsOwn keywords.Edif t → length (those_of keywords.Design (followers keywords.Edif t)) ≤ 1
     → Fixed4 keywords.Edif name_definition (the keywords.EdifVersion) (the keywords.EdifLevel) (the keywords.KeywordMap) t
-fit_edif parent t h l =
+fit_edif t h l =
     let fs : List Follower = Many keywords.Status ∷ Many keywords.External ∷ Many keywords.Library ∷ One keywords.Design ∷ Many keywords.Comment ∷ Many keywords.UserData ∷ [] in
     fixed4 keywords.Edif name_definition (the keywords.EdifVersion) (the keywords.EdifLevel) (the keywords.KeywordMap) fs t refl
-    (fits_bad parent keywords.Edif (name_definition ∷ the keywords.EdifVersion ∷ the keywords.EdifLevel ∷ the keywords.KeywordMap ∷ []) fs t refl refl h (inr l, tt))
+    (fits_bad keywords.Edif (name_definition ∷ the keywords.EdifVersion ∷ the keywords.EdifLevel ∷ the keywords.KeywordMap ∷ []) fs t refl refl h (inr l, tt))
 
 -- An argument that is to be an integer: it is one, or a token whose fault is of the kind of its row.
 abbrev pub IntegerOr : Keyword → Placed → Placed → Type 0
@@ -342,8 +344,8 @@ get_front (suc n) zero (y ∷ xs) ys x e g = ap (λ v. slice_get v 0) e ∙ g
 get_front (suc n) (suc i) (y ∷ xs) [] x e g = absurd (cc e)
 get_front (suc n) (suc i) (y ∷ xs) (z ∷ ys) x e g = let w : take n xs ≡ ys = cc e in get_front n i xs ys x w g
 
-pub level_fits : (parent : Option Keyword) (k : Keyword) (t : Placed) → row k ≡ Takes (integer ∷ []) [] → Fits parent k t → LevelFits k t
-level_fits parent k t r h = go (take 1 (arguments t)) refl (fixed_or parent k (integer ∷ []) [] t r h)
+pub level_fits : (k : Keyword) (t : Placed) → row k ≡ Takes (integer ∷ []) [] → FitsOwn k t → LevelFits k t
+level_fits k t r h = go (take 1 (arguments t)) refl (fixed_or k (integer ∷ []) [] t r h)
   where
     n : fixed_count (row k) ≡ 1
     n = ap fixed_count r
@@ -359,12 +361,12 @@ level_fits parent k t r h = go (take 1 (arguments t)) refl (fixed_or parent k (i
       form = λ y.
           let P : List Placed → Type 0 = λ v. known.FixedFit (integer ∷ []) v in
           let Q : List Placed → Type 0 = λ v. IsFormOf k (bare t) (map bare v) (map bare (followers k t)) in
-          let f : known.Fits k (integer ∷ []) t = fits_row parent k (integer ∷ []) [] t r h (subst P (sym e) (y, tt)) tt in
+          let f : known.Fits k (integer ∷ []) t = fits_row k (integer ∷ []) [] t r h (subst P (sym e) (y, tt)) tt in
           subst Q (ap (λ v. take v (arguments t)) n ∙ e) (is_form k (integer ∷ []) [] t r f);
     }
 
-pub version_fits : (parent : Option Keyword) (t : Placed) → Fits parent keywords.EdifVersion t → VersionFits t
-version_fits parent t h = go (take 3 (arguments t)) refl (fixed_or parent keywords.EdifVersion (integer ∷ integer ∷ integer ∷ []) [] t refl h)
+pub version_fits : (t : Placed) → FitsOwn keywords.EdifVersion t → VersionFits t
+version_fits t h = go (take 3 (arguments t)) refl (fixed_or keywords.EdifVersion (integer ∷ integer ∷ integer ∷ []) [] t refl h)
   where
     go : (us : List Placed) → take 3 (arguments t) ≡ us → FixedOr keywords.EdifVersion t (integer ∷ integer ∷ integer ∷ []) us → VersionFits t
     go [] e z = absurd z
@@ -385,7 +387,7 @@ version_fits parent t h = go (take 3 (arguments t)) refl (fixed_or parent keywor
       form = λ i j l.
           let P : List Placed → Type 0 = λ v. known.FixedFit (integer ∷ integer ∷ integer ∷ []) v in
           let Q : List Placed → Type 0 = λ v. IsFormOf keywords.EdifVersion (bare t) (map bare v) (map bare (followers keywords.EdifVersion t)) in
-          let f : known.Fits keywords.EdifVersion (integer ∷ integer ∷ integer ∷ []) t = fits_row parent keywords.EdifVersion (integer ∷ integer ∷ integer ∷ []) [] t refl h (subst P (sym e) (i, (j, (l, tt)))) tt in
+          let f : known.Fits keywords.EdifVersion (integer ∷ integer ∷ integer ∷ []) t = fits_row keywords.EdifVersion (integer ∷ integer ∷ integer ∷ []) [] t refl h (subst P (sym e) (i, (j, (l, tt)))) tt in
           subst Q e (is_form keywords.EdifVersion (integer ∷ integer ∷ integer ∷ []) [] t refl f);
     }
 
@@ -420,8 +422,8 @@ second_stands j (One k ∷ fs) ts f (inl e) b = let P : Keyword → Type 0 = λ 
 second_stands j (One k ∷ fs) ts f (inr m) b = inr (second_stands j fs ts f m b)
 
 -- the same from a form that fits, whatever else has a kind of its own there
-pub once_fits : (parent : Option Keyword) (k j : Keyword) (cs : List (List Choice)) (fs : List Follower) (t : Placed) → row k ≡ Takes cs fs → MayStandOnce j fs → is_plain j ≡ true → Fits parent k t → length (those_of j (followers k t)) ≤ 1
-once_fits parent k j cs fs t r m p h = go (those_of j (followers k t)) refl
+pub once_fits : (k j : Keyword) (cs : List (List Choice)) (fs : List Follower) (t : Placed) → row k ≡ Takes cs fs → MayStandOnce j fs → is_plain j ≡ true → FitsOwn k t → length (those_of j (followers k t)) ≤ 1
+once_fits k j cs fs t r m p h = go (those_of j (followers k t)) refl
   where
     in_seconds : (f : MeaningFault) → SecondFault fs (drop (fixed_count (row k)) (arguments t)) f → RowFault k t f
     in_seconds f b = let P : Row → Type 0 = λ v. SecondFault fs (drop (fixed_count v) (arguments t)) f in in_row k cs fs t f r (inr (inr (subst P r b)))
@@ -436,8 +438,8 @@ once_fits parent k j cs fs t r m p h = go (those_of j (followers k t)) refl
         absurd (plain_second j (second j a b) a b p own refl)
 
 -- what follows is what the row allows there
-pub followers_fit : (parent : Option Keyword) (k : Keyword) (cs : List (List Choice)) (fs : List Follower) (t : Placed) → row k ≡ Takes cs fs → Fits parent k t → AllByRecursion (λ u. is_follower fs (bare u) ≡ true) (followers k t)
-followers_fit parent k cs fs t r h = go (followers k t) (λ f b. h.breaches f (in_followers f b))
+pub followers_fit : (k : Keyword) (cs : List (List Choice)) (fs : List Follower) (t : Placed) → row k ≡ Takes cs fs → FitsOwn k t → AllByRecursion (λ u. is_follower fs (bare u) ≡ true) (followers k t)
+followers_fit k cs fs t r h = go (followers k t) (λ f b. h.breaches f (in_followers f b))
   where
     in_followers : (f : MeaningFault) → FollowerFault (misplaced BadForm (Takes cs fs)) fs (drop (fixed_count (row k)) (arguments t)) f → RowFault k t f
     in_followers f b = let P : Row → Type 0 = λ v. FollowerFault (misplaced BadForm (Takes cs fs)) fs (drop (fixed_count v) (arguments t)) f in in_row k cs fs t f r (inr (inl (subst P r b)))
@@ -454,3 +456,26 @@ pub all_at : {A : Type 0} (P : A → Type 0) (xs : List A) (i : ℕ) (x : A) →
 all_at P [] i x h e = absurd (cc e)
 all_at {A} P (y ∷ xs) zero x h e = let w : y ≡ x = cc e in let Q : A → Type 0 = P in subst Q w h.0
 all_at P (y ∷ xs) (suc i) x h e = all_at P xs i x h.1 e
+
+-- a form that fits its place fits its own row
+pub own : (parent : Option Keyword) (k : Keyword) (t : Placed) → Fits parent k t → FitsOwn k t
+own parent k t h = record { keyword = h.keyword; breaches = h.breaches }
+
+-- what is found of a form's own row, where the row above has such a form
+has_parts : (parent : Option Keyword) (k : Keyword) (t : Placed) (p : Form) → row_has (row_above parent) (bare t) ≡ true → ArePartsOf k t p → HasParts parent t p
+has_parts parent k t p a h =
+    let F : Keyword → Type 0 = λ v. Fits parent v t in
+    record {
+      fits = subst F (sym h.keyword) (record { keyword = h.fits.keyword; allowed = a; breaches = h.fits.breaches });
+      place = h.place;
+      fixed = h.fixed ∙ ap (λ v. take (fixed_count (row v)) (arguments t)) (sym h.keyword);
+      inner = h.inner ∙ ap (λ v. followers v t) (sym h.keyword);
+    }
+
+pub all_parts : (parent : Option Keyword) (k : Keyword) (t : Placed) (r : Result Form Breach) → row_has (row_above parent) (bare t) ≡ true → IfOk r (λ p. ArePartsOf k t p) → IfOk r (λ p. HasParts parent t p)
+all_parts parent k t (Ok p) a h = has_parts parent k t p a h
+all_parts parent k t (Err b) a h = tt
+
+pub all_faults : (parent : Option Keyword) (k : Keyword) (t : Placed) (r : Result Form Breach) → has_keyword k (bare t) ≡ true → row_has (row_above parent) (bare t) ≡ true → IfErr r (λ b. RowFault k t (fault_of b)) → IfErr r (λ b. Fails parent t (fault_of b))
+all_faults parent k t (Ok p) g a h = tt
+all_faults parent k t (Err b) g a h = inr (k, g, h, a)

@@ -6,4 +6,3 @@ pub mod LengthLemmas
 pub mod Misplaced
 pub mod NodeForms
 pub mod RuleLemmas
-pub mod StandLemmas

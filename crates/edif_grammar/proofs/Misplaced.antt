@@ -62,6 +62,10 @@ keyword_unnamed k (Word' p x) e = refl
 keyword_unnamed k (Integer' p x) e = refl
 keyword_unnamed k (String' p x) e = refl
 
+-- what has a keyword begins with a name
+pub named : (k : Keyword) (t : Bare) → has_keyword k t ≡ true → first_word t ≡ None → ⊥
+named k t h e = let w : true ≡ false = sym h ∙ keyword_unnamed k t e in cc w
+
 pub keyword_found : (k : Keyword) (t : Bare) (name : List ℕ) → first_word t ≡ Some name → keyword name ≡ Some k → has_keyword k t ≡ true
 keyword_found k t name e f = keyword_named k t name e ∙ first_same name all_keywords k f
 

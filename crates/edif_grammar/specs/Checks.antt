@@ -1,24 +1,12 @@
 -- What the checks of a row find.
-use Rattle.std.specs.Prelude.{◌≡◌, ◌≤◌, ◌⊎◌, ℕ, List, length, take, true, false, Some, slice_get}
+use Rattle.std.specs.Prelude.{◌≡◌, ◌≤◌, ◌⊎◌, ℕ, List, length, true, false, Some, slice_get}
 use Rattle.spelling_spec.specs.Tree.{Placed, bare}
-use Rattle.edif_spec.specs.Keyword.{row, Row, Choice, Follower, Many, One}
+use Rattle.edif_spec.specs.Keyword.{Row, Choice, Follower, Many, One}
 use Rattle.edif_spec.specs.Rows.{is_one_of}
-use Rattle.edif_spec.specs.Faults.{arguments, fixed_count, followers, those_of, misplaced, place_of, RowFault}
-use Rattle.edif_spec.specs.declared.keyword.Keyword.{Keyword}
+use Rattle.edif_spec.specs.Faults.{those_of, misplaced}
 use Rattle.edif_spec.specs.declared.fault.Kind.{Kind}
-use Rattle.edif_spec.specs.declared.fault.MeaningFault.{MeaningFault}
-use Rattle.edif_tree.specs.Nodes as nodes
-use Rattle.edif_grammar.specs.Forms.{HasOwnKind, Stand}
+use Rattle.edif_grammar.specs.Forms.{HasOwnKind}
 use Rattle.edif_grammar.specs.Rules.{is_plain}
-use Rattle.edif_grammar.specs.declared.lent.Parts.{Parts}
-
--- the form fits its row, and these are its parts
-pub record FitsBelow (rows : List nodes.Row) (k : Keyword) (t : Placed) (p : Parts) : Type 0 where
-  pub keyword : p.keyword ≡ k
-  pub place : p.place ≡ place_of t
-  pub breaches : (f : MeaningFault) → RowFault k t f → HasOwnKind f
-  pub fixed : Stand rows p.fixed.now (take (fixed_count (row k)) (arguments t))
-  pub inner : Stand rows p.inner.now (followers k t)
 
 -- a fixed argument is one of its choices, or what is wrong with it has a kind of its own
 abbrev pub ArgumentFits : Kind → Row → List Choice → Placed → Type 0

@@ -1,6 +1,5 @@
 -- Which form stands at a node, and how it fits its row and its place.
-use Rattle.std.specs.Prelude.{◌≡◌, ◌⊎◌, ◌&&◌, List, Bool, true, false, Option, Some, None, take}
-use Rattle.std.specs.List.{AllZip}
+use Rattle.std.specs.Prelude.{◌≡◌, ◌⊎◌, ◌&&◌, Bool, true, false, Option, Some, None, take}
 use Rattle.spelling_spec.specs.Tree.{Bare, Placed, Form', bare}
 use Rattle.edif_spec.specs.Keyword.{row, Row}
 use Rattle.edif_spec.specs.Rows.{has_keyword}
@@ -10,10 +9,8 @@ use Rattle.edif_spec.specs.declared.keyword.Keyword.{Keyword}
 use Rattle.edif_spec.specs.declared.fault.Kind.TheVariants.{BadForm, BadVersion, BadLevel}
 use Rattle.edif_spec.specs.declared.fault.MeaningFault.{MeaningFault}
 use Rattle.edif_spec.specs.declared.fault.MeaningFault.TheVariants.{NotInProfile, At, Clash}
-use Rattle.edif_tree.specs.Nodes.{IsAt}
-use Rattle.edif_tree.specs.Nodes as nodes
-use Rattle.edif_tree.specs.declared.node.NodeId.{NodeId}
-use Rattle.edif_grammar.specs.declared.lent.Parts.{Parts}
+use Rattle.edif_tree.specs.Handles.{all}
+use Rattle.edif_grammar.specs.declared.lent.Form.{Form}
 use Rattle.edif_grammar.specs.declared.lent.Breach.{Breach}
 use Rattle.edif_grammar.specs.declared.lent.Breach.TheVariants as breaches
 
@@ -21,10 +18,6 @@ use Rattle.edif_grammar.specs.declared.lent.Breach.TheVariants as breaches
 abbrev pub row_above : Option Keyword → Row
 row_above None = file_row
 row_above (Some k) = row k
-
--- the trees stand at the nodes, in order
-abbrev pub Stand : List nodes.Row → List NodeId → List Placed → Type 0
-Stand rows ids ts = AllZip (IsAt rows) ids ts
 
 -- a breach that has a kind of its own: another version or level, a second view or design
 abbrev pub HasOwnKind : MeaningFault → Type 0
@@ -39,12 +32,25 @@ pub record Fits (parent : Option Keyword) (k : Keyword) (t : Placed) : Type 0 wh
   pub allowed : row_has (row_above parent) (bare t) ≡ true
   pub breaches : (f : MeaningFault) → RowFault k t f → HasOwnKind f
 
--- The form fits, and these are its parts: its place, its fixed arguments, and what follows them.
-pub record HasParts (rows : List nodes.Row) (parent : Option Keyword) (t : Placed) (p : Parts) : Type 0 where
+-- the same, whatever row is above
+pub record FitsOwn (k : Keyword) (t : Placed) : Type 0 where
+  pub keyword : has_keyword k (bare t) ≡ true
+  pub breaches : (f : MeaningFault) → RowFault k t f → HasOwnKind f
+
+-- The form of this keyword fits its own row, and these are its parts: its place, its fixed arguments, and what follows them.
+pub record ArePartsOf (k : Keyword) (t : Placed) (p : Form) : Type 0 where
+  pub keyword : p.keyword ≡ k
+  pub fits : FitsOwn k t
+  pub place : p.place ≡ place_of t
+  pub fixed : all p.fixed ≡ take (fixed_count (row k)) (arguments t)
+  pub inner : all p.inner ≡ followers k t
+
+-- The form fits, and these are its parts.
+pub record HasParts (parent : Option Keyword) (t : Placed) (p : Form) : Type 0 where
   pub fits : Fits parent p.keyword t
   pub place : p.place ≡ place_of t
-  pub fixed : Stand rows p.fixed.now (take (fixed_count (row p.keyword)) (arguments t))
-  pub inner : Stand rows p.inner.now (followers p.keyword t)
+  pub fixed : all p.fixed ≡ take (fixed_count (row p.keyword)) (arguments t)
+  pub inner : all p.inner ≡ followers p.keyword t
 
 -- a form, and no token
 abbrev pub is_form : Bare → Bool

@@ -1,15 +1,14 @@
-//! A form by its parts, kept beside its tree.
+//! A form by its parts, with a failing that is kept beside its tree.
 ghost use Rattle.std.specs.Prelude.{◌≡◌, IfErr, IfOk};
-ghost use Rattle.spelling_spec.specs.Tree.{Placed};
-ghost use Rattle.edif_tree.specs.Nodes.{IsAt, IsNode};
-ghost use Rattle.edif_grammar.specs.Kept.{Breaks, Keeps};
+ghost use Rattle.edif_tree.specs.Handles.{here};
+ghost use Rattle.edif_grammar.specs.Forms.{HasParts};
+ghost use Rattle.edif_grammar.specs.Kept.{Breaks};
 ghost use Rattle.edif_grammar.specs.declared.kept.EdifFormError.TheVariants.{NoMemory};
 
-use crate::form_parts::Form;
-use crate::lent::{Breach, Parts, parts_of};
+use crate::lent::{Breach, Form, parts_of};
 use edif_spec::Keyword;
-use edif_tree::{NodeId, Tree};
-use netlist_schema::{Ident, NoMemory, Row};
+use edif_tree::Node;
+use netlist_schema::{Ident, NoMemory};
 use std::alloc::{AllocError, Global};
 
 /// Why a form has no parts.
@@ -47,27 +46,20 @@ impl From<AllocError> for EdifFormError {
     }
 }
 
-/// The parts of the form at a node of this tree, where it fits the row of its keyword and the row of the form that holds it; with no
-/// parent, the form is to be a whole file. `NotInProfile` where the row above has no form of this keyword, or this form's row none of
-/// an argument's; `BadForm` at any other breach of the form's row. Another version or level, and a second view or design, are faults
-/// of their own, and no breach here.
-pub fn form(
+/// The parts of the form at a node, where it fits the row of its keyword and the row of the form that holds it; with no parent, the form
+/// is to be a whole file. `NotInProfile` where the row above has no form of this keyword, or this form's row none of an argument's;
+/// `BadForm` at any other breach of the form's row. Another version or level, and a second view or design, are faults of their own, and
+/// no breach here.
+pub fn form<'a>(
     alloc: Global,
-    tree: &Tree,
-    node: NodeId,
+    node: Node<'a>,
     parent: Option<Keyword>,
-) -> Result<Form, EdifFormError>
-    requires { IsNode tree.now.rows node }
-    ensures ok { (t : Placed) → IsAt tree.now.rows node t → IfOk result (λ p. Keeps tree.now.rows parent t p) }
-    ensures err { (t : Placed) → IsAt tree.now.rows node t → IfErr result (λ e. Breaks parent t e) }
+) -> Result<Form<'a>, EdifFormError>
+    ensures ok { IfOk result (λ p. HasParts parent (here node.entry) p) }
+    ensures err { IfErr result (λ e. Breaks parent (here node.entry) e) }
 {
-    match parts_of(tree, node, parent) {
-        Ok(parts) => Ok(Form {
-            keyword: parts.keyword,
-            place: parts.place,
-            fixed: Row::of(parts.fixed.to_vec(alloc)?),
-            inner: Row::of(parts.inner.to_vec(alloc)?),
-        }),
+    match parts_of(node, parent) {
+        Ok(parts) => Ok(parts),
         Err(Breach::NotInProfile { keyword, place }) => Err(EdifFormError::NotInProfile {
             keyword: keyword.copy(alloc)?,
             place,

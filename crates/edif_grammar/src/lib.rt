@@ -2,7 +2,6 @@
 #![tactic(auto)]
 
 mod checks;
-pub mod form_parts;
 pub mod kept;
 pub mod laws;
 pub mod lent;
@@ -11,9 +10,8 @@ mod rules;
 pub mod table;
 
 pub use edif_spec::Keyword;
-pub use form_parts::Form;
 pub use kept::{EdifFormError, form};
 pub use laws::no_form_fits_and_fails;
-pub use lent::{Breach, Parts, parts_of};
+pub use lent::{Breach, Form, parts_as, parts_of};
 pub use nodes::is_form_of;
 pub use table::keyword;

@@ -11,10 +11,7 @@ use Rattle.edif_spec.specs.Rows.{has_keyword, IsFormOf}
 use Rattle.edif_spec.specs.Faults.{arguments, followers, name_of, holds_name, defined}
 use Rattle.edif_spec.specs.declared.keyword.Keyword.TheVariants as keywords
 use Rattle.edif_spec.proofs.KnownRows.{follow_none}
-use Rattle.edif_tree.specs.Nodes.{Row}
-use Rattle.edif_grammar.specs.declared.lent.Parts.{Parts}
 use Rattle.edif_grammar.proofs.KeywordLemmas.{or_left, or_right}
-use Rattle.edif_parts.proofs.PartLemmas.{TwoNodes}
 
 -- the name, typed, with the place of its identifier
 pub record NamedAt (t : Placed) (n : Name) (p : ℕ) : Type 0 where
@@ -57,10 +54,10 @@ defined_first (Integer' p z) u e = absurd (cc e)
 defined_first (String' p s) u e = absurd (cc e)
 
 -- a rename
-pub rename_named : (rows : List Row) (t : Placed) (parts : Parts) (n : TwoNodes rows keywords.Rename identifier string t parts) (w s : List ℕ) (p q : ℕ) → has_keyword keywords.Rename (bare t) ≡ true → n.a ≡ Word' p w → n.b ≡ String' q s → IsIdentifier w → IsBytes s
+pub rename_named : (t u v : Placed) (w s : List ℕ) (p q : ℕ) → has_keyword keywords.Rename (bare t) ≡ true → IsFormOf keywords.Rename (bare t) (bare u ∷ bare v ∷ []) (map bare (followers keywords.Rename t)) → slice_get (arguments t) 0 ≡ Some u → u ≡ Word' p w → v ≡ String' q s → IsIdentifier w → IsBytes s
     → NamedAt t (record { id = w; shown = Some s }) p
-rename_named rows t parts n w s p q k a b i y =
-    let f : IsFormOf keywords.Rename (bare t) (bare n.a ∷ bare n.b ∷ []) [] = follow_none keywords.Rename (identifier ∷ string ∷ []) (bare t) (bare n.a ∷ bare n.b ∷ []) (map bare (followers keywords.Rename t)) refl n.form in
+rename_named t u v w s p q k form at a b i y =
+    let f : IsFormOf keywords.Rename (bare t) (bare u ∷ bare v ∷ []) [] = follow_none keywords.Rename (identifier ∷ string ∷ []) (bare t) (bare u ∷ bare v ∷ []) (map bare (followers keywords.Rename t)) refl form in
     let P : Placed → Placed → Type 0 = λ x y. IsFormOf keywords.Rename (bare t) (bare x ∷ bare y ∷ []) [] in
-    let g : P (Word' p w) (String' q s) = subst (λ y. P (Word' p w) y) b (subst (λ x. P x n.b) a f) in
-    record { means = inr (s, g, refl); typed = record { id = i; shown = y }; at = rename_names t n.a k n.at_a ∙ ap name_of a }
+    let g : P (Word' p w) (String' q s) = subst (λ y. P (Word' p w) y) b (subst (λ x. P x v) a f) in
+    record { means = inr (s, g, refl); typed = record { id = i; shown = y }; at = rename_names t u k at ∙ ap name_of a }

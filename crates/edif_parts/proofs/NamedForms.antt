@@ -1,5 +1,5 @@
 -- A list of forms of one keyword, as it is read: what each means, and the name that each defines, which differ.
-use Rattle.std.proofs.Common.{◌≡◌, ℕ, suc, List, [], ◌∷◌, ◌++◌, map, take, drop, length, refl, sym, ap, ◌∙◌, subst, None, Some, true, false}
+use Rattle.std.proofs.Common.{◌≡◌, ℕ, List, [], ◌∷◌, ◌++◌, map, refl, sym, ap, ◌∙◌, subst, None, Some, true, false}
 use Rattle.std.specs.List.{All, AllZip, AllByRecursion}
 use Rattle.std.proofs.lemmas.List.{map-append}
 use Rattle.std.proofs.lemmas.List.Elements.{All-from_recursion}
@@ -12,12 +12,9 @@ use Rattle.edif_spec.specs.declared.fault.ClashKind.TheVariants.{Duplicate}
 use Rattle.edif_spec.specs.declared.fault.MeaningFault.{MeaningFault}
 use Rattle.edif_spec.specs.declared.fault.MeaningFault.TheVariants.{Clash}
 use Rattle.edif_spec.proofs.FaultForms.{filter_bare}
-use Rattle.edif_tree.specs.Nodes.{Row}
-use Rattle.edif_tree.specs.declared.node.NodeId.{NodeId}
-use Rattle.edif_grammar.specs.Forms.{Stand}
 use Rattle.edif_parts.specs.Names.{ids, Define, DefinesName, IsAgain}
 use Rattle.edif_parts.proofs.NameLists.{define_push, ids_named, ids_push, name_repeats, none_distinct, distinct_push}
-use Rattle.edif_parts.proofs.Steps.{Step, kept, skipped, here, take_all}
+use Rattle.edif_parts.proofs.Steps.{those_keep, those_skip}
 
 -- The forms of a keyword among these: each means the value in its place, which has the property, and its name is that in its place.
 pub record NamedForms {A : Type 0} (M : Bare → A → Type 0) (V : A → Type 0) (g : A → List ℕ) (k : Keyword) (ts : List Placed) (xs : List A) (ns : List (List ℕ × ℕ)) : Type 0 where
@@ -41,49 +38,42 @@ pub forms_start : {A : Type 0} (M : Bare → A → Type 0) (V : A → Type 0) (g
 forms_start M V g k = record { means = tt; valid = tt; defines = tt; named = refl; distinct = none_distinct }
 
 -- a further form of the keyword
-pub forms_push : {A : Type 0} (M : Bare → A → Type 0) (V : A → Type 0) (g : A → List ℕ) (k : Keyword) {rows : List Row} {id : NodeId} (ts : List Placed) (i : ℕ) (s : Step rows ts i id) (xs : List A) (x : A) (ns ms : List (List ℕ × ℕ)) (place : ℕ)
-    → has_keyword k (bare s.tree) ≡ true → M (bare s.tree) x → V x → defined s.tree ≡ Some (g x, place) → DefinesName ns (g x) place ms None → NamedForms M V g k (take i ts) xs ns → NamedForms M V g k (take (suc i) ts) (xs ++ x ∷ []) ms
-forms_push {A} M V g k ts i s xs x ns ms place h m v d n f =
-    let us : List Placed = those_of k (take i ts) in
-    let more : those_of k (take (suc i) ts) ≡ us ++ s.tree ∷ [] = kept k ts i s h in
-    let bares : map bare (us ++ s.tree ∷ []) ≡ map bare us ++ bare s.tree ∷ [] = map-append bare us (s.tree ∷ []) in
+pub forms_push : {A : Type 0} (M : Bare → A → Type 0) (V : A → Type 0) (g : A → List ℕ) (k : Keyword) (ts : List Placed) (t : Placed) (xs : List A) (x : A) (ns ms : List (List ℕ × ℕ)) (place : ℕ)
+    → has_keyword k (bare t) ≡ true → M (bare t) x → V x → defined t ≡ Some (g x, place) → DefinesName ns (g x) place ms None → NamedForms M V g k ts xs ns → NamedForms M V g k (ts ++ t ∷ []) (xs ++ x ∷ []) ms
+forms_push {A} M V g k ts t xs x ns ms place h m v d n f =
+    let us : List Placed = those_of k ts in
+    let more : those_of k (ts ++ t ∷ []) ≡ us ++ t ∷ [] = those_keep k ts t h in
+    let bares : map bare (us ++ t ∷ []) ≡ map bare us ++ bare t ∷ [] = map-append bare us (t ∷ []) in
     let P : List Bare → Type 0 = λ w. Each M w (xs ++ x ∷ []) in
     let Q : List Placed → Type 0 = λ w. Define w (ns ++ (g x, place) ∷ []) in
-    let D : List (List ℕ × ℕ) → Type 0 = λ w. Define (those_of k (take (suc i) ts)) w in
+    let D : List (List ℕ × ℕ) → Type 0 = λ w. Define (those_of k (ts ++ t ∷ [])) w in
     let N : List (List ℕ × ℕ) → Type 0 = λ w. ids w ≡ map g (xs ++ x ∷ []) in
     let S : List (List ℕ × ℕ) → Type 0 = λ w. AreDistinct (ids w) in
     let Z : List (List ℕ) → Type 0 = AreDistinct in
     record {
-      means = subst P (sym (ap (map bare) more ∙ bares)) (each_push M (map bare us) xs (bare s.tree) x f.means m);
+      means = subst P (sym (ap (map bare) more ∙ bares)) (each_push M (map bare us) xs (bare t) x f.means m);
       valid = all_push V xs x f.valid v;
-      defines = subst D (sym n.1) (subst Q (sym more) (define_push us ns s.tree (g x, place) f.defines d));
+      defines = subst D (sym n.1) (subst Q (sym more) (define_push us ns t (g x, place) f.defines d));
       named = subst N (sym n.1) (ids_named g ns xs x place f.named);
       distinct = subst S (sym n.1) (subst Z (sym (ids_push ns (g x) place)) (distinct_push (ids ns) (g x) f.distinct n.0));
     }
 
 -- a form of another keyword
-pub forms_skip : {A : Type 0} (M : Bare → A → Type 0) (V : A → Type 0) (g : A → List ℕ) (k : Keyword) {rows : List Row} {id : NodeId} (ts : List Placed) (i : ℕ) (s : Step rows ts i id) (xs : List A) (ns : List (List ℕ × ℕ))
-    → has_keyword k (bare s.tree) ≡ false → NamedForms M V g k (take i ts) xs ns → NamedForms M V g k (take (suc i) ts) xs ns
-forms_skip {A} M V g k ts i s xs ns h f =
-    let e = sym (skipped k ts i s h) in
+pub forms_skip : {A : Type 0} (M : Bare → A → Type 0) (V : A → Type 0) (g : A → List ℕ) (k : Keyword) (ts : List Placed) (t : Placed) (xs : List A) (ns : List (List ℕ × ℕ))
+    → has_keyword k (bare t) ≡ false → NamedForms M V g k ts xs ns → NamedForms M V g k (ts ++ t ∷ []) xs ns
+forms_skip {A} M V g k ts t xs ns h f =
+    let e = sym (those_skip k ts t h) in
     let P : List Placed → Type 0 = λ w. Each M (map bare w) xs in
     let Q : List Placed → Type 0 = λ w. Define w ns in
     record { means = subst P e f.means; valid = f.valid; defines = subst Q e f.defines; named = f.named; distinct = f.distinct }
 
 -- a further form with a name that is there
-pub forms_again : {A : Type 0} (M : Bare → A → Type 0) (V : A → Type 0) (g : A → List ℕ) (k : Keyword) {rows : List Row} {id : NodeId} (ts : List Placed) (i : ℕ) (s : Step rows ts i id) (xs : List A) (ns : List (List ℕ × ℕ)) (name : List ℕ) (place : ℕ) (f : MeaningFault)
-    → has_keyword k (bare s.tree) ≡ true → defined s.tree ≡ Some (name, place) → NamedForms M V g k (take i ts) xs ns → IsAgain ns name place f → Repeats (those_of k ts) f
-forms_again M V g k ts i s xs ns name place f h d r n =
+pub forms_again : {A : Type 0} (M : Bare → A → Type 0) (V : A → Type 0) (g : A → List ℕ) (k : Keyword) (all before rest : List Placed) (t : Placed) (xs : List A) (ns : List (List ℕ × ℕ)) (name : List ℕ) (place : ℕ) (f : MeaningFault)
+    → those_of k all ≡ those_of k before ++ t ∷ those_of k rest → defined t ≡ Some (name, place) → NamedForms M V g k before xs ns → IsAgain ns name place f → Repeats (those_of k all) f
+forms_again M V g k all before rest t xs ns name place f e d r n =
     let P : List Placed → Type 0 = λ w. Repeats w (Clash Duplicate place n.0) in
-    let Q : MeaningFault → Type 0 = λ v. Repeats (those_of k ts) v in
-    subst Q (sym n.2) (subst P (sym (here k ts i s h)) (name_repeats (those_of k (take i ts)) ns s.tree (those_of k (drop (suc i) ts)) name n.0 place r.defines n.1 d))
-
--- all forms
-pub forms_end : {A : Type 0} (M : Bare → A → Type 0) (V : A → Type 0) (g : A → List ℕ) (k : Keyword) (rows : List Row) (nodes : List NodeId) (ts : List Placed) (i : ℕ) (xs : List A) (ns : List (List ℕ × ℕ))
-    → Stand rows nodes ts → i ≡ length nodes → NamedForms M V g k (take i ts) xs ns → NamedForms M V g k ts xs ns
-forms_end M V g k rows nodes ts i xs ns st e f =
-    let P : List Placed → Type 0 = λ w. NamedForms M V g k w xs ns in
-    subst P (ap (λ n. take n ts) e ∙ take_all rows nodes ts st) f
+    let Q : MeaningFault → Type 0 = λ v. Repeats (those_of k all) v in
+    subst Q (sym n.2) (subst P (sym e) (name_repeats (those_of k before) ns t (those_of k rest) name n.0 place r.defines n.1 d))
 
 pub forms_each : {A : Type 0} (M : Bare → A → Type 0) (V : A → Type 0) (g : A → List ℕ) (k : Keyword) (ts : List Placed) (xs : List A) (ns : List (List ℕ × ℕ)) → NamedForms M V g k ts xs ns → Each M (those k (map bare ts)) xs
 forms_each M V g k ts xs ns f = let P : List Bare → Type 0 = λ w. Each M w xs in subst P (filter_bare (has_keyword k) ts) f.means

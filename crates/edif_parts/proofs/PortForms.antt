@@ -1,6 +1,6 @@
 -- What a port means, with its name and its direction.
 use Rattle.std.proofs.Common.{◌≡◌, ◌≤◌, ◌<◌, ◌^◌, ℕ, ℤ, pos, negsuc, nat_abs, List, [], ◌∷◌, map, length, refl, sym, ap, ◌∙◌, subst, inl, inr, Bool, true, false, Option, None, Some, arith}
-use Rattle.std.specs.Prelude.{IfSome, IfNone, IsSome, ◌||◌}
+use Rattle.std.specs.Prelude.{IfSome, IfNone, IsSome, slice_get, ◌||◌}
 use Rattle.std.specs.Int.{FitsUnsignedBits}
 use Rattle.spelling_spec.specs.Tree.{Bare, Placed, Word', Integer', integer, bare}
 use Rattle.netlist_schema.specs.Typed.{IsTypedName}
@@ -11,51 +11,49 @@ use Rattle.edif_spec.specs.Keyword.{same, identifier, Choice, Follower, Many, On
 use Rattle.edif_spec.specs.Keyword as table
 use Rattle.edif_spec.specs.Means.{MeansName, MeansBusName, MeansDirection, MeansText, MeansProperties, MeansPort}
 use Rattle.edif_spec.specs.Rows.{Perhaps, those, has_keyword, is_choice, is_one_of, IsFormOf}
-use Rattle.edif_spec.specs.Faults.{InPart, defined, name_of, followers, those_of}
+use Rattle.edif_spec.specs.Faults.{InPart, arguments, name_of, followers, those_of}
 use Rattle.edif_spec.specs.Stands.{is_direction, DirectionFault, SizeFault}
 use Rattle.edif_spec.specs.Stands as stands
 use Rattle.edif_spec.specs.declared.fault.Kind.TheVariants.{BadForm, BadIndex}
 use Rattle.edif_spec.specs.declared.fault.MeaningFault.TheVariants.{At}
-use Rattle.edif_spec.specs.declared.keyword.Keyword.{Keyword}
 use Rattle.edif_spec.specs.declared.keyword.Keyword.TheVariants as keywords
 use Rattle.edif_spec.proofs.KnownRows.{follow_none}
-use Rattle.edif_tree.specs.Nodes as nodes
-use Rattle.edif_parts.specs.Parts.{ArePartsOf}
+use Rattle.edif_grammar.specs.Forms.{ArePartsOf}
 use Rattle.edif_parts.specs.Ports.{ReadBusName, bus_name}
-use Rattle.edif_grammar.specs.declared.lent.Parts.{Parts}
+use Rattle.edif_grammar.specs.declared.lent.Form.{Form}
 use Rattle.edif_grammar.proofs.FormLemmas.{once_fits}
-use Rattle.edif_parts.proofs.NameForms.{array_names, defined_first}
+use Rattle.edif_parts.proofs.NameForms.{array_names}
 use Rattle.edif_parts.proofs.PartLemmas.{OneNode, TwoNodes, one_node, two_nodes}
 
 -- directions
-pub direction_node : (rows : List nodes.Row) (parent : Keyword) (t : Placed) (p : Parts) → ArePartsOf rows parent keywords.Direction t p → OneNode rows keywords.Direction identifier t p
-direction_node rows parent t p a = one_node rows parent keywords.Direction identifier [] t p refl refl refl a
+pub direction_node : (t : Placed) (p : Form) → ArePartsOf keywords.Direction t p → OneNode keywords.Direction identifier t p
+direction_node t p a = one_node keywords.Direction identifier [] t p refl refl refl a
 
-pub direction_means : (rows : List nodes.Row) (t : Placed) (p : Parts) (n : OneNode rows keywords.Direction identifier t p) (q : ℕ) (w : List ℕ) (d : Direction) → n.a ≡ Word' q w → same w (direction_word d) ≡ true → MeansDirection (bare t) d
-direction_means rows t p n q w d e h =
+pub direction_means : (t u : Placed) (q : ℕ) (w : List ℕ) (d : Direction) → IsFormOf keywords.Direction (bare t) (bare u ∷ []) (map bare (followers keywords.Direction t)) → u ≡ Word' q w → same w (direction_word d) ≡ true → MeansDirection (bare t) d
+direction_means t u q w d f e h =
     let P : Placed → Type 0 = λ v. IsFormOf keywords.Direction (bare t) (bare v ∷ []) [] in
-    (w, subst P e (follow_none keywords.Direction (identifier ∷ []) (bare t) (bare n.a ∷ []) (map bare (followers keywords.Direction t)) refl n.form), h)
+    (w, subst P e (follow_none keywords.Direction (identifier ∷ []) (bare t) (bare u ∷ []) (map bare (followers keywords.Direction t)) refl f), h)
 
-pub direction_fault : (rows : List nodes.Row) (t : Placed) (p : Parts) (n : OneNode rows keywords.Direction identifier t p) (q : ℕ) (w : List ℕ) → n.a ≡ Word' q w → is_direction w ≡ false → DirectionFault t (At BadForm q)
-direction_fault rows t p n q w e h = stands.other_direction (n.a, n.at_a, (w, q, e, h, refl))
+pub direction_fault : (t u : Placed) (q : ℕ) (w : List ℕ) → slice_get (arguments t) 0 ≡ Some u → u ≡ Word' q w → is_direction w ≡ false → DirectionFault t (At BadForm q)
+direction_fault t u q w a e h = stands.other_direction (u, a, (w, q, e, h, refl))
 
 pub no_direction : (w : List ℕ) (a b d : Bool) → a ≡ false → b ≡ false → d ≡ false → (a || (b || d)) ≡ false
 no_direction w a b d x y z = rw (x, y, z) refl
 
 -- arrays
-pub array_nodes : (rows : List nodes.Row) (parent : Keyword) (t : Placed) (p : Parts) → ArePartsOf rows parent keywords.Array t p → TwoNodes rows keywords.Array name_definition table.integer t p
-array_nodes rows parent t p a = two_nodes rows parent keywords.Array name_definition table.integer [] t p refl refl refl a
+pub array_nodes : (t : Placed) (p : Form) → ArePartsOf keywords.Array t p → TwoNodes keywords.Array name_definition table.integer t p
+array_nodes t p a = two_nodes keywords.Array name_definition table.integer [] t p refl refl refl a
 
-pub array_means : (rows : List nodes.Row) (t : Placed) (p : Parts) (n : TwoNodes rows keywords.Array name_definition table.integer t p) (x : Name) (q : ℕ) (z : ℤ) (width place : ℕ) → has_keyword keywords.Array (bare t) ≡ true
-    → MeansName (bare n.a) x → IsTypedName x → name_of n.a ≡ Some (x.id, place) → n.b ≡ Integer' q z → z ≡ pos width → IsWidth width → ReadBusName t (record { name = x; array = Some width; place = place })
-array_means rows t p n x q z width place k m y d e v w =
-    let P : Placed → Type 0 = λ u. IsFormOf keywords.Array (bare t) (bare n.a ∷ bare u ∷ []) [] in
-    let Q : ℤ → Type 0 = λ u. IsFormOf keywords.Array (bare t) (bare n.a ∷ integer u ∷ []) [] in
-    let f : P n.b = follow_none keywords.Array (name_definition ∷ table.integer ∷ []) (bare t) (bare n.a ∷ bare n.b ∷ []) (map bare (followers keywords.Array t)) refl n.form in
-    record { means = (bare n.a, subst Q v (subst P e f), m, w); typed = y; width = w; at = array_names t n.a k n.at_a ∙ d }
+pub array_means : (t u v : Placed) (x : Name) (q : ℕ) (z : ℤ) (width place : ℕ) → has_keyword keywords.Array (bare t) ≡ true → IsFormOf keywords.Array (bare t) (bare u ∷ bare v ∷ []) (map bare (followers keywords.Array t)) → slice_get (arguments t) 0 ≡ Some u
+    → MeansName (bare u) x → IsTypedName x → name_of u ≡ Some (x.id, place) → v ≡ Integer' q z → z ≡ pos width → IsWidth width → ReadBusName t (record { name = x; array = Some width; place = place })
+array_means t u v x q z width place k g a m y d e s w =
+    let P : Placed → Type 0 = λ x. IsFormOf keywords.Array (bare t) (bare u ∷ bare x ∷ []) [] in
+    let Q : ℤ → Type 0 = λ x. IsFormOf keywords.Array (bare t) (bare u ∷ integer x ∷ []) [] in
+    let f : P v = follow_none keywords.Array (name_definition ∷ table.integer ∷ []) (bare t) (bare u ∷ bare v ∷ []) (map bare (followers keywords.Array t)) refl g in
+    record { means = (bare u, subst Q s (subst P e f), m, w); typed = y; width = w; at = array_names t u k a ∙ d }
 
-pub size_fault : (rows : List nodes.Row) (t : Placed) (p : Parts) (n : TwoNodes rows keywords.Array name_definition table.integer t p) (q : ℕ) (z : ℤ) → n.b ≡ Integer' q z → ((w : ℕ) → z ≡ pos w → IsWidth w → ⊥) → InPart 1 SizeFault t (At BadIndex q)
-size_fault rows t p n q z e h = (n.b, n.at_b, (z, q, e, h, refl))
+pub size_fault : (t v : Placed) (q : ℕ) (z : ℤ) → slice_get (arguments t) 1 ≡ Some v → v ≡ Integer' q z → ((w : ℕ) → z ≡ pos w → IsWidth w → ⊥) → InPart 1 SizeFault t (At BadIndex q)
+size_fault t v q z a e h = (v, a, (z, q, e, h, refl))
 
 -- the width of so many bits
 pub too_wide : (z : ℤ) (n : ℕ) → (FitsUnsignedBits 32 z → ⊥) → z ≡ pos n → IsWidth n → ⊥
@@ -93,18 +91,15 @@ plain_means t x place m y d = record { means = m; typed = y; width = tt; at = d 
 abbrev pub port_followers : List Follower
 port_followers = One keywords.Direction ∷ One keywords.Designator ∷ Many keywords.Property ∷ Many keywords.Comment ∷ Many keywords.UserData ∷ []
 
-pub port_node : (rows : List nodes.Row) (parent : Keyword) (t : Placed) (p : Parts) → ArePartsOf rows parent keywords.Port t p → OneNode rows keywords.Port bus_name t p
-port_node rows parent t p a = one_node rows parent keywords.Port bus_name port_followers t p refl refl refl a
+pub port_node : (t : Placed) (p : Form) → ArePartsOf keywords.Port t p → OneNode keywords.Port bus_name t p
+port_node t p a = one_node keywords.Port bus_name port_followers t p refl refl refl a
 
-pub one_direction : (rows : List nodes.Row) (parent : Keyword) (t : Placed) (p : Parts) → ArePartsOf rows parent keywords.Port t p → length (those_of keywords.Direction (followers keywords.Port t)) ≤ 1
-one_direction rows parent t p a = once_fits (Some parent) keywords.Port keywords.Direction (bus_name ∷ []) port_followers t refl (inl refl) refl a.fits
+pub one_direction : (t : Placed) (p : Form) → ArePartsOf keywords.Port t p → length (those_of keywords.Direction (followers keywords.Port t)) ≤ 1
+one_direction t p a = once_fits keywords.Port keywords.Direction (bus_name ∷ []) port_followers t refl (inl refl) refl a.fits
 
-pub one_designator : (rows : List nodes.Row) (parent : Keyword) (t : Placed) (p : Parts) → ArePartsOf rows parent keywords.Port t p → length (those_of keywords.Designator (followers keywords.Port t)) ≤ 1
-one_designator rows parent t p a = once_fits (Some parent) keywords.Port keywords.Designator (bus_name ∷ []) port_followers t refl (inr (inl refl)) refl a.fits
+pub one_designator : (t : Placed) (p : Form) → ArePartsOf keywords.Port t p → length (those_of keywords.Designator (followers keywords.Port t)) ≤ 1
+one_designator t p a = once_fits keywords.Port keywords.Designator (bus_name ∷ []) port_followers t refl (inr (inl refl)) refl a.fits
 
-pub port_means : (rows : List nodes.Row) (t : Placed) (p : Parts) (n : OneNode rows keywords.Port bus_name t p) (x : Port) → MeansBusName (bare n.a) x.name x.array → Perhaps MeansDirection (those keywords.Direction (map bare (followers keywords.Port t))) x.direction
+pub port_means : (t u : Placed) (x : Port) → IsFormOf keywords.Port (bare t) (bare u ∷ []) (map bare (followers keywords.Port t)) → MeansBusName (bare u) x.name x.array → Perhaps MeansDirection (those keywords.Direction (map bare (followers keywords.Port t))) x.direction
     → Perhaps (MeansText keywords.Designator) (those keywords.Designator (map bare (followers keywords.Port t))) x.designator → MeansProperties (map bare (followers keywords.Port t)) x.properties → MeansPort (bare t) x
-port_means rows t p n x m d g ps = record { name_part = bare n.a; inner = map bare (followers keywords.Port t); form = n.form; name = m; direction = d; designator = g; properties = ps }
-
-pub port_defines : (rows : List nodes.Row) (t : Placed) (p : Parts) (n : OneNode rows keywords.Port bus_name t p) (d : List ℕ × ℕ) → name_of n.a ≡ Some d → defined t ≡ Some d
-port_defines rows t p n d e = defined_first t n.a n.at_a ∙ e
+port_means t u x f m d g ps = record { name_part = bare u; inner = map bare (followers keywords.Port t); form = f; name = m; direction = d; designator = g; properties = ps }

@@ -1,5 +1,5 @@
 -- The ports of an interface as they are read, and their limits.
-use Rattle.std.proofs.Common.{◌≡◌, ◌≤◌, ◌<◌, ◌+◌, ℕ, suc, List, [], ◌∷◌, ◌++◌, map, take, drop, length, refl, sym, ap, ◌∙◌, subst, ◌⊎◌, inl, inr, true, Some, arith, zero-add, length-append}
+use Rattle.std.proofs.Common.{◌≡◌, ◌≤◌, ◌<◌, ◌+◌, ℕ, List, [], ◌∷◌, ◌++◌, map, length, refl, sym, ap, ◌∙◌, subst, ◌⊎◌, inl, inr, Some, arith, zero-add, length-append}
 use Rattle.std.specs.Prelude.{sum_by, slice_get}
 use Rattle.std.specs.List.{AllZip, fold}
 use Rattle.std.proofs.lemmas.List.Elements.{All-from_recursion}
@@ -11,7 +11,6 @@ use Rattle.netlist_schema.specs.Typed.{IsTypedPort}
 use Rattle.netlist_schema.specs.Types.{Port}
 use Rattle.edif_spec.specs.Faults.{Beyond, BeyondBits, those_of, place_of, declared_width}
 use Rattle.edif_spec.specs.Means.{MeansPort}
-use Rattle.edif_spec.specs.Rows.{has_keyword}
 use Rattle.edif_spec.specs.declared.fault.MeaningFault.{MeaningFault}
 use Rattle.edif_spec.specs.declared.fault.MeaningFault.TheVariants.{OverLimit}
 use Rattle.edif_spec.specs.declared.keyword.Keyword.TheVariants as keywords
@@ -20,12 +19,9 @@ use Rattle.edif_spec.proofs.FaultForms.{each_with}
 use Rattle.edif_spec.proofs.FaultPlaces.{Widths, bits_later}
 use Rattle.edif_spec.proofs.FaultsApart.{port_declares}
 use Rattle.edif_spec.proofs.KnownRows.{each_count, first_all, second_all}
-use Rattle.edif_tree.specs.Nodes.{Row}
-use Rattle.edif_tree.specs.declared.node.NodeId.{NodeId}
 use Rattle.edif_parts.specs.Interfaces.{PassesLimit, ReadPorts}
 use Rattle.edif_parts.specs.declared.interface.Ports.{Ports}
 use Rattle.edif_parts.proofs.NamedForms.{NamedForms, forms_each, forms_distinct}
-use Rattle.edif_parts.proofs.Steps.{Step, here}
 
 -- what holds of each port
 abbrev pub IsFinePort : Port → Type 0
@@ -58,23 +54,23 @@ pub bits_push : (ps : List Port) (p : Port) → sum_by port_width (ps ++ p ∷ [
 bits_push ps p = sum_by-append port_width ps (p ∷ []) ∙ ap (λ v. sum_by port_width ps + v) (zero-add (port_width p))
 
 -- a further port beyond a limit
-pub passes : {rows : List Row} {id : NodeId} (ts : List Placed) (i : ℕ) (s : Step rows ts i id) (ps : List Port) (ns : List (List ℕ × ℕ)) (p : Port) (n b place : ℕ) (f : MeaningFault)
-    → n ≡ length ps → b ≡ sum_by port_width ps + port_width p → has_keyword keywords.Port (bare s.tree) ≡ true → MeansPort (bare s.tree) p → place ≡ place_of s.tree → PortForms (take i ts) ps ns → length ps ≤ 65536 → sum_by port_width ps ≤ 1048576
+pub passes : (ts before rest : List Placed) (t : Placed) (ps : List Port) (ns : List (List ℕ × ℕ)) (p : Port) (n b place : ℕ) (f : MeaningFault)
+    → n ≡ length ps → b ≡ sum_by port_width ps + port_width p → those_of keywords.Port ts ≡ those_of keywords.Port before ++ t ∷ those_of keywords.Port rest → MeansPort (bare t) p → place ≡ place_of t → PortForms before ps ns → length ps ≤ 65536 → sum_by port_width ps ≤ 1048576
     → PassesLimit n b place f → Beyond 65536 (those_of keywords.Port ts) f ⊎ BeyondBits 1048576 0 (those_of keywords.Port ts) f
-passes ts i s ps ns p n b place f u v h m e r l y (inl x) =
-    let us : List Placed = those_of keywords.Port (take i ts) in
-    let rest : List Placed = those_of keywords.Port (drop (suc i) ts) in
-    let z : length us ≡ 65536 = omega (arith, ports_count (take i ts) ps ns r, x.0, l, u) in
-    let P : List Placed → Type 0 = λ v. slice_get v 65536 ≡ Some s.tree in
-    let Q : ℕ → Type 0 = λ v. slice_get (us ++ s.tree ∷ rest) v ≡ Some s.tree in
-    inl (s.tree, subst P (sym (here keywords.Port ts i s h)) (subst Q z (get_after us s.tree rest)), x.1 ∙ ap (OverLimit 65536) e)
-passes ts i s ps ns p n b place f u v h m e r l y (inr x) =
-    let us : List Placed = those_of keywords.Port (take i ts) in
-    let rest : List Placed = those_of keywords.Port (drop (suc i) ts) in
+passes ts before rest t ps ns p n b place f u v h m e r l y (inl x) =
+    let us : List Placed = those_of keywords.Port before in
+    let others : List Placed = those_of keywords.Port rest in
+    let z : length us ≡ 65536 = omega (arith, ports_count before ps ns r, x.0, l, u) in
+    let P : List Placed → Type 0 = λ v. slice_get v 65536 ≡ Some t in
+    let Q : ℕ → Type 0 = λ v. slice_get (us ++ t ∷ others) v ≡ Some t in
+    inl (t, subst P (sym h) (subst Q z (get_after us t others)), x.1 ∙ ap (OverLimit 65536) e)
+passes ts before rest t ps ns p n b place f u v h m e r l y (inr x) =
+    let us : List Placed = those_of keywords.Port before in
+    let others : List Placed = those_of keywords.Port rest in
     let P : List Placed → Type 0 = λ v. BeyondBits 1048576 0 v f in
-    let w : declared_width s.tree ≡ port_width p = port_declares s.tree p m in
-    let k : 1048576 < sum_by port_width ps + declared_width s.tree = (let j = x.0 in omega arith) in
-    inr (subst P (sym (here keywords.Port ts i s h)) (bits_later 1048576 0 (sum_by port_width ps) us (s.tree ∷ rest) f (ports_widths (take i ts) ps ns r) (inl (y, k, x.1 ∙ ap (OverLimit 1048576) e))))
+    let w : declared_width t ≡ port_width p = port_declares t p m in
+    let k : 1048576 < sum_by port_width ps + declared_width t = (let j = x.0 in omega arith) in
+    inr (subst P (sym h) (bits_later 1048576 0 (sum_by port_width ps) us (t ∷ others) f (ports_widths before ps ns r) (inl (y, k, x.1 ∙ ap (OverLimit 1048576) e))))
 
 -- a further port within the limits
 pub within : (ps qs : List Port) (p : Port) (n b x : ℕ) → qs ≡ ps ++ p ∷ [] → n ≡ length ps → n < 65536 → b ≡ sum_by port_width ps → x ≡ port_width p → (length qs ≤ 65536) × (b + x ≡ sum_by port_width qs)

@@ -1,6 +1,5 @@
 pub mod Interfaces
 pub mod Names
-pub mod Parts
 pub mod Ports
 pub mod Reading
 pub mod Texts

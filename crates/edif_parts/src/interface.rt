@@ -1,13 +1,12 @@
 //! The interface of a cell: its ports, and properties of its own.
 ghost use Rattle.std.specs.Prelude.{◌≡◌, ◌<◌, ◌≤◌, IfErr, List, OnOk, true};
-ghost use Rattle.spelling_spec.specs.Tree.{Placed, bare};
+ghost use Rattle.spelling_spec.specs.Tree.{bare};
 ghost use Rattle.netlist_schema.specs.declared.limits.TheConstants.{MOST_BITS, MOST_PORTS};
 ghost use Rattle.edif_spec.specs.Faults.{those_of};
 ghost use Rattle.edif_spec.specs.Rows.{has_keyword};
 ghost use Rattle.edif_spec.specs.Stands.{InterfaceFault};
 ghost use Rattle.edif_spec.specs.declared.keyword.Keyword.TheVariants.{Interface as InterfaceWord, Port as PortWord};
-ghost use Rattle.edif_tree.specs.Nodes.{IsAt, IsNode};
-ghost use Rattle.edif_grammar.specs.Forms.{Stand};
+ghost use Rattle.edif_tree.specs.Handles.{here, all};
 ghost use Rattle.edif_parts.specs.Interfaces.{PassesLimit, PortsFault, ReadInterface, ReadPorts};
 ghost use Rattle.edif_parts.specs.Reading.{Answers, Names as FailsBy};
 
@@ -19,7 +18,7 @@ use crate::properties::read_properties;
 use bus_members::width;
 use edif_grammar::is_form_of;
 use edif_spec::Keyword;
-use edif_tree::{NodeId, Tree};
+use edif_tree::{Node, Nodes};
 use netlist_schema::limits::{MOST_BITS, MOST_PORTS};
 use netlist_schema::{Port, Property, Row};
 use std::alloc::Global;
@@ -36,14 +35,13 @@ pub struct Interface {
 }
 
 /// The interface that a form at a node means.
-pub fn read_interface(alloc: Global, tree: &Tree, node: NodeId) -> Result<Interface, EdifError>
-    requires node { IsNode tree.now.rows node }
-    requires keyword { (t : Placed) → IsAt tree.now.rows node t → has_keyword InterfaceWord (bare t) ≡ true }
-    ensures { (t : Placed) → IsAt tree.now.rows node t → Answers (ReadInterface t) (InterfaceFault t) result }
+pub fn read_interface(alloc: Global, node: Node<'_>) -> Result<Interface, EdifError>
+    requires { has_keyword InterfaceWord (bare (here node)) ≡ true }
+    ensures { Answers (ReadInterface (here node.entry)) (InterfaceFault (here node.entry)) result }
 {
-    let parts = read_parts(alloc, tree, node, Keyword::View, Keyword::Interface)?;
-    let Ports { ports, names } = read_ports(alloc, tree, parts.inner)?;
-    let properties = read_properties(alloc, tree, parts.inner)?;
+    let parts = read_parts(alloc, node, Keyword::Interface)?;
+    let Ports { ports, names } = read_ports(alloc, parts.inner)?;
+    let properties = read_properties(alloc, parts.inner)?;
     Ok(Interface {
         ports,
         properties,
@@ -61,19 +59,18 @@ pub struct Ports {
 }
 
 /// The ports among these followers of an interface.
-fn read_ports(alloc: Global, tree: &Tree, inner: &[NodeId]) -> Result<Ports, EdifError>
-    requires { (ts : List Placed) × Stand tree.now.rows inner.now ts }
-    ensures { (ts : List Placed) → Stand tree.now.rows inner.now ts → Answers (ReadPorts ts) (PortsFault (those_of PortWord ts)) result }
+fn read_ports(alloc: Global, inner: Nodes<'_>) -> Result<Ports, EdifError>
+    ensures { Answers (ReadPorts (all inner.entry)) (PortsFault (those_of PortWord (all inner.entry))) result }
 {
     let mut names = Names::new(alloc);
     let mut ports = Vec::new(alloc);
     let mut bits = 0;
-    for node in inner {
-        if is_form_of(tree, *node, Keyword::Port) {
-            let read = read_port(alloc, tree, *node)?;
+    for node in inner.iter() {
+        if is_form_of(node, Keyword::Port) {
+            let read = read_port(alloc, node)?;
             names.add(&read.port.name.id, read.place)?;
             bits += u64::from(width(&read.port));
-            within_limits(ports.len(), bits, tree.place(*node))?;
+            within_limits(ports.len(), bits, node.place())?;
             ports.push(read.port)?;
         }
     }

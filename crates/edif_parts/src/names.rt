@@ -1,6 +1,6 @@
 //! Names, and the names of a list of forms.
 ghost use Rattle.std.specs.Prelude.{◌≡◌, [], Some, IfErr, IfOk, OnErr, OnOk, IsTrue, true};
-ghost use Rattle.spelling_spec.specs.Tree.{Placed, bare};
+ghost use Rattle.spelling_spec.specs.Tree.{bare};
 ghost use Rattle.netlist_schema.specs.Typed.{IsTypedName};
 ghost use Rattle.edif_spec.specs.Faults.{RowFault, name_of};
 ghost use Rattle.edif_spec.specs.Keyword.{name_definition};
@@ -8,7 +8,7 @@ ghost use Rattle.edif_spec.specs.Means.{MeansName, meant};
 ghost use Rattle.edif_spec.specs.Rows.{has_keyword, is_one_of};
 ghost use Rattle.edif_spec.specs.Stands.{NameFault};
 ghost use Rattle.edif_spec.specs.declared.keyword.Keyword.TheVariants.{Rename};
-ghost use Rattle.edif_tree.specs.Nodes.{IsAt, IsNode};
+ghost use Rattle.edif_tree.specs.Handles.{here};
 ghost use Rattle.edif_parts.specs.Names.{DefinesName, IsAgain, Tells, ids};
 ghost use Rattle.edif_parts.specs.Reading.{Answers, Names as FailsBy};
 
@@ -16,7 +16,7 @@ use crate::error::{EdifError, clash};
 use crate::parts::{read_parts, string_at, word_at};
 use edif_names::{Defined, Meant, Scope};
 use edif_spec::{ClashKind, Keyword};
-use edif_tree::{NodeId, Shape, Tree};
+use edif_tree::{Node, Shape};
 use netlist_schema::{Copied, Ident, Name, NoMemory};
 use std::alloc::Global;
 use std::marker::Model;
@@ -31,33 +31,31 @@ pub struct NameAt {
 }
 
 /// The name that a name definition at a node means.
-pub fn read_name(alloc: Global, tree: &Tree, node: NodeId) -> Result<NameAt, EdifError>
-    requires node { IsNode tree.now.rows node }
-    requires choice { (t : Placed) → IsAt tree.now.rows node t → IsTrue (is_one_of name_definition (bare t)) }
-    ensures { (t : Placed) → IsAt tree.now.rows node t → Answers (λ n. MeansName (bare t) n.name × IsTypedName n.name × (name_of t ≡ Some (n.name.id, n.place))) (NameFault t) result }
+pub fn read_name(alloc: Global, node: Node<'_>) -> Result<NameAt, EdifError>
+    requires { IsTrue (is_one_of name_definition (bare (here node))) }
+    ensures { Answers (λ n. MeansName (bare (here node.entry)) n.name × IsTypedName n.name × (name_of (here node.entry) ≡ Some (n.name.id, n.place))) (NameFault (here node.entry)) result }
 {
-    match tree.shape(node) {
+    match node.shape() {
         Shape::Word(id) => {
             let id = Copied::copy(id, alloc)?;
-            let place = tree.place(node);
+            let place = node.place();
             let name = Name { id, shown: None };
             Ok(NameAt { name, place })
         }
-        _ => read_rename(alloc, tree, node),
+        _ => read_rename(alloc, node),
     }
 }
 
 /// The name that a rename at a node means.
-fn read_rename(alloc: Global, tree: &Tree, node: NodeId) -> Result<NameAt, EdifError>
-    requires node { IsNode tree.now.rows node }
-    requires keyword { (t : Placed) → IsAt tree.now.rows node t → has_keyword Rename (bare t) ≡ true }
-    ensures { (t : Placed) → IsAt tree.now.rows node t → Answers (λ n. MeansName (bare t) n.name × IsTypedName n.name × (name_of t ≡ Some (n.name.id, n.place))) (RowFault Rename t) result }
+fn read_rename(alloc: Global, node: Node<'_>) -> Result<NameAt, EdifError>
+    requires { has_keyword Rename (bare (here node)) ≡ true }
+    ensures { Answers (λ n. MeansName (bare (here node.entry)) n.name × IsTypedName n.name × (name_of (here node.entry) ≡ Some (n.name.id, n.place))) (RowFault Rename (here node.entry)) result }
 {
-    let parts = read_parts(alloc, tree, node, Keyword::Cell, Keyword::Rename)?;
-    let first = parts.fixed[0];
-    let id = Copied::copy(word_at(tree, first), alloc)?;
-    let text = string_at(tree, parts.fixed[1]).copy(alloc)?;
-    let place = tree.place(first);
+    let parts = read_parts(alloc, node, Keyword::Rename)?;
+    let first = parts.fixed.at(0);
+    let id = Copied::copy(word_at(first), alloc)?;
+    let text = string_at(parts.fixed.at(1)).copy(alloc)?;
+    let place = first.place();
     let name = Name {
         id,
         shown: Some(text),

@@ -1,6 +1,6 @@
 //! The ports of an interface.
 ghost use Rattle.std.specs.Prelude.{◌≡◌, ◌≤◌, IfNone, IfSome, IsTrue, List, Some, length, map, pos, false, true, ℕ};
-ghost use Rattle.spelling_spec.specs.Tree.{Placed, bare};
+ghost use Rattle.spelling_spec.specs.Tree.{bare};
 ghost use Rattle.netlist_schema.specs.Names.{HasDistinctKeys};
 ghost use Rattle.netlist_schema.specs.Typed.{IsTypedPort};
 ghost use Rattle.netlist_schema.specs.Width.{IsWidth};
@@ -11,8 +11,7 @@ ghost use Rattle.edif_spec.specs.Means.{MeansDirection, MeansPort};
 ghost use Rattle.edif_spec.specs.Rows.{Perhaps, has_keyword, is_one_of, those};
 ghost use Rattle.edif_spec.specs.Stands.{DirectionFault, PortFault, BusNameFault, is_direction};
 ghost use Rattle.edif_spec.specs.declared.keyword.Keyword.TheVariants.{Array as ArrayWord, Direction as DirectionWord, Port as PortWord};
-ghost use Rattle.edif_tree.specs.Nodes.{IsAt, IsNode};
-ghost use Rattle.edif_grammar.specs.Forms.{Stand};
+ghost use Rattle.edif_tree.specs.Handles.{here, all};
 ghost use Rattle.edif_parts.specs.Ports.{ReadBusName, bus_name};
 ghost use Rattle.edif_parts.specs.Reading.{Answers};
 
@@ -23,7 +22,7 @@ use crate::properties::read_properties;
 use crate::texts::read_text_among;
 use edif_grammar::is_form_of;
 use edif_spec::{Keyword, Kind};
-use edif_tree::{NodeId, Tree};
+use edif_tree::{Node, Nodes};
 use netlist_schema::{Direction, Ident, Name, Port, Width};
 use std::alloc::Global;
 
@@ -48,17 +47,15 @@ pub struct BusName {
 }
 
 /// The port that a form at a node means.
-pub fn read_port(alloc: Global, tree: &Tree, node: NodeId) -> Result<PortAt, EdifError>
-    requires node { IsNode tree.now.rows node }
-    requires keyword { (t : Placed) → IsAt tree.now.rows node t → has_keyword PortWord (bare t) ≡ true }
-    ensures { (t : Placed) → IsAt tree.now.rows node t
-        → Answers (λ p. MeansPort (bare t) p.port × (IsTypedPort p.port × HasDistinctKeys p.port.properties) × (defined t ≡ Some (p.port.name.id, p.place))) (PortFault t) result }
+pub fn read_port(alloc: Global, node: Node<'_>) -> Result<PortAt, EdifError>
+    requires { has_keyword PortWord (bare (here node)) ≡ true }
+    ensures { Answers (λ p. MeansPort (bare (here node.entry)) p.port × (IsTypedPort p.port × HasDistinctKeys p.port.properties) × (defined (here node.entry) ≡ Some (p.port.name.id, p.place))) (PortFault (here node.entry)) result }
 {
-    let parts = read_parts(alloc, tree, node, Keyword::Interface, Keyword::Port)?;
-    let named = read_bus_name(alloc, tree, parts.fixed[0])?;
-    let direction = read_direction_among(alloc, tree, parts.inner)?;
-    let designator = read_text_among(alloc, tree, parts.inner, Keyword::Designator)?;
-    let properties = read_properties(alloc, tree, parts.inner)?;
+    let parts = read_parts(alloc, node, Keyword::Port)?;
+    let named = read_bus_name(alloc, parts.fixed.at(0))?;
+    let direction = read_direction_among(alloc, parts.inner)?;
+    let designator = read_text_among(alloc, parts.inner, Keyword::Designator)?;
+    let properties = read_properties(alloc, parts.inner)?;
     let BusName { name, array, place } = named;
     let port = Port {
         name,
@@ -71,15 +68,14 @@ pub fn read_port(alloc: Global, tree: &Tree, node: NodeId) -> Result<PortAt, Edi
 }
 
 /// The name of a port or of a net at a node.
-pub fn read_bus_name(alloc: Global, tree: &Tree, node: NodeId) -> Result<BusName, EdifError>
-    requires node { IsNode tree.now.rows node }
-    requires choice { (t : Placed) → IsAt tree.now.rows node t → IsTrue (is_one_of bus_name (bare t)) }
-    ensures { (t : Placed) → IsAt tree.now.rows node t → Answers (ReadBusName t) (BusNameFault t) result }
+pub fn read_bus_name(alloc: Global, node: Node<'_>) -> Result<BusName, EdifError>
+    requires { IsTrue (is_one_of bus_name (bare (here node))) }
+    ensures { Answers (ReadBusName (here node.entry)) (BusNameFault (here node.entry)) result }
 {
-    if is_form_of(tree, node, Keyword::Array) {
-        return read_array(alloc, tree, node);
+    if is_form_of(node, Keyword::Array) {
+        return read_array(alloc, node);
     }
-    let NameAt { name, place } = read_name(alloc, tree, node)?;
+    let NameAt { name, place } = read_name(alloc, node)?;
     Ok(BusName {
         name,
         array: None,
@@ -88,16 +84,15 @@ pub fn read_bus_name(alloc: Global, tree: &Tree, node: NodeId) -> Result<BusName
 }
 
 /// The name of an array at a node.
-fn read_array(alloc: Global, tree: &Tree, node: NodeId) -> Result<BusName, EdifError>
-    requires node { IsNode tree.now.rows node }
-    requires keyword { (t : Placed) → IsAt tree.now.rows node t → has_keyword ArrayWord (bare t) ≡ true }
-    ensures { (t : Placed) → IsAt tree.now.rows node t → Answers (ReadBusName t) (BusNameFault t) result }
+fn read_array(alloc: Global, node: Node<'_>) -> Result<BusName, EdifError>
+    requires { has_keyword ArrayWord (bare (here node)) ≡ true }
+    ensures { Answers (ReadBusName (here node.entry)) (BusNameFault (here node.entry)) result }
 {
-    let parts = read_parts(alloc, tree, node, Keyword::Port, Keyword::Array)?;
-    let size = parts.fixed[1];
-    let NameAt { name, place } = read_name(alloc, tree, parts.fixed[0])?;
-    let Some(width) = width_of(integer_at(tree, size)) else {
-        return Err(fault_at(Kind::BadIndex, tree.place(size)));
+    let parts = read_parts(alloc, node, Keyword::Array)?;
+    let size = parts.fixed.at(1);
+    let NameAt { name, place } = read_name(alloc, parts.fixed.at(0))?;
+    let Some(width) = width_of(integer_at(size)) else {
+        return Err(fault_at(Kind::BadIndex, size.place()));
     };
     Ok(BusName {
         name,
@@ -118,18 +113,13 @@ fn width_of(bits: i64) -> Option<Width>
 }
 
 /// The direction among these followers, where there is one.
-fn read_direction_among(
-    alloc: Global,
-    tree: &Tree,
-    inner: &[NodeId],
-) -> Result<Option<Direction>, EdifError>
-    requires { (ts : List Placed) × Stand tree.now.rows inner.now ts × (length (those_of DirectionWord ts) ≤ 1) }
-    ensures { (ts : List Placed) → Stand tree.now.rows inner.now ts
-        → Answers (Perhaps MeansDirection (those DirectionWord (map bare ts))) (Among DirectionFault (those_of DirectionWord ts)) result }
+fn read_direction_among(alloc: Global, inner: Nodes<'_>) -> Result<Option<Direction>, EdifError>
+    requires { length (those_of DirectionWord (all inner)) ≤ 1 }
+    ensures { Answers (Perhaps MeansDirection (those DirectionWord (map bare (all inner.entry)))) (Among DirectionFault (those_of DirectionWord (all inner.entry))) result }
 {
-    for node in inner {
-        if is_form_of(tree, *node, Keyword::Direction) {
-            let direction = read_direction(alloc, tree, *node)?;
+    for node in inner.iter() {
+        if is_form_of(node, Keyword::Direction) {
+            let direction = read_direction(alloc, node)?;
             return Ok(Some(direction));
         }
     }
@@ -137,15 +127,14 @@ fn read_direction_among(
 }
 
 /// The direction that a form at a node means.
-fn read_direction(alloc: Global, tree: &Tree, node: NodeId) -> Result<Direction, EdifError>
-    requires node { IsNode tree.now.rows node }
-    requires keyword { (t : Placed) → IsAt tree.now.rows node t → has_keyword DirectionWord (bare t) ≡ true }
-    ensures { (t : Placed) → IsAt tree.now.rows node t → Answers (MeansDirection (bare t)) (DirectionFault t) result }
+fn read_direction(alloc: Global, node: Node<'_>) -> Result<Direction, EdifError>
+    requires { has_keyword DirectionWord (bare (here node)) ≡ true }
+    ensures { Answers (MeansDirection (bare (here node.entry))) (DirectionFault (here node.entry)) result }
 {
-    let parts = read_parts(alloc, tree, node, Keyword::Port, Keyword::Direction)?;
-    let word = parts.fixed[0];
-    let Some(direction) = direction_of(word_at(tree, word)) else {
-        return Err(bad_form(tree.place(word)));
+    let parts = read_parts(alloc, node, Keyword::Direction)?;
+    let word = parts.fixed.at(0);
+    let Some(direction) = direction_of(word_at(word)) else {
+        return Err(bad_form(word.place()));
     };
     Ok(direction)
 }

@@ -1,7 +1,7 @@
 //! The properties of an owner.
 ghost use Rattle.std.specs.Prelude.{◌≡◌, Some, List, map, true};
 ghost use Rattle.std.specs.List.{All};
-ghost use Rattle.spelling_spec.specs.Tree.{Placed, bare};
+ghost use Rattle.spelling_spec.specs.Tree.{bare};
 ghost use Rattle.netlist_schema.specs.Names.{HasDistinctKeys};
 ghost use Rattle.netlist_schema.specs.Typed.{IsTypedProperty};
 ghost use Rattle.edif_spec.specs.Faults.{defined, those_of};
@@ -9,8 +9,7 @@ ghost use Rattle.edif_spec.specs.Means.{MeansProperties, MeansProperty};
 ghost use Rattle.edif_spec.specs.Rows.{has_keyword};
 ghost use Rattle.edif_spec.specs.Stands.{PropertiesFault, PropertyFault};
 ghost use Rattle.edif_spec.specs.declared.keyword.Keyword.TheVariants.{Property as PropertyWord};
-ghost use Rattle.edif_tree.specs.Nodes.{IsAt, IsNode};
-ghost use Rattle.edif_grammar.specs.Forms.{Stand};
+ghost use Rattle.edif_tree.specs.Handles.{here, all};
 ghost use Rattle.edif_parts.specs.Reading.{Answers};
 
 use crate::error::EdifError;
@@ -20,7 +19,7 @@ use crate::texts::read_text_among;
 use crate::values::read_value;
 use edif_grammar::is_form_of;
 use edif_spec::Keyword;
-use edif_tree::{NodeId, Tree};
+use edif_tree::{Node, Nodes};
 use netlist_schema::{Property, Row};
 use std::alloc::Global;
 
@@ -34,35 +33,28 @@ pub struct PropertyAt {
 }
 
 /// The property that a form at a node means.
-pub fn read_property(alloc: Global, tree: &Tree, node: NodeId) -> Result<PropertyAt, EdifError>
-    requires node { IsNode tree.now.rows node }
-    requires keyword { (t : Placed) → IsAt tree.now.rows node t → has_keyword PropertyWord (bare t) ≡ true }
-    ensures { (t : Placed) → IsAt tree.now.rows node t → Answers (λ p. MeansProperty (bare t) p.property × IsTypedProperty p.property × (defined t ≡ Some (p.property.key.id, p.place))) (PropertyFault t) result }
+pub fn read_property(alloc: Global, node: Node<'_>) -> Result<PropertyAt, EdifError>
+    requires { has_keyword PropertyWord (bare (here node)) ≡ true }
+    ensures { Answers (λ p. MeansProperty (bare (here node.entry)) p.property × IsTypedProperty p.property × (defined (here node.entry) ≡ Some (p.property.key.id, p.place))) (PropertyFault (here node.entry)) result }
 {
-    let parts = read_parts(alloc, tree, node, Keyword::Cell, Keyword::Property)?;
-    let key = read_name(alloc, tree, parts.fixed[0])?;
-    let value = read_value(alloc, tree, parts.fixed[1])?;
-    let owner = read_text_among(alloc, tree, parts.inner, Keyword::Owner)?;
+    let parts = read_parts(alloc, node, Keyword::Property)?;
+    let key = read_name(alloc, parts.fixed.at(0))?;
+    let value = read_value(alloc, parts.fixed.at(1))?;
+    let owner = read_text_among(alloc, parts.inner, Keyword::Owner)?;
     let NameAt { name: key, place } = key;
     let property = Property { key, value, owner };
     Ok(PropertyAt { property, place })
 }
 
 /// The properties among these followers of a form, in order, with keys that differ.
-pub fn read_properties(
-    alloc: Global,
-    tree: &Tree,
-    inner: &[NodeId],
-) -> Result<Row<Property>, EdifError>
-    requires { (ts : List Placed) × Stand tree.now.rows inner.now ts }
-    ensures { (ts : List Placed) → Stand tree.now.rows inner.now ts
-        → Answers (λ ps. MeansProperties (map bare ts) ps × All IsTypedProperty ps × HasDistinctKeys ps) (PropertiesFault (those_of PropertyWord ts)) result }
+pub fn read_properties(alloc: Global, inner: Nodes<'_>) -> Result<Row<Property>, EdifError>
+    ensures { Answers (λ ps. MeansProperties (map bare (all inner.entry)) ps × All IsTypedProperty ps × HasDistinctKeys ps) (PropertiesFault (those_of PropertyWord (all inner.entry))) result }
 {
     let mut names = Names::new(alloc);
     let mut properties = Vec::new(alloc);
-    for node in inner {
-        if is_form_of(tree, *node, Keyword::Property) {
-            let read = read_property(alloc, tree, *node)?;
+    for node in inner.iter() {
+        if is_form_of(node, Keyword::Property) {
+            let read = read_property(alloc, node)?;
             names.add(&read.property.key.id, read.place)?;
             properties.push(read.property)?;
         }

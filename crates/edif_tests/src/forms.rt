@@ -98,9 +98,9 @@ const FAILING: [(&str, Option<Keyword>, &str); 16] = [
 /// What is answered of the form of a text.
 fn answer(alloc: Global, text: &str, parent: Option<Keyword>) -> Result<String, Fail> {
     let tree = tree_of(alloc, text)?.ok().ok_or("no tree")?;
-    let answer = match form(alloc, &tree, tree.root(), parent) {
+    let answer = match form(alloc, tree.root(), parent) {
         Ok(parts) => {
-            let counts = (parts.fixed.as_slice().len(), parts.inner.as_slice().len());
+            let counts = (parts.fixed.len(), parts.inner.len());
             format!(in alloc; "{:?} {} {}", parts.keyword, counts.0, counts.1)?
         }
         Err(EdifFormError::NotInProfile { keyword, place }) => {

@@ -93,8 +93,8 @@ fn nested(alloc: Global, levels: usize) -> Result<String, Fail> {
 fn root_of(alloc: Global, text: &str) -> Result<(u64, usize), Fail> {
     let tree = made_of(alloc, text)?.ok().ok_or("no tree")?;
     let root = tree.root();
-    match tree.shape(root) {
-        Shape::Form(arguments) => Ok((tree.place(root), arguments.len())),
+    match root.shape() {
+        Shape::Form(arguments) => Ok((root.place(), arguments.len())),
         _ => Err("no form".into()),
     }
 }

@@ -1,7 +1,9 @@
 pub mod FaultSteps
+pub mod HereLemmas
 pub mod MakerLemmas
 pub mod MakingLemmas
 pub mod NodeLemmas
 pub mod NodeListLemmas
 pub mod OneTree
+pub mod OrderLemmas
 pub mod ReadFaults

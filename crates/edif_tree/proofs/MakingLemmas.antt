@@ -1,5 +1,5 @@
 -- What stands after one more token.
-use Rattle.std.proofs.Common.{◌≡◌, ℕ, zero, suc, ◌<◌, ◌≤◌, inl, inr, ⊎_elim, List, [], ◌∷◌, ◌++◌, length, take, drop, Some, refl, sym, ap, ◌∙◌, subst, arith, append_assoc, append-nil, length-append}
+use Rattle.std.proofs.Common.{true, ◌≡◌, ℕ, zero, suc, ◌<◌, ◌≤◌, inl, inr, ⊎_elim, List, [], ◌∷◌, ◌++◌, length, take, drop, Some, refl, sym, ap, ◌∙◌, subst, arith, append_assoc, append-nil, length-append}
 use Rattle.std.specs.Prelude.{slice_get}
 use Rattle.std.specs.List.{slice_range}
 use Rattle.std.proofs.lemmas.List.{take_rest}
@@ -9,8 +9,10 @@ use Rattle.spelling_spec.specs.declared.token.Token.{Token}
 use Rattle.spelling_spec.specs.declared.token.TokenKind.{TokenKind}
 use Rattle.spelling_spec.specs.declared.token.TokenKind.TheVariants.{LeftParen, RightParen, Word, Integer, String}
 use Rattle.edif_tree.specs.Nodes.{FormOf, Row, IsAt, AreAt}
+use Rattle.edif_tree.specs.Order.{in_order_from}
+use Rattle.edif_tree.proofs.OrderLemmas.{pushed, token_before, all_before}
 use Rattle.edif_tree.specs.Making.{IsLeaf, leaf_of, Level, InForms, fault_from, HasRead, CanCome}
-use Rattle.edif_tree.specs.declared.node.NodeId.{NodeId}
+use Rattle.edif_tree.specs.declared.stored.NodeId.{NodeId}
 use Rattle.edif_tree.specs.declared.making.OpenForm.{OpenForm}
 use Rattle.edif_tree.specs.declared.making.Making.{Making}
 use Rattle.edif_tree.proofs.FaultSteps.{next_fault, left_next, token_next, right_next}
@@ -161,6 +163,7 @@ read_left old new place ts can rows forms loose h = ⊎_elim
     let L : List NodeId → Type 0 = λ l. F old.nodes (old.forms.items ++ record { place = place; start = length old.loose.items } ∷ []) l in
     inl (record {
       levels = level ∷ o.levels;
+      order = (let Q : List Row → Type 0 = λ v. in_order_from 0 v ≡ true in subst Q (sym rows) o.order);
       forms = subst R (sym rows) (subst S (sym forms) (subst L (sym loose) (begun o.levels old.nodes old.forms.items old.loose.items ts place o.forms)));
       faults = λ rest end. next_fault ts (token_at LeftParen place) (fault_from (length o.levels)) o.faults rest end ∙ left_next (length o.levels) place rest end room;
     }))
@@ -195,6 +198,7 @@ read_token old new place kind id ts token some at rows forms loose h = ⊎_elim
     let L : List NodeId → Type 0 = λ l. InForms (old.nodes ++ row ∷ []) next.0 old.forms.items l (ts ++ tok ∷ []) in
     inl (record {
       levels = next.0;
+      order = pushed old.nodes new.nodes row rows o.order (token_before (length old.nodes) kind);
       forms = subst R (sym rows) (subst S (sym forms) (subst L (sym loose) next.1));
       faults = λ rest end.
           next_fault ts tok (fault_from (length o.levels)) o.faults rest end
@@ -231,8 +235,8 @@ closed_read read before inner place end e = ap (λ v. v ++ token_at RightParen e
 -- the maker after a `)`
 closed : (level : Level) (levels : List Level) (old new : Making) (id : NodeId) (end : ℕ) (ts : List Token) (h : InForms old.nodes (level ∷ levels) old.forms.items old.loose.items ts) → id.0 ≡ length old.nodes
     → new.nodes ≡ old.nodes ++ record { place = level.place; shape = FormOf h.inside } ∷ [] → new.forms.items ≡ h.outer → new.loose.items ≡ h.others ++ id ∷ []
-    → ((rest : List Token) (e : ℕ) → tree_fault (ts ++ rest) e ≡ fault_from (suc (length levels)) rest e) → HasRead new (ts ++ token_at RightParen end ∷ [])
-closed level [] old new id end ts h at rows forms loose faults =
+    → ((rest : List Token) (e : ℕ) → tree_fault (ts ++ rest) e ≡ fault_from (suc (length levels)) rest e) → in_order_from 0 old.nodes ≡ true → HasRead new (ts ++ token_at RightParen end ∷ [])
+closed level [] old new id end ts h at rows forms loose faults order =
     let row : Row = record { place = level.place; shape = FormOf h.inside } in
     let tok : Token = token_at RightParen end in
     let t : Placed = Form' level.place level.arguments in
@@ -243,13 +247,14 @@ closed level [] old new id end ts h at rows forms loose faults =
     inr (record {
       id = id;
       tree = t;
+      order = pushed old.nodes new.nodes row rows order (all_before old.nodes h.inside level.arguments h.standing);
       forms = forms ∙ h.round.0;
       loose = loose ∙ ap (λ v. v ++ id ∷ []) h.round.1;
       standing = subst R (sym rows) (form_stands level old.nodes h.inside id at h.standing);
       listed = subst T (sym whole) (form_listed level.place end h.inner level.arguments h.listed);
       faults = λ rest e. next_fault ts tok (fault_from 1) faults rest e ∙ right_next 0 end rest e;
     })
-closed level (above ∷ levels) old new id end ts h at rows forms loose faults =
+closed level (above ∷ levels) old new id end ts h at rows forms loose faults order =
     let row : Row = record { place = level.place; shape = FormOf h.inside } in
     let tok : Token = token_at RightParen end in
     let t : Placed = Form' level.place level.arguments in
@@ -263,26 +268,27 @@ closed level (above ∷ levels) old new id end ts h at rows forms loose faults =
     let T : List Token → Type 0 = λ v. InForms (old.nodes ++ row ∷ []) after h.outer (h.others ++ id ∷ []) v in
     inl (record {
       levels = after;
+      order = pushed old.nodes new.nodes row rows order (all_before old.nodes h.inside level.arguments h.standing);
       forms = subst R (sym rows) (subst S (sym forms) (subst L (sym loose) (subst T (sym (closed_read ts h.before h.inner level.place end h.parts)) next)));
       faults = λ rest e. next_fault ts tok (fault_from (suc (suc (length levels)))) faults rest e ∙ right_next (suc (length levels)) end rest e;
     })
 
 closed_from : (levels : List Level) (old new : Making) (front : List OpenForm) (form : OpenForm) (id : NodeId) (end : ℕ) (ts : List Token) → InForms old.nodes levels old.forms.items old.loose.items ts → old.forms.items ≡ front ++ form ∷ [] → id.0 ≡ length old.nodes
     → new.nodes ≡ old.nodes ++ record { place = form.place; shape = FormOf (drop form.start old.loose.items) } ∷ [] → new.forms.items ≡ front → new.loose.items ≡ take form.start old.loose.items ++ id ∷ []
-    → ((rest : List Token) (e : ℕ) → tree_fault (ts ++ rest) e ≡ fault_from (length levels) rest e) → HasRead new (ts ++ token_at RightParen end ∷ [])
-closed_from [] old new front form id end ts h e at rows forms loose faults = absurd (last_not_empty front old.forms.items form h.0 e)
-closed_from (level ∷ levels) old new front form id end ts h e at rows forms loose faults =
+    → ((rest : List Token) (e : ℕ) → tree_fault (ts ++ rest) e ≡ fault_from (length levels) rest e) → in_order_from 0 old.nodes ≡ true → HasRead new (ts ++ token_at RightParen end ∷ [])
+closed_from [] old new front form id end ts h e at rows forms loose faults order = absurd (last_not_empty front old.forms.items form h.0 e)
+closed_from (level ∷ levels) old new front form id end ts h e at rows forms loose faults order =
     let parts = closed_parts level levels old.nodes old.forms.items front form old.loose.items ts e h in
     let row : Row = record { place = form.place; shape = FormOf (drop form.start old.loose.items) } in
     let same : row ≡ record { place = level.place; shape = FormOf h.inside } =
     ap (λ p. let r : Row = record { place = p; shape = FormOf (drop form.start old.loose.items) } in r) (sym parts.1) ∙ ap (λ l. let r : Row = record { place = level.place; shape = FormOf l } in r) parts.4 in
-    closed level levels old new id end ts h at (rows ∙ ap (λ r. old.nodes ++ r ∷ []) same) (forms ∙ sym parts.0) (loose ∙ ap (λ l. l ++ id ∷ []) parts.3) faults
+    closed level levels old new id end ts h at (rows ∙ ap (λ r. old.nodes ++ r ∷ []) same) (forms ∙ sym parts.0) (loose ∙ ap (λ l. l ++ id ∷ []) parts.3) faults order
 
 pub read_right : (old new : Making) (front : List OpenForm) (form : OpenForm) (id : NodeId) (end : ℕ) (ts : List Token) → old.forms.items ≡ front ++ form ∷ [] → id.0 ≡ length old.nodes
     → new.nodes ≡ old.nodes ++ record { place = form.place; shape = FormOf (drop form.start old.loose.items) } ∷ [] → new.forms.items ≡ front → new.loose.items ≡ take form.start old.loose.items ++ id ∷ []
     → HasRead old ts → HasRead new (ts ++ token_at RightParen end ∷ [])
 read_right old new front form id end ts e at rows forms loose h = ⊎_elim
-    (λ o. closed_from o.levels old new front form id end ts o.forms e at rows forms loose o.faults)
+    (λ o. closed_from o.levels old new front form id end ts o.forms e at rows forms loose o.faults o.order)
     (λ k. absurd (last_not_empty front old.forms.items form k.forms e))
     h
 

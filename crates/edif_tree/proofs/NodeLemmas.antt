@@ -1,5 +1,5 @@
 -- Facts on the nodes of a list.
-use Rattle.std.proofs.Common.{◌≡◌, ℕ, ℤ, pos, Bor, Bool, true, false, if◌then◌else◌, nat_eq, zero, suc, ◌<◌, ◌≤◌, List, [], ◌∷◌, ◌++◌, length, map, Some, refl, sym, ap, ◌∙◌, subst, arith, append-nil, length-append, get_or, Result, Ok, Err}
+use Rattle.std.proofs.Common.{◌≡◌, ℕ, ℤ, pos, Bool, true, false, if◌then◌else◌, nat_eq, zero, suc, ◌<◌, ◌≤◌, List, [], ◌∷◌, ◌++◌, length, map, Some, refl, sym, ap, ◌∙◌, subst, arith, append-nil, length-append, get_or, Result, Ok, Err}
 use Rattle.std.specs.Int.{w64}
 use Rattle.std.specs.Prelude.{FitsSigned, slice_get, option_map, IfOk, OnOk, OnErr}
 use Rattle.netlist_schema.specs.declared.memory.NoMemory.{NoMemory}
@@ -8,14 +8,12 @@ use Rattle.std.specs.Cmp.Lexicographic.{pointwise, same_text}
 use Rattle.std.proofs.lemmas.List.{map-append, length-map, get_or_append_left}
 use Rattle.std.proofs.lemmas.Option.{slice_get_within, slice_get-map, slice_get_read}
 use Rattle.indexmap.specs.IndexSet.{insert_key}
-use Rattle.spelling_spec.specs.Tree.{Placed, Trees, Form', Word', Integer', String', End, More}
-use Rattle.edif_tree.specs.Nodes.{FormOf, WordOf, IntegerOf, StringOf, Seen, Row, Stores, shape_of, row_of, IsWithin, AreWithin, IsAt, AreAt, IsNode, place_of, ShapeIs, seen}
-use Rattle.edif_tree.specs.declared.node.NodeId.{NodeId}
-use Rattle.edif_tree.specs.declared.node.Node.{Node}
-use Rattle.edif_tree.specs.declared.node.NodeKind.{NodeKind}
-use Rattle.edif_tree.specs.declared.node.NodeKind.TheVariants as kinds
-use Rattle.edif_tree.specs.declared.node.Shape.{Shape}
-use Rattle.edif_tree.specs.declared.node.Shape.TheVariants as shapes
+use Rattle.spelling_spec.specs.Tree.{Placed, Form', Word', Integer', String'}
+use Rattle.edif_tree.specs.Nodes.{FormOf, WordOf, IntegerOf, StringOf, Seen, Row, Stores, shape_of, row_of, IsWithin, AreWithin, IsAt, place_of}
+use Rattle.edif_tree.specs.declared.stored.NodeId.{NodeId}
+use Rattle.edif_tree.specs.declared.stored.StoredNode.{StoredNode}
+use Rattle.edif_tree.specs.declared.stored.StoredKind.{StoredKind}
+use Rattle.edif_tree.specs.declared.stored.StoredKind.TheVariants as kinds
 
 -- a node is one of the list
 pub node_in_rows : (rows : List Row) (id : NodeId) (t : Placed) → IsAt rows id t → id.0 < length rows
@@ -33,36 +31,6 @@ place_read rows id (Form' p ts) place e h = some_same place p (sym e ∙ ap (opt
 place_read rows id (Word' p x) place e h = some_same place p (sym e ∙ ap (option_map (λ (r : Row). r.place)) h)
 place_read rows id (Integer' p x) place e h = some_same place p (sym e ∙ ap (option_map (λ (r : Row). r.place)) h)
 place_read rows id (String' p x) place e h = some_same place p (sym e ∙ ap (option_map (λ (r : Row). r.place)) h)
-
-form_read : (rows : List Row) (s : Shape) (p : ℕ) (ids : List NodeId) (ts : Trees ℕ) → Some (seen s) ≡ Some (FormOf ids) → AreAt rows ids ts → ShapeIs rows s (Form' p ts)
-form_read rows (shapes.Form a) p ids ts e h =
-    let same : ids ≡ a.now = cc e in
-    let P : List NodeId → Type 0 = λ v. AreAt rows v ts in
-    subst P same h
-form_read rows (shapes.Word a) p ids ts e h = absurd (cc e)
-form_read rows (shapes.Integer a) p ids ts e h = absurd (cc e)
-form_read rows (shapes.String a) p ids ts e h = absurd (cc e)
-
-word_read : (rows : List Row) (s : Shape) (p : ℕ) (x : List ℕ) → Some (seen s) ≡ Some (WordOf x) → ShapeIs rows s (Word' p x)
-word_read rows (shapes.Form a) p x e = absurd (cc e)
-word_read rows (shapes.Word a) p x e = cc e
-word_read rows (shapes.Integer a) p x e = absurd (cc e)
-word_read rows (shapes.String a) p x e = absurd (cc e)
-
-string_read : (rows : List Row) (s : Shape) (p : ℕ) (x : List ℕ) → Some (seen s) ≡ Some (StringOf x) → ShapeIs rows s (String' p x)
-string_read rows (shapes.Form a) p x e = absurd (cc e)
-string_read rows (shapes.Word a) p x e = absurd (cc e)
-string_read rows (shapes.Integer a) p x e = absurd (cc e)
-string_read rows (shapes.String a) p x e = cc e
-
-pub shape_read : (rows : List Row) (id : NodeId) (t : Placed) (s : Shape) → option_map (λ (r : Row). r.shape) (slice_get rows id.0) ≡ Some (seen s) → IsAt rows id t → ShapeIs rows s t
-shape_read rows id (Form' p ts) s e h = form_read rows s p h.0 ts (sym e ∙ ap (option_map (λ (r : Row). r.shape)) h.1) h.2
-shape_read rows id (Word' p x) s e h = word_read rows s p x (sym e ∙ ap (option_map (λ (r : Row). r.shape)) h)
-shape_read rows id (Integer' p x) (shapes.Integer a) e h = (let both = sym e ∙ ap (option_map (λ (r : Row). r.shape)) h in cc both)
-shape_read rows id (Integer' p x) (shapes.Form a) e h = (let both = sym e ∙ ap (option_map (λ (r : Row). r.shape)) h in absurd (cc both))
-shape_read rows id (Integer' p x) (shapes.Word a) e h = (let both = sym e ∙ ap (option_map (λ (r : Row). r.shape)) h in absurd (cc both))
-shape_read rows id (Integer' p x) (shapes.String a) e h = (let both = sym e ∙ ap (option_map (λ (r : Row). r.shape)) h in absurd (cc both))
-shape_read rows id (String' p x) s e h = string_read rows s p x (sym e ∙ ap (option_map (λ (r : Row). r.shape)) h)
 
 -- each of the lists goes on
 pub record Grow (old new : Stores) : Type 0 where
@@ -101,7 +69,7 @@ module _ {A : Type 0} where
       last (z ∷ zs) = last zs
 
 -- what a node names stays within lists that go on, and stays the same
-within_more : (s t : Stores) (kind : NodeKind) → Grow s t → IsWithin s kind → IsWithin t kind
+within_more : (s t : Stores) (kind : StoredKind) → Grow s t → IsWithin s kind → IsWithin t kind
 within_more s t (kinds.Form i) g h = (let c = longer s.arguments t.arguments g.arguments.0 g.arguments.1 in omega arith)
 within_more s t (kinds.Word i) g h = (let c = longer s.words t.words g.words.0 g.words.1 in omega arith)
 within_more s t (kinds.Integer i) g h =
@@ -111,31 +79,31 @@ within_more s t (kinds.Integer i) g h =
     (omega arith, subst F (sym (read_more (pos 0) s.integers t.integers g.integers.0 i g.integers.1 l)) h.1)
 within_more s t (kinds.String i) g h = (let c = longer s.strings t.strings g.strings.0 g.strings.1 in omega arith)
 
-pub are_within_more : (s t : Stores) (nodes : List Node) → Grow s t → AreWithin s nodes → AreWithin t nodes
+pub are_within_more : (s t : Stores) (nodes : List StoredNode) → Grow s t → AreWithin s nodes → AreWithin t nodes
 are_within_more s t [] g h = tt
 are_within_more s t (node ∷ nodes) g h = (within_more s t node.kind g h.0, are_within_more s t nodes g h.1)
 
-shape_more : (s t : Stores) (kind : NodeKind) → Grow s t → IsWithin s kind → shape_of t kind ≡ shape_of s kind
+shape_more : (s t : Stores) (kind : StoredKind) → Grow s t → IsWithin s kind → shape_of t kind ≡ shape_of s kind
 shape_more s t (kinds.Form i) g h = ap FormOf (read_more [] s.arguments t.arguments g.arguments.0 i g.arguments.1 h)
 shape_more s t (kinds.Word i) g h = ap WordOf (read_more [] s.words t.words g.words.0 i g.words.1 h)
 shape_more s t (kinds.Integer i) g h = ap IntegerOf (read_more (pos 0) s.integers t.integers g.integers.0 i g.integers.1 h.0)
 shape_more s t (kinds.String i) g h = ap StringOf (read_more [] s.strings t.strings g.strings.0 i g.strings.1 h)
 
-rows_more : (s t : Stores) (nodes : List Node) → Grow s t → AreWithin s nodes → map (row_of t) nodes ≡ map (row_of s) nodes
+rows_more : (s t : Stores) (nodes : List StoredNode) → Grow s t → AreWithin s nodes → map (row_of t) nodes ≡ map (row_of s) nodes
 rows_more s t [] g h = refl
 rows_more s t (node ∷ nodes) g h =
     let row : row_of t node ≡ row_of s node = ap (λ v. let r : Row = record { place = node.place; shape = v } in r) (shape_more s t node.kind g h.0) in
     ap (λ v. v ∷ map (row_of t) nodes) row ∙ ap (λ v. row_of s node ∷ v) (rows_more s t nodes g h.1)
 
-are_within_push : (s : Stores) (nodes : List Node) (node : Node) → AreWithin s nodes → IsWithin s node.kind → AreWithin s (nodes ++ node ∷ [])
+are_within_push : (s : Stores) (nodes : List StoredNode) (node : StoredNode) → AreWithin s nodes → IsWithin s node.kind → AreWithin s (nodes ++ node ∷ [])
 are_within_push s [] node h k = (k, tt)
 are_within_push s (first ∷ nodes) node h k = (h.0, are_within_push s nodes node h.1 k)
 
 -- a node behind the others, where the lists went on
-pub node_pushed : (s t : Stores) (nodes all : List Node) (node : Node) (shape : Seen) → Grow s t → all ≡ nodes ++ node ∷ [] → IsWithin t node.kind → shape_of t node.kind ≡ shape → AreWithin s nodes
+pub node_pushed : (s t : Stores) (nodes all : List StoredNode) (node : StoredNode) (shape : Seen) → Grow s t → all ≡ nodes ++ node ∷ [] → IsWithin t node.kind → shape_of t node.kind ≡ shape → AreWithin s nodes
     → AreWithin t all × (map (row_of t) all ≡ map (row_of s) nodes ++ record { place = node.place; shape = shape } ∷ [])
 node_pushed s t nodes all node shape g pushed within is h =
-    let W : List Node → Type 0 = AreWithin t in (
+    let W : List StoredNode → Type 0 = AreWithin t in (
       subst W (sym pushed) (are_within_push t nodes node (are_within_more s t nodes g h) within),
       ap (map (row_of t)) pushed ∙ map-append (row_of t) nodes (node ∷ [])
           ∙ ap (λ v. v ++ row_of t node ∷ []) (rows_more s t nodes g h)
@@ -143,21 +111,21 @@ node_pushed s t nodes all node shape g pushed within is h =
     )
 
 -- what an answer says of a node behind the others
-pub record Added (t : Stores) (all : List Node) (rows : List Row) (row : Row) (result : Result NodeId NoMemory) : Type 0 where
+pub record Added (t : Stores) (all : List StoredNode) (rows : List Row) (row : Row) (result : Result NodeId NoMemory) : Type 0 where
   pub within : AreWithin t all
   pub ok : IfOk result (λ id. (id.0 ≡ length rows) × (map (row_of t) all ≡ rows ++ row ∷ []))
 
-pub added : (s t : Stores) (nodes all : List Node) (rows : List Row) (place : ℕ) (kind : NodeKind) (shape : Seen) (result : Result NodeId NoMemory) → map (row_of s) nodes ≡ rows → AreWithin s nodes → Grow s t → IsWithin t kind → shape_of t kind ≡ shape
+pub added : (s t : Stores) (nodes all : List StoredNode) (rows : List Row) (place : ℕ) (kind : StoredKind) (shape : Seen) (result : Result NodeId NoMemory) → map (row_of s) nodes ≡ rows → AreWithin s nodes → Grow s t → IsWithin t kind → shape_of t kind ≡ shape
     → IfOk result (λ id. id.0 ≡ length nodes) → OnOk result (all ≡ nodes ++ record { place = place; kind = kind } ∷ []) → OnErr result (all ≡ nodes) → Added t all rows (record { place = place; shape = shape }) result
 added s t nodes all rows place kind shape (Ok id) view h g within is at pushed same =
-    let node : Node = record { place = place; kind = kind } in
+    let node : StoredNode = record { place = place; kind = kind } in
     let done = node_pushed s t nodes all node shape g pushed within is h in
     record {
       within = done.0;
       ok = (at ∙ sym (length-map nodes (row_of s)) ∙ ap length view, done.1 ∙ ap (λ v. v ++ record { place = place; shape = shape } ∷ []) view);
     }
 added s t nodes all rows place kind shape (Err e) view h g within is at pushed same =
-    let W : List Node → Type 0 = AreWithin t in
+    let W : List StoredNode → Type 0 = AreWithin t in
     record { within = subst W (sym same) (are_within_more s t nodes g h); ok = tt }
 
 -- a list that stays goes on
@@ -178,40 +146,26 @@ word_read_back name words i j same h =
     (omega arith, ap (λ n. get_or words n []) same ∙ read_got [] h.0 words i h.1 ∙ sym (same_text name h.0 (sym h.2)))
 
 -- what is read of a node in the list
-at_node : (s : Stores) (nodes : List Node) (i : ℕ) (x : Node) → i < length nodes → x ≡ get_or nodes i x → slice_get (map (row_of s) nodes) i ≡ Some (row_of s x)
+at_node : (s : Stores) (nodes : List StoredNode) (i : ℕ) (x : StoredNode) → i < length nodes → x ≡ get_or nodes i x → slice_get (map (row_of s) nodes) i ≡ Some (row_of s x)
 at_node s nodes i x l e = slice_get-map (row_of s) nodes i ∙ ap (option_map (row_of s)) (slice_get_read nodes (length nodes) i x refl l e)
 
-pub within_at : (s : Stores) (nodes : List Node) (i : ℕ) (x : Node) → i < length nodes → AreWithin s nodes → IsWithin s (get_or nodes i x).kind
+pub within_at : (s : Stores) (nodes : List StoredNode) (i : ℕ) (x : StoredNode) → i < length nodes → AreWithin s nodes → IsWithin s (get_or nodes i x).kind
 within_at s [] i x l h = absurd (omega arith)
 within_at s (node ∷ nodes) zero x l h = h.0
 within_at s (node ∷ nodes) (suc i) x l h = within_at s nodes i x (omega arith) h.1
 
 -- the node that is looked at: its place, its shape, and that what it names lies within the lists
-pub record Looked (s : Stores) (rows : List Row) (i : ℕ) (x : Node) (kind : NodeKind) : Type 0 where
+pub record Looked (s : Stores) (rows : List Row) (i : ℕ) (x : StoredNode) (kind : StoredKind) : Type 0 where
   pub place : option_map (λ (r : Row). r.place) (slice_get rows i) ≡ Some x.place
   pub shape : option_map (λ (r : Row). r.shape) (slice_get rows i) ≡ Some (shape_of s kind)
   pub within : IsWithin s kind
 
-pub looked : (s : Stores) (nodes : List Node) (rows : List Row) (i : ℕ) (x : Node) (kind : NodeKind) → map (row_of s) nodes ≡ rows → i < length rows → x ≡ get_or nodes i x → x.kind ≡ kind → AreWithin s nodes → Looked s rows i x kind
+pub looked : (s : Stores) (nodes : List StoredNode) (rows : List Row) (i : ℕ) (x : StoredNode) (kind : StoredKind) → map (row_of s) nodes ≡ rows → i < length rows → x ≡ get_or nodes i x → x.kind ≡ kind → AreWithin s nodes → Looked s rows i x kind
 looked s nodes rows i x kind view l e k h =
     let count : i < length nodes = (let same = ap length view in omega (arith, length-map nodes (row_of s))) in
-    let W : NodeKind → Type 0 = IsWithin s in
+    let W : StoredKind → Type 0 = IsWithin s in
     record {
       place = ap (λ v. option_map (λ (r : Row). r.place) (slice_get v i)) (sym view) ∙ ap (option_map (λ (r : Row). r.place)) (at_node s nodes i x count e);
       shape = ap (λ v. option_map (λ (r : Row). r.shape) (slice_get v i)) (sym view) ∙ (ap (option_map (λ (r : Row). r.shape)) (at_node s nodes i x count e) ∙ ap (λ v. Some (shape_of s v)) k);
       within = subst W (ap (λ n. n.kind) (sym e) ∙ k) (within_at s nodes i x count h);
     }
-
--- each argument of a form is a node
-pub argument_is_node : (rows : List Row) (ids : List NodeId) (ts : Trees ℕ) (i : ℕ) (d : NodeId) → i < length ids → AreAt rows ids ts → IsNode rows (get_or ids i d)
-argument_is_node rows [] ts i d l h = absurd (omega arith)
-argument_is_node rows (id ∷ ids) End i d l h = absurd h
-argument_is_node rows (id ∷ ids) (More t ts) zero d l h = (t, h.0)
-argument_is_node rows (id ∷ ids) (More t ts) (suc i) d l h = argument_is_node rows ids ts i d (omega arith) h.1
-
--- the arguments of a lent form stand at its nodes
-pub arguments_at : (rows : List Row) (ids : Bor (List NodeId)) (t : Placed) → ShapeIs rows (shapes.Form ids) t → (ts : Trees ℕ) × AreAt rows ids.now ts
-arguments_at rows ids (Form' p ts) h = (ts, h)
-arguments_at rows ids (Word' p x) h = absurd h
-arguments_at rows ids (Integer' p x) h = absurd h
-arguments_at rows ids (String' p x) h = absurd h

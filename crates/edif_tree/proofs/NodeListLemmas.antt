@@ -4,7 +4,7 @@ use Rattle.std.specs.Prelude.{slice_get}
 use Rattle.std.specs.List.{slice_range}
 use Rattle.std.proofs.lemmas.List.{take-append-le, drop-append-le, take_all, drop_at}
 use Rattle.edif_tree.specs.NodeLists.{lists_from, AreEnds}
-use Rattle.edif_tree.specs.declared.node.NodeId.{NodeId}
+use Rattle.edif_tree.specs.declared.stored.NodeId.{NodeId}
 
 -- what is picked out of a list stays as the list goes on
 range_more : (xs ys : List NodeId) (first end : ℕ) → first ≤ end → end ≤ length xs → slice_range (xs ++ ys) first end ≡ slice_range xs first end

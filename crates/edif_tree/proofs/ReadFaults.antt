@@ -1,5 +1,5 @@
 -- What a maker that has read tokens says of the next one, and of an end.
-use Rattle.std.proofs.Common.{◌≡◌, ℕ, ◌<◌, ◌≤◌, ⊎_elim, List, [], ◌∷◌, ◌++◌, length, Some, None, refl, sym, ap, ◌∙◌, subst, arith, append-nil}
+use Rattle.std.proofs.Common.{true, ◌≡◌, ℕ, ◌<◌, ◌≤◌, ⊎_elim, List, [], ◌∷◌, ◌++◌, length, Some, None, refl, sym, ap, ◌∙◌, subst, arith, append-nil}
 use Rattle.std.specs.Prelude.{slice_get}
 use Rattle.spelling_spec.specs.Tree.{Placed}
 use Rattle.spelling_spec.specs.TreeFaults.{token_at, Lists, IsFile, fault_at, tree_fault}
@@ -10,8 +10,9 @@ use Rattle.spelling_spec.specs.declared.tree_fault.TreeKind.TheVariants.{NotForm
 use Rattle.spelling_spec.proofs.TreeFaultLemmas.{tree_of_none}
 use Rattle.spelling_spec.proofs.PlacedListings.{one_placed}
 use Rattle.edif_tree.specs.Nodes.{Row, IsAt}
+use Rattle.edif_tree.specs.Order.{in_order_from}
 use Rattle.edif_tree.specs.Making.{Level, InForms, HasRead, fault_from}
-use Rattle.edif_tree.specs.declared.node.NodeId.{NodeId}
+use Rattle.edif_tree.specs.declared.stored.NodeId.{NodeId}
 use Rattle.edif_tree.specs.declared.making.OpenForm.{OpenForm}
 use Rattle.edif_tree.specs.declared.making.Making.{Making}
 use Rattle.edif_tree.proofs.FaultSteps.{deep_fault, close_fault, trailing_fault, form_fault, end_fault, empty_fault, no_fault}
@@ -74,7 +75,7 @@ pub ends_empty : (maker : Making) (ts : List Token) (end : ℕ) → slice_get ma
 ends_empty maker ts end l h = ⊎_elim (λ o. open_end o.levels ts end o.faults) (λ k. (let one = ap (λ v. slice_get v 0) k.loose in let both = sym one ∙ l in absurd (cc both))) h
 
 pub ends_closed : (maker : Making) (ts : List Token) (end : ℕ) (root : NodeId) → length maker.forms.items ≡ 0 → slice_get maker.loose.items 0 ≡ Some root → HasRead maker ts
-    → (tree_fault ts end ≡ None) × ((t : Placed) × IsAt maker.nodes root t × Lists ts t)
+    → (tree_fault ts end ≡ None) × ((t : Placed) × IsAt maker.nodes root t × Lists ts t) × (in_order_from 0 maker.nodes ≡ true)
 ends_closed maker ts end root l e h = ⊎_elim
     (λ o.
     (let none = nothing_read o.levels maker.nodes maker.forms.items maker.loose.items ts l o.forms in
@@ -85,7 +86,7 @@ ends_closed maker ts end root l e h = ⊎_elim
     let both = sym one ∙ e in
     let same : k.id ≡ root = cc both in
     let A : NodeId → Type 0 = λ v. IsAt maker.nodes v k.tree in
-    (whole ts end ∙ (k.faults [] end ∙ no_fault end), (k.tree, subst A same k.standing, k.listed)))
+    (whole ts end ∙ (k.faults [] end ∙ no_fault end), (k.tree, subst A same k.standing, k.listed), k.order))
     h
 
 -- the tree without a fault is a file's

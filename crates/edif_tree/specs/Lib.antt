@@ -1,5 +1,9 @@
+pub mod Eaches
+pub mod Handles
+pub mod Here
 pub mod Maker
 pub mod Making
 pub mod NodeLists
 pub mod Nodes
+pub mod Order
 pub mod TreeError

@@ -1,5 +1,5 @@
 -- What stands in a tree that is being made, after some tokens.
-use Rattle.std.specs.Prelude.{◌≡◌, ◌<◌, ◌⊎◌, ℕ, zero, suc, List, [], ◌∷◌, ◌++◌, length, Option}
+use Rattle.std.specs.Prelude.{◌≡◌, ◌<◌, ◌⊎◌, ℕ, zero, suc, List, [], ◌∷◌, ◌++◌, length, Option, true}
 use Rattle.spelling_spec.specs.Tree.{Placed, Trees}
 use Rattle.spelling_spec.specs.TreeFaults.{token_at, Lists, ListsAll, TreeFault, fault_within, tree_fault}
 use Rattle.spelling_spec.specs.declared.token.Token.{Token}
@@ -7,7 +7,8 @@ use Rattle.spelling_spec.specs.declared.token.TokenKind.{TokenKind}
 use Rattle.spelling_spec.specs.declared.token.TokenKind.TheVariants.{LeftParen, RightParen, Word, Integer, String}
 use Rattle.netlist_schema.specs.declared.limits.TheConstants.{MOST_LEVELS}
 use Rattle.edif_tree.specs.Nodes.{FormOf, IntegerOf, StringOf, WordOf, Seen, Row, IsAt, AreAt}
-use Rattle.edif_tree.specs.declared.node.NodeId.{NodeId}
+use Rattle.edif_tree.specs.Order.{in_order_from}
+use Rattle.edif_tree.specs.declared.stored.NodeId.{NodeId}
 use Rattle.edif_tree.specs.declared.making.OpenForm.{OpenForm}
 use Rattle.edif_tree.specs.declared.making.Making.{Making}
 
@@ -57,6 +58,7 @@ fault_from (suc outer) tokens end = fault_within (suc outer) tokens end
 -- the file's form isn't closed
 pub record IsOpen (maker : Making) (read : List Token) : Type 0 where
   pub levels : List Level
+  pub order : in_order_from 0 maker.nodes ≡ true
   pub forms : InForms maker.nodes levels maker.forms.items maker.loose.items read
   pub faults : (rest : List Token) (end : ℕ) → tree_fault (read ++ rest) end ≡ fault_from (length levels) rest end
 
@@ -64,6 +66,7 @@ pub record IsOpen (maker : Making) (read : List Token) : Type 0 where
 pub record IsClosed (maker : Making) (read : List Token) : Type 0 where
   pub id : NodeId
   pub tree : Placed
+  pub order : in_order_from 0 maker.nodes ≡ true
   pub forms : maker.forms.items ≡ []
   pub loose : maker.loose.items ≡ id ∷ []
   pub standing : IsAt maker.nodes id tree

@@ -1,7 +1,7 @@
 -- Lists of nodes that stand in one list, one behind the other.
 use Rattle.std.specs.Prelude.{◌≡◌, ◌≤◌, ℕ, List, [], ◌∷◌, length}
 use Rattle.std.specs.List.{slice_range}
-use Rattle.edif_tree.specs.declared.node.NodeId.{NodeId}
+use Rattle.edif_tree.specs.declared.stored.NodeId.{NodeId}
 
 -- the lists that end before these places, the first from this place on
 abbrev pub lists_from : ℕ → List NodeId → List ℕ → List (List NodeId)

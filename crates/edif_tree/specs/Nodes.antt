@@ -2,12 +2,12 @@
 use Rattle.std.specs.Prelude.{◌≡◌, ◌<◌, FitsSigned, ℕ, ℤ, pos, List, [], ◌∷◌, Some, get_or, length, slice_get}
 use Rattle.std.specs.Int.{w64}
 use Rattle.spelling_spec.specs.Tree.{Placed, Trees, Form', Word', Integer', String', End, More}
-use Rattle.edif_tree.specs.declared.node.NodeId.{NodeId}
-use Rattle.edif_tree.specs.declared.node.Node.{Node}
-use Rattle.edif_tree.specs.declared.node.NodeKind.{NodeKind}
-use Rattle.edif_tree.specs.declared.node.NodeKind.TheVariants as kinds
-use Rattle.edif_tree.specs.declared.node.Shape.{Shape}
-use Rattle.edif_tree.specs.declared.node.Shape.TheVariants as shapes
+use Rattle.edif_tree.specs.declared.stored.NodeId.{NodeId}
+use Rattle.edif_tree.specs.declared.stored.StoredNode.{StoredNode}
+use Rattle.edif_tree.specs.declared.stored.StoredKind.{StoredKind}
+use Rattle.edif_tree.specs.declared.stored.StoredKind.TheVariants as kinds
+use Rattle.edif_tree.specs.declared.stored.StoredShape.{StoredShape}
+use Rattle.edif_tree.specs.declared.stored.StoredShape.TheVariants as shapes
 
 -- a form by the nodes of its arguments, or a token
 pub data Seen : Type 0 where
@@ -34,23 +34,23 @@ pub record Stores : Type 0 where
   pub strings : List (List ℕ)
 
 -- the shape of a node, where these lists stand beside it
-abbrev pub shape_of : Stores → NodeKind → Seen
+abbrev pub shape_of : Stores → StoredKind → Seen
 shape_of lists (kinds.Form at) = FormOf (get_or lists.arguments at [])
 shape_of lists (kinds.Word at) = WordOf (get_or lists.words at [])
 shape_of lists (kinds.Integer at) = IntegerOf (get_or lists.integers at (pos 0))
 shape_of lists (kinds.String at) = StringOf (get_or lists.strings at [])
 
-abbrev pub row_of : Stores → Node → Row
+abbrev pub row_of : Stores → StoredNode → Row
 row_of lists node = record { place = node.place; shape = shape_of lists node.kind }
 
 -- what a node names lies within these lists, and an integer within 64 bits
-abbrev pub IsWithin : Stores → NodeKind → Type 0
+abbrev pub IsWithin : Stores → StoredKind → Type 0
 IsWithin lists (kinds.Form at) = at < length lists.arguments
 IsWithin lists (kinds.Word at) = at < length lists.words
 IsWithin lists (kinds.Integer at) = (at < length lists.integers) × FitsSigned w64 (get_or lists.integers at (pos 0))
 IsWithin lists (kinds.String at) = at < length lists.strings
 
-abbrev pub AreWithin : Stores → List Node → Type 0
+abbrev pub AreWithin : Stores → List StoredNode → Type 0
 AreWithin lists [] = Unit {0}
 AreWithin lists (node ∷ nodes) = IsWithin lists node.kind × AreWithin lists nodes
 
@@ -68,10 +68,6 @@ abbrev mutual
   AreAt rows (id ∷ ids) End = ⊥
   AreAt rows (id ∷ ids) (More t ts) = IsAt rows id t × AreAt rows ids ts
 
--- some tree stands at the node
-abbrev pub IsNode : List Row → NodeId → Type 0
-IsNode rows id = (t : Placed) × IsAt rows id t
-
 -- the place of the first token of a tree
 abbrev pub place_of : Placed → ℕ
 place_of (Form' place arguments) = place
@@ -79,16 +75,8 @@ place_of (Word' place name) = place
 place_of (Integer' place value) = place
 place_of (String' place value) = place
 
--- what is lent of a node is the tree's: the nodes of its arguments in order, or its token
-abbrev pub ShapeIs : List Row → Shape → Placed → Type 0
-ShapeIs rows (shapes.Form ids) (Form' place arguments) = AreAt rows ids.now arguments
-ShapeIs rows (shapes.Word name) (Word' place n) = name.now ≡ n
-ShapeIs rows (shapes.Integer value) (Integer' place n) = value ≡ n
-ShapeIs rows (shapes.String text) (String' place s) = text.now ≡ s
-ShapeIs rows _ _ = ⊥
-
 -- what is seen where this is lent
-abbrev pub seen : Shape → Seen
+abbrev pub seen : StoredShape → Seen
 seen (shapes.Form ids) = FormOf ids.now
 seen (shapes.Word name) = WordOf name.now
 seen (shapes.Integer value) = IntegerOf value

@@ -2,7 +2,7 @@
 ghost use Rattle.std.specs.Prelude.{◌≡◌, List};
 ghost use Rattle.spelling_spec.specs.Tree.{Placed};
 ghost use Rattle.edif_tree.specs.Nodes.{Row, IsAt};
-ghost use Rattle.edif_tree.specs.declared.node.NodeId.{NodeId};
+ghost use Rattle.edif_tree.specs.declared.stored.NodeId.{NodeId};
 
 /// One tree at most stands at a node.
 pub fn one_tree_stands()

@@ -1,19 +1,22 @@
 //! Tokens to a tree of nodes, or their first tree fault. The nodes stand in one list, and no call goes down by recursion.
 #![tactic(auto)]
 
+mod each;
 mod errors;
 pub mod laws;
 mod making;
 mod node;
 mod node_lists;
-mod nodes;
 mod read;
+mod store;
+mod stored;
 mod tree;
 mod tree_maker;
 
+pub use each::Each;
 pub use errors::TreeError;
 pub use laws::one_tree_stands;
-pub use node::{NodeId, Shape};
+pub use node::{Node, Nodes, Shape};
 pub use read::read_tree;
 pub use tree::Tree;
 pub use tree_maker::TreeMaker;

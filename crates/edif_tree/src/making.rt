@@ -9,9 +9,9 @@ ghost use Rattle.edif_tree.specs.Nodes.{IsAt};
 ghost use Rattle.edif_tree.specs.TreeError.{Names};
 
 use crate::errors::TreeError;
-use crate::node::NodeId;
 use crate::node_lists::range;
-use crate::nodes::Nodes;
+use crate::store::Store;
+use crate::stored::NodeId;
 use crate::tree::Tree;
 use netlist_schema::NoMemory;
 use netlist_schema::limits::MOST_LEVELS;
@@ -31,7 +31,7 @@ pub struct OpenForm {
 #[derive(Drop)]
 pub struct Making {
     /// The nodes of all tokens and of all closed forms.
-    pub nodes: Nodes,
+    pub nodes: Store,
     /// The open forms, the file's form first.
     pub forms: Vec<OpenForm>,
     /// The nodes that no closed form holds, in order.
@@ -43,7 +43,7 @@ impl Making {
         ensures { HasRead result [] }
     {
         Making {
-            nodes: Nodes::new(alloc),
+            nodes: Store::new(alloc),
             forms: Vec::new(alloc),
             loose: Vec::new(alloc),
         }

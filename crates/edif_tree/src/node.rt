@@ -1,15 +1,33 @@
-//! One node of a tree.
+//! The nodes of a tree, as it lends them.
+ghost use Rattle.std.specs.Prelude.{◌≡◌, true};
+ghost use Rattle.edif_tree.specs.Order.{is_node, are_nodes};
+
+use crate::each::Each;
+use crate::stored::{NodeId, StoredShape};
+use crate::tree::Tree;
 use netlist_schema::{Ident, Text};
 
-/// A node of a tree, by its place in the tree's list of nodes, from 0. It is good for that tree alone.
-#[derive(Clone, Copy, Debug, PartialEq, Eq, PartialOrd, Ord)]
-pub struct NodeId(pub u32);
+/// A node of a tree.
+#[derive(Clone, Copy)]
+pub struct Node<'a> {
+    pub(crate) tree: &'a Tree,
+    pub(crate) id: NodeId,
+    pub ghost stands: { is_node tree.now.rows id ≡ true },
+}
 
-/// What stands at a node, as it is lent.
+/// Nodes of a tree, in order.
+#[derive(Clone, Copy)]
+pub struct Nodes<'a> {
+    pub(crate) tree: &'a Tree,
+    pub(crate) ids: &'a [NodeId],
+    pub ghost stand: { are_nodes tree.now.rows ids.now ≡ true },
+}
+
+/// What stands at a node.
 #[derive(Clone, Copy)]
 pub enum Shape<'a> {
     /// A form, by the nodes of its arguments in order.
-    Form(&'a [NodeId]),
+    Form(Nodes<'a>),
     /// A word, by its name.
     Word(&'a Ident),
     /// A number.
@@ -18,19 +36,80 @@ pub enum Shape<'a> {
     String(&'a Text),
 }
 
-/// What stands at a node, in 8 bytes. The arguments of forms, words, integers and strings stand in lists of their own, and a node has
-/// the place there.
-#[derive(Clone, Copy)]
-pub enum NodeKind {
-    Form(u32),
-    Word(u32),
-    Integer(u32),
-    String(u32),
+impl<'a> Node<'a> {
+    ghost use Rattle.std.specs.Prelude.{◌≡◌};
+    ghost use Rattle.edif_tree.specs.Nodes.{place_of};
+    ghost use Rattle.edif_tree.specs.Handles.{here, Shows};
+
+    /// The number of bytes before its first token, which for a form is its `(`. Takes no memory.
+    pub fn place(self) -> u64
+        ensures { result ≡ place_of (here self.entry) }
+    {
+        self.tree.place(self.id)
+    }
+
+    /// What stands there: the nodes of a form's arguments in order, or a token. Takes no memory.
+    pub fn shape(self) -> Shape<'a>
+        ensures { Shows result (here self.entry) }
+    {
+        let tree = self.tree;
+        match tree.shape(self.id) {
+            StoredShape::Form(ids) => Shape::Form(Nodes { tree, ids }),
+            StoredShape::Word(name) => Shape::Word(name),
+            StoredShape::Integer(value) => Shape::Integer(value),
+            StoredShape::String(text) => Shape::String(text),
+        }
+    }
 }
 
-/// A node, and the number of bytes before its first token.
-#[derive(Clone, Copy)]
-pub struct Node {
-    pub place: u32,
-    pub kind: NodeKind,
+impl<'a> Nodes<'a> {
+    ghost use Rattle.std.specs.Prelude.{◌≡◌, ◌<◌, ◌≤◌, ◌∷◌, [], length, slice_get, Some, IfSome, IfNone, take, drop};
+    ghost use Rattle.edif_tree.specs.Handles.{here, all};
+    ghost use Rattle.edif_tree.specs.Eaches.{left};
+
+    /// How many there are. Takes no memory.
+    pub fn len(self) -> usize
+        ensures { result ≡ length (all self.entry) }
+    {
+        self.ids.len()
+    }
+
+    /// The one at a place. Takes no memory.
+    pub fn at(self, i: usize) -> Node<'a>
+        requires { i < length (all self) }
+        ensures { slice_get (all self.entry) i ≡ Some (here result) }
+    {
+        Node {
+            tree: self.tree,
+            id: self.ids[i],
+        }
+    }
+
+    /// The first and the others, where there is one. Takes no memory.
+    pub fn split_first(self) -> Option<(Node<'a>, Nodes<'a>)>
+        ensures some { IfSome result (λ p. all self.entry ≡ here p.0 ∷ all p.1) }
+        ensures none { IfNone result (all self.entry ≡ []) }
+    {
+        let tree = self.tree;
+        let (first, others) = self.ids.split_first()?;
+        Some((Node { tree, id: *first }, Nodes { tree, ids: others }))
+    }
+
+    /// Those before a place, and those from there on. Takes no memory.
+    pub fn split_at(self, mid: usize) -> (Nodes<'a>, Nodes<'a>)
+        requires { mid ≤ length (all self) }
+        ensures front { all result.0 ≡ take mid (all self.entry) }
+        ensures back { all result.1 ≡ drop mid (all self.entry) }
+    {
+        let tree = self.tree;
+        let (front, back) = self.ids.split_at(mid);
+        (Nodes { tree, ids: front }, Nodes { tree, ids: back })
+    }
+
+    /// Each of them in order. Takes no memory.
+    pub fn iter(self) -> Each<'a>
+        ensures { left result ≡ all self.entry }
+    {
+        Each { nodes: self }
+    }
 }

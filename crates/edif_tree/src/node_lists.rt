@@ -2,7 +2,7 @@
 ghost use Rattle.std.specs.Prelude.{◌≡◌, ◌<◌, ◌≤◌, ◌∷◌, ◌++◌, [], get_or, length, Some, OnOk, OnErr, slice_get};
 ghost use Rattle.std.specs.List.{slice_range};
 
-use crate::node::NodeId;
+use crate::stored::NodeId;
 use netlist_schema::NoMemory;
 use std::alloc::Global;
 use std::marker::Model;
@@ -17,7 +17,7 @@ pub struct NodeLists {
 impl Model for NodeLists {
     ghost use Rattle.std.specs.Prelude.{List};
     ghost use Rattle.edif_tree.specs.NodeLists.{lists_from, AreEnds};
-    ghost use Rattle.edif_tree.specs.declared.node.NodeId.{NodeId};
+    ghost use Rattle.edif_tree.specs.declared.stored.NodeId.{NodeId};
 
     ghost Value = { List (List NodeId) };
 

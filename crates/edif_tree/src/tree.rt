@@ -1,59 +1,66 @@
 //! A tree as a list of nodes.
-ghost use Rattle.std.specs.Prelude.{◌≡◌};
+ghost use Rattle.std.specs.Prelude.{◌≡◌, ◌<◌, length, option_map, slice_get, Some, true};
 ghost use Rattle.spelling_spec.specs.Tree.{Placed};
-ghost use Rattle.edif_tree.specs.Nodes.{IsAt, IsNode, ShapeIs, place_of};
+ghost use Rattle.edif_tree.specs.Nodes.{IsAt, seen};
+ghost use Rattle.edif_tree.specs.Order.{is_node};
+ghost use Rattle.edif_tree.specs.Handles.{here};
 
-use crate::node::{NodeId, Shape};
-use crate::nodes::Nodes;
+use crate::node::Node;
+use crate::store::Store;
+use crate::stored::{NodeId, StoredShape};
 use std::marker::Model;
 
 /// A tree, as contracts see it: the table of its nodes, and the node of the whole file. A tree of the file stands at that node.
 #[derive(Drop)]
 pub struct Tree {
-    nodes: Nodes,
+    nodes: Store,
     root: NodeId,
 }
 
 impl Model for Tree {
-    ghost use Rattle.edif_tree.specs.Nodes.{Table, IsNode};
+    ghost use Rattle.std.specs.Prelude.{◌≡◌, true};
+    ghost use Rattle.edif_tree.specs.Nodes.{Table};
+    ghost use Rattle.edif_tree.specs.Order.{is_node};
 
     ghost Value = { Table };
 
     ghost view = { λ a. record { rows = a.nodes; root = a.root } };
 
-    ghost invariant = { λ a. IsNode a.nodes a.root };
+    ghost invariant = { λ a. is_node a.nodes a.root ≡ true };
 }
 
 impl Tree {
     /// The tree of these nodes. Takes no memory.
-    pub(crate) fn of(nodes: Nodes, root: NodeId) -> Tree
-        requires { IsNode nodes root }
+    pub(crate) fn of(nodes: Store, root: NodeId) -> Tree
+        requires { is_node nodes root ≡ true }
         ensures { result ≡ record { rows = nodes; root = root } }
     {
         Tree { nodes, root }
     }
 
     /// The node of the whole file. Takes no memory.
-    pub fn root(&self) -> NodeId
-        ensures root { result ≡ self.now.root }
-        ensures node { IsNode self.now.rows result }
+    pub fn root(&self) -> Node<'_>
+        ensures { (t : Placed) → IsAt self.now.rows self.now.root t → here result ≡ t }
     {
-        self.root
+        Node {
+            tree: self,
+            id: self.root,
+        }
     }
 
-    /// The number of bytes before the first token of a node of this tree, which for a form is its `(`. Takes no memory.
-    pub fn place(&self, node: NodeId) -> u64
-        requires { IsNode self.now.rows node }
-        ensures { (t : Placed) → IsAt self.now.rows node t → result ≡ place_of t }
+    /// The place of a node of this tree.
+    pub(crate) fn place(&self, id: NodeId) -> u64
+        requires { id.0 < length self.now.rows }
+        ensures { option_map (λ row. row.place) (slice_get self.now.rows id.0) ≡ Some result }
     {
-        self.nodes.place(node)
+        self.nodes.place(id)
     }
 
-    /// What stands at a node of this tree: the nodes of a form's arguments in order, or a token. Takes no memory.
-    pub fn shape(&self, node: NodeId) -> Shape<'_>
-        requires { IsNode self.now.rows node }
-        ensures { (t : Placed) → IsAt self.now.rows node t → ShapeIs self.now.rows result t }
+    /// What stands at a node of this tree.
+    pub(crate) fn shape(&self, id: NodeId) -> StoredShape<'_>
+        requires { id.0 < length self.now.rows }
+        ensures { option_map (λ row. row.shape) (slice_get self.now.rows id.0) ≡ Some (seen result) }
     {
-        self.nodes.shape(node)
+        self.nodes.shape(id)
     }
 }

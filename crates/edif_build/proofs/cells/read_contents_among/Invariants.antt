@@ -1,9 +1,13 @@
-use Rattle.std.proofs.Common.{◌≡◌, List, [], take}
+use Rattle.std.proofs.Common.{◌≡◌, ◌++◌, List, []}
 use Rattle.spelling_spec.specs.Tree.{Placed}
 use Rattle.edif_spec.specs.Faults.{those_of}
 use Rattle.edif_spec.specs.declared.keyword.Keyword.TheVariants.{Contents}
-use Rattle.edif_grammar.specs.Forms.{Stand}
+use Rattle.edif_tree.specs.Handles.{all}
+use Rattle.edif_tree.specs.Eaches.{left}
 use Rattle.edif_build.proofs.cells.read_contents_among.Given as goal
 
 abbrev pub invariant-loop-node : goal.invariant-loop-node
-invariant-loop-node l = (ts : List Placed) → Stand l.tree.rows l.inner ts → those_of Contents (take l.node-index ts) ≡ []
+invariant-loop-node l =
+    (goal.iterator-loop-node).can_next l.node-iterator ×
+    (goal.iterator-loop-node).is_finite l.node-iterator ×
+    ((before : List Placed) × (all l.fn.inner ≡ before ++ left l.node-iterator) × (those_of Contents before ≡ []))

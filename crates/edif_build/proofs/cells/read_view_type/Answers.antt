@@ -1,35 +1,33 @@
 use Rattle.std.proofs.Common.{[], refl, sym, arith}
-use Rattle.edif_spec.specs.Keyword.{identifier}
-use Rattle.edif_spec.specs.declared.keyword.Keyword.TheVariants.{View, ViewType}
+use Rattle.spelling_spec.specs.Tree.{Placed, bare}
+use Rattle.edif_spec.specs.Keyword.{AnIdentifier, identifier}
+use Rattle.edif_spec.specs.Rows.{is_choice}
+use Rattle.edif_spec.specs.declared.keyword.Keyword.TheVariants.{ViewType}
+use Rattle.edif_spec.proofs.KnownForms.{only}
+use Rattle.edif_tree.specs.Handles.{here}
+use Rattle.edif_grammar.specs.Forms.{ArePartsOf}
+use Rattle.edif_grammar.specs.declared.lent.Form.{Form}
+use Rattle.edif_parts.proofs.PartLemmas.{OneNode, one_node}
 use Rattle.edif_build.proofs.CellLemmas.{netlist_means, netlist_fails}
-use Rattle.edif_contents.proofs.FixedNodes.{one_of}
-use Rattle.edif_contents.proofs.RefLemmas.{word_there}
 use Rattle.edif_build.proofs.cells.read_view_type.Goals as goal
 
-pub bounds-parts-0 : goal.bounds-parts-0
-bounds-parts-0 c =
-    let t = c.requires.node in
-    let n = one_of c.args.tree.now.rows View ViewType identifier [] t.0 c.in_ok-parts.parts refl refl refl (c.in_ok-parts.ensures t.0 t.1) in
-    omega (arith, n.count)
+nodes : (t : Placed) (p : Form) → ArePartsOf ViewType t p → OneNode ViewType identifier t p
+nodes t p a = one_node ViewType identifier [] t p refl refl refl a
 
-pub reference_at-word-requires-clause-node : goal.reference_at-word-requires-clause-node
-reference_at-word-requires-clause-node c =
-    let t = c.requires.node in
-    let n = one_of c.args.tree.now.rows View ViewType identifier [] t.0 c.in_ok-parts.parts refl refl refl (c.in_ok-parts.ensures t.0 t.1) in
-    (n.fit.a, n.node _)
+pub at-requires : goal.at-requires
+at-requires c = omega (arith, (nodes (here c.args.node) c.in_ok-parts.parts c.in_ok-parts.ensures).count)
 
-pub reference_at-word-requires-clause-word : goal.reference_at-word-requires-clause-word
-reference_at-word-requires-clause-word c = λ u b.
-    let t = c.requires.node in
-    let n = one_of c.args.tree.now.rows View ViewType identifier [] t.0 c.in_ok-parts.parts refl refl refl (c.in_ok-parts.ensures t.0 t.1) in
-    word_there c.args.tree.now.rows _ n.fit.a u n.fit.is_a (n.node _) b
+pub reference_at-word-requires : goal.reference_at-word-requires
+reference_at-word-requires c = let u = here c.at.result in only (is_choice AnIdentifier (bare u)) ((nodes (here c.args.node) c.in_ok-parts.parts c.in_ok-parts.ensures).a u c.at.ensures).is
 
 pub returns-then-is_word : goal.returns-then-is_word
-returns-then-is_word c = λ t a.
-    let n = one_of c.args.tree.now.rows View ViewType identifier [] t c.in_ok-parts.parts refl refl refl (c.in_ok-parts.ensures t a) in
-    netlist_means t n.fit.a c.reference_at-word.result.name.now c.reference_at-word.result.place n.fit.form (c.reference_at-word.ensures n.fit.a (n.node _)) (sym c.if-is_word.ensures)
+returns-then-is_word c =
+    let t = here c.args.node in
+    let u = here c.at.result in
+    netlist_means t u c.reference_at-word.result.name.now c.reference_at-word.result.place ((nodes t c.in_ok-parts.parts c.in_ok-parts.ensures).form u c.at.ensures) c.reference_at-word.ensures (sym c.if-is_word.ensures)
 
 pub returns : goal.returns
-returns c = λ t a.
-    let n = one_of c.args.tree.now.rows View ViewType identifier [] t c.in_ok-parts.parts refl refl refl (c.in_ok-parts.ensures t a) in
-    rw c.fault_at.ensures (netlist_fails t n.fit.a c.reference_at-word.result.name.now c.reference_at-word.result.place n.fit.at_a (c.reference_at-word.ensures n.fit.a (n.node _)) (sym c.if-is_word.ensures))
+returns c =
+    let t = here c.args.node in
+    let u = here c.at.result in
+    rw c.fault_at.ensures (netlist_fails t u c.reference_at-word.result.name.now c.reference_at-word.result.place ((nodes t c.in_ok-parts.parts c.in_ok-parts.ensures).a u c.at.ensures).at c.reference_at-word.ensures (sym c.if-is_word.ensures))

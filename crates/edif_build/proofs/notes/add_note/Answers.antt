@@ -1,35 +1,40 @@
 use Rattle.std.proofs.Common.{◌≡◌, ◌<◌, ◌≤◌, List, [], ◌∷◌, ◌++◌, length, sym, ap, ◌∙◌, subst, arith}
 use Rattle.edif_spec.specs.Design as design
 use Rattle.edif_spec.specs.Stands.{NoteFault}
+use Rattle.edif_tree.specs.Handles.{here}
 use Rattle.edif_build.specs.Notes.{AreNoted, FailsBehind, IsAgain, flat}
 use Rattle.edif_parts.proofs.Answering.{hand_on}
 use Rattle.edif_build.proofs.NotedLemmas.{noted_again, noted_beyond, noted_fails, noted_push}
-use Rattle.edif_contents.proofs.RefLemmas.{place_same}
+use Rattle.edif_grammar.proofs.Misplaced.{place_is}
 use Rattle.edif_build.proofs.notes.add_note.Goals as goal
 
 pub returns-then-len-ge-MOST_NOTES : goal.returns-then-len-ge-MOST_NOTES
-returns-then-len-ge-MOST_NOTES c = λ ts t h a.
+returns-then-len-ge-MOST_NOTES c = λ ts h.
+    let t = here c.args.node in
     let k = c.args.notes.now.ok.0 in
     let l : 1048576 ≤ length c.args.notes.now.items = omega arith in
-    rw c.over_limit.ensures (noted_beyond c.args.libs.now.libs c.args.top ts c.args.notes.now.items c.args.keys.now t c.place.result h l (c.place.ensures t a ∙ place_same t))
+    rw c.over_limit.ensures (noted_beyond c.args.libs.now.libs c.args.top ts c.args.notes.now.items c.args.keys.now t c.place.result h l (c.place.ensures ∙ place_is t))
 
 pub returns-in_err-note : goal.returns-in_err-note
-returns-in_err-note c = λ ts t h a.
+returns-in_err-note c = λ ts h.
+    let t = here c.args.node in
     hand_on (λ _. AreNoted c.args.libs.now.libs c.args.top (ts ++ t ∷ []) c.args.notes.now.items c.args.keys.now) (NoteFault c.args.libs.now.libs c.args.top t) (FailsBehind c.args.libs.now.libs c.args.top ts t) c.from_residual.result c.in_err-note.field-0.0
-    c.from_residual.ensures.1 (λ f b. noted_fails c.args.libs.now.libs c.args.top ts t f b) (c.in_err-note.ensures t a)
+    c.from_residual.ensures.1 (λ f b. noted_fails c.args.libs.now.libs c.args.top ts t f b) c.in_err-note.ensures
 
 pub returns-in_err-add : goal.returns-in_err-add
-returns-in_err-add c = λ ts t h a.
+returns-in_err-add c = λ ts h.
+    let t = here c.args.node in
     let n = c.in_ok-note.note in
     let e : c.in_ok-key.key.items ≡ flat n.note.path n.note.property.key.id = c.in_ok-key.ensures ∙ ap (λ v. flat v n.note.property.key.id) c.as_slice.ensures in
     hand_on (λ _. AreNoted c.args.libs.now.libs c.args.top (ts ++ t ∷ []) c.args.notes.now.items c.add.new.self) (IsAgain c.args.keys.now c.in_ok-key.key.items n.place) (FailsBehind c.args.libs.now.libs c.args.top ts t) c.from_residual-in_err-add.result c.in_err-add.field-0.0
-    c.from_residual-in_err-add.ensures.1 (λ f b. noted_again c.args.libs.now.libs c.args.top ts c.args.notes.now.items c.args.keys.now t n.note c.in_ok-key.key.items n.place f h (c.in_ok-note.ensures t a) e b) c.in_err-add.ensures.err
+    c.from_residual-in_err-add.ensures.1 (λ f b. noted_again c.args.libs.now.libs c.args.top ts c.args.notes.now.items c.args.keys.now t n.note c.in_ok-key.key.items n.place f h c.in_ok-note.ensures e b) c.in_err-add.ensures.err
 
 pub returns : goal.returns
-returns c = λ ts t h a.
+returns c = λ ts h.
+    let t = here c.args.node in
     let n = c.in_ok-note.note in
     let k = c.args.notes.now.ok.0 in
     let l : length c.args.notes.now.items < 1048576 = omega arith in
     let e : c.in_ok-key.key.items ≡ flat n.note.path n.note.property.key.id = c.in_ok-key.ensures ∙ ap (λ v. flat v n.note.property.key.id) c.as_slice.ensures in
     let P : List design.Note → Type 0 = λ v. AreNoted c.args.libs.now.libs c.args.top (ts ++ t ∷ []) v c.add.new.self in
-    subst P (sym c.in_ok-push.ensures.items) (noted_push c.args.libs.now.libs c.args.top ts c.args.notes.now.items c.args.keys.now c.add.new.self t n.note c.in_ok-key.key.items n.place h (c.in_ok-note.ensures t a) e c.in_ok-add.ensures.ok l)
+    subst P (sym c.in_ok-push.ensures.items) (noted_push c.args.libs.now.libs c.args.top ts c.args.notes.now.items c.args.keys.now c.add.new.self t n.note c.in_ok-key.key.items n.place h c.in_ok-note.ensures e c.in_ok-add.ensures.ok l)

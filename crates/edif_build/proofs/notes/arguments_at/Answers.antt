@@ -1,11 +1,12 @@
-use Rattle.std.proofs.Common.{List, sym, subst}
-use Rattle.edif_spec.specs.Faults.{arguments}
-use Rattle.edif_tree.specs.declared.node.NodeId.{NodeId}
-use Rattle.edif_grammar.specs.Forms.{Stand}
+use Rattle.std.proofs.Common.{length, ap, arith}
+use Rattle.edif_tree.specs.Handles.{here, all}
 use Rattle.edif_build.proofs.NoteLemmas.{behind_first}
 use Rattle.edif_build.proofs.notes.arguments_at.Goals as goal
 
-pub returns : goal.returns
-returns c = λ t a.
-    let P : List NodeId → Type 0 = λ v. Stand c.args.tree.now.rows v (arguments t) in
-    subst P (sym c.rest_of.ensures.rest) (behind_first c.args.tree.now.rows c.in-Form.ids t (c.in-Form.ensures t a) c.rest_of.ensures.some)
+pub returns-then-len-least-clause-none : goal.returns-then-len-least-clause-none
+returns-then-len-least-clause-none c =
+    let e = ap length (behind_first (here c.args.node) _ (all c.in-Form.nodes) (all c.in_ok-arguments.arguments) c.in-Form.ensures c.in_ok-arguments.ensures.some) in
+    omega (arith, e)
+
+pub returns-clause-some : goal.returns-clause-some
+returns-clause-some c = (behind_first (here c.args.node) (here c.in_ok-arguments.field-0-0) (all c.in-Form.nodes) (all c.in_ok-arguments.arguments) c.in-Form.ensures c.in_ok-arguments.ensures.some, omega arith)

@@ -1,8 +1,11 @@
-use Rattle.std.proofs.Common.{List}
-use Rattle.spelling_spec.specs.Tree.{Placed}
-use Rattle.edif_grammar.specs.Forms.{Stand}
+use Rattle.edif_spec.specs.Faults.{arguments}
+use Rattle.edif_tree.specs.Handles.{here}
+use Rattle.edif_tree.specs.Eaches.{left}
 use Rattle.edif_build.proofs.NoteLemmas.{Onward}
 use Rattle.edif_build.proofs.notes.read_path.Given as goal
 
 abbrev pub invariant-loop-step : goal.invariant-loop-step
-invariant-loop-step l = (ts : List Placed) → Stand l.tree.rows l.steps ts → Onward l.libs.libs l.fn.top ts l.step-index l.id l.path.items
+invariant-loop-step l =
+    (goal.iterator-loop-step).can_next l.step-iterator ×
+    (goal.iterator-loop-step).is_finite l.step-iterator ×
+    Onward l.libs.libs l.fn.top (arguments (here l.fn.node)) (left l.step-iterator) l.id l.path.items

@@ -5,7 +5,7 @@ use Rattle.edif_spec.specs.Stands.{BitFault, Dangles}
 use Rattle.edif_contents.specs.Ends.{ports_for}
 use Rattle.edif_contents.specs.declared.ends.Bits.{Bits}
 use Rattle.edif_contents.proofs.EndLemmas.{whole_means, word_dangles}
-use Rattle.edif_contents.proofs.RefLemmas.{handed_on}
+use Rattle.edif_parts.proofs.Answering.{hand_on}
 use Rattle.edif_contents.proofs.ends.whole_port.Goals as goal
 
 pub returns-in_err-port : goal.returns-in_err-port
@@ -13,8 +13,8 @@ returns-in_err-port c = λ t e.
     let ports = ports_for c.args.around.now c.args.inst in
     let name = c.args.name.name.now in
     let scope = design.port_ids ports in
-    handed_on (λ (b : Bits). MeansBits ports (bare t) b.port b.first b.width) (Dangles scope (Word' c.args.name.place name)) (BitFault ports t) c.from_residual.result c.in_err-port.field-0.0 c.from_residual.ensures.1
-    (c.in_err-port.ensures scope name c.port_meant.ensures) (λ f b. word_dangles ports t name c.args.name.place f e b)
+    hand_on (λ (b : Bits). MeansBits ports (bare t) b.port b.first b.width) (Dangles scope (Word' c.args.name.place name)) (BitFault ports t) c.from_residual.result c.in_err-port.field-0.0 c.from_residual.ensures.1
+    (λ f b. word_dangles ports t name c.args.name.place f e b) (c.in_err-port.ensures scope name c.port_meant.ensures)
 
 pub returns : goal.returns
 returns c = λ t e.

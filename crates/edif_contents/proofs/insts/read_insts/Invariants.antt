@@ -1,9 +1,14 @@
-use Rattle.std.proofs.Common.{List, take}
+use Rattle.std.proofs.Common.{◌≡◌, ◌++◌, List}
 use Rattle.spelling_spec.specs.Tree.{Placed}
-use Rattle.edif_grammar.specs.Forms.{Stand}
+use Rattle.edif_tree.specs.Handles.{all}
+use Rattle.edif_tree.specs.Eaches.{left}
 use Rattle.edif_contents.proofs.InsideLoops.{InstsSoFar}
 use Rattle.edif_contents.proofs.insts.read_insts.Given as goal
 
 -- the instances so far
 abbrev pub invariant-loop-node : goal.invariant-loop-node
-invariant-loop-node l = (ts : List Placed) → Stand l.tree.rows l.inner ts → InstsSoFar l.libs.libs l.own (take l.node-index ts) l.list.items l.names
+invariant-loop-node l = record {
+  can_next : (goal.iterator-loop-node).can_next l.node-iterator;
+  is_finite : (goal.iterator-loop-node).is_finite l.node-iterator;
+  insts : (before : List Placed) × (all l.fn.inner ≡ before ++ left l.node-iterator) × InstsSoFar l.libs.libs l.own before l.list.items l.names;
+}

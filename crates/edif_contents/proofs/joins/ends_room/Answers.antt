@@ -1,23 +1,46 @@
-use Rattle.std.proofs.Common.{◌∙◌, arith}
-use Rattle.std.proofs.Math.Nat.{suc-mul}
-use Rattle.std.proofs.Math.Numerals.{add-one}
-use Rattle.edif_tree.specs.Nodes.{IsAt}
-use Rattle.edif_parts.proofs.Steps.{step_at}
-use Rattle.edif_contents.proofs.JoinLemmas.{room_beyond, taken_count}
-use Rattle.edif_contents.proofs.RefLemmas.{place_same}
-use Rattle.edif_grammar.proofs.StandLemmas.{stand_node}
+use Rattle.std.proofs.Common.{◌+◌, ◌*◌, ◌≤◌, [], ◌∷◌, ◌++◌, List, length, ap, subst, sym, ◌∙◌, arith}
+use Rattle.spelling_spec.specs.Tree.{Placed}
+use Rattle.edif_tree.specs.Handles.{here, all}
+use Rattle.edif_tree.specs.Eaches.{left}
+use Rattle.edif_grammar.proofs.Misplaced.{place_is}
+use Rattle.edif_parts.proofs.Steps.{ended, stepped}
+use Rattle.edif_contents.proofs.JoinLemmas.{count_more, room_beyond}
 use Rattle.edif_contents.proofs.joins.ends_room.Goals as goal
 
-pub place-requires : goal.place-requires
-place-requires c = stand_node c.args.tree.now.rows c.args.nodes.now c.requires.nodes.0 c.loop-node.node-index _ c.requires.nodes.1 c.loop-node-test.true
+pub loop-node-init : goal.loop-node-init
+loop-node-init c = record {
+  can_next = tt;
+  is_finite = tt;
+  count = ([], sym (ap left c.into_iter-node-iterator.ensures.into_iter_gives ∙ c.iter-node-items.ensures), omega arith);
+  few = omega arith;
+}
+
+pub overflow_add-count : goal.overflow_add-count
+overflow_add-count c = omega (arith, c.loop-node.invariant.few)
 
 pub returns-then-count-clause-err : goal.returns-then-count-clause-err
-returns-then-count-clause-err c = λ us before st e.
-    let s = step_at c.args.tree.now.rows c.args.nodes.now us c.loop-node.node-index (record { 0 = 0 }) st c.loop-node-test.true in
-    let n = taken_count (IsAt c.args.tree.now.rows) c.args.nodes.now us c.loop-node.node-index st c.loop-node-test.true in
-    rw c.over_limit.ensures (λ more. room_beyond 4194304 c.args.joined c.args.size c.loop-node.node-index c.place.result us before more s.tree s.whole n e (omega arith) (omega arith) (c.place.ensures s.tree s.at ∙ place_same s.tree))
+returns-then-count-clause-err c = λ before e.
+    let t = here c.in-Some.node in
+    let b = c.loop-node.invariant.count in
+    let few = c.loop-node.invariant.few in
+    let whole = b.1 ∙ ap (λ v. b.0 ++ v) c.in-Some.ensures.steps in
+    rw c.over_limit.ensures (λ more. room_beyond 4194304 c.args.joined c.args.size c.place.result (all c.args.nodes) b.0 (left c.next.new.self) before more t whole e (omega (arith, b.2, few)) (omega (arith, b.2)) (c.place.ensures ∙ place_is t))
 
 pub loop-node-preserved : goal.loop-node-preserved
 loop-node-preserved c =
-    let m = suc-mul c.loop-node.node-index c.args.size in
-    rw (add-one c.loop-node.node-index) (record { count = omega (arith, m); few = omega arith })
+    let t = here c.in-Some.node in
+    let b = c.loop-node.invariant.count in
+    let m = count_more b.0 t c.args.size in
+    record {
+      can_next = tt;
+      is_finite = tt;
+      count = (b.0 ++ t ∷ [], stepped (all c.args.nodes) b.0 (left c.loop-node.node-iterator) (left c.next.new.self) t b.1 c.in-Some.ensures.steps, omega (arith, m, b.2));
+      few = omega arith;
+    }
+
+pub returns-clause-ok : goal.returns-clause-ok
+returns-clause-ok c =
+    let b = c.loop-node.invariant.count in
+    let few = c.loop-node.invariant.few in
+    let P : List Placed → Type 0 = λ v. c.args.joined + length v * c.args.size ≤ 4194304 in
+    subst P (ended (all c.args.nodes) b.0 (left c.loop-node.node-iterator) b.1 c.in-None.ensures.steps.0) (omega (arith, b.2, few))

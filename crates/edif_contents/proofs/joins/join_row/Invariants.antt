@@ -1,8 +1,8 @@
 use Rattle.std.proofs.Common.{◌≡◌, ◌+◌, ◌*◌, ℕ, List, ◌++◌, length, map}
 use Rattle.spelling_spec.specs.Tree.{Placed}
+use Rattle.edif_tree.specs.Handles.{all}
 use Rattle.edif_spec.specs.Design as design
 use Rattle.edif_spec.specs.Nets.{end_of}
-use Rattle.edif_grammar.specs.Forms.{Stand}
 use Rattle.edif_contents.specs.Joins.{AreJoined}
 use Rattle.edif_contents.proofs.JoinLemmas.{MeanRow, net_row, rows_below}
 use Rattle.edif_contents.proofs.joins.join_row.Given as goal
@@ -11,7 +11,7 @@ use Rattle.edif_contents.proofs.joins.join_row.Given as goal
 abbrev pub invariant-loop-k : goal.invariant-loop-k
 invariant-loop-k l = record {
   count : length l.joins ≡ length l.fn.joins + l.k * length l.stretches;
-  joined : (libs : List design.Lib) (ports : List design.Port) (insts : List design.Inst) (ts : List (Placed × ℕ × ℕ)) (us : List Placed) (es : List design.End)
-      → Stand l.tree.rows l.nodes us → MeanRow libs ports insts l.size us l.stretches → AreJoined libs ports insts ts es l.fn.joins
-      → AreJoined libs ports insts (ts ++ rows_below (λ k. net_row k l.size us) l.k) (es ++ rows_below (λ k. map (end_of k) l.stretches) l.k) l.joins;
+  joined : (libs : List design.Lib) (ports : List design.Port) (insts : List design.Inst) (ts : List (Placed × ℕ × ℕ)) (es : List design.End)
+      → MeanRow libs ports insts l.size (all l.nodes) l.stretches → AreJoined libs ports insts ts es l.fn.joins
+      → AreJoined libs ports insts (ts ++ rows_below (λ k. net_row k l.size (all l.nodes)) l.k) (es ++ rows_below (λ k. map (end_of k) l.stretches) l.k) l.joins;
 }

@@ -1,41 +1,52 @@
-use Rattle.std.proofs.Common.{◌≡◌, List, length, suc, take, sym, ap, ◌∙◌, subst, arith}
-use Rattle.std.proofs.Math.Numerals.{add-one}
+use Rattle.std.proofs.Common.{[], ◌∷◌, ◌++◌, List, sym, ap, ◌∙◌, subst}
 use Rattle.std.specs.List.{AllZip}
+use Rattle.spelling_spec.specs.Tree.{Placed}
 use Rattle.edif_spec.specs.Faults.{Among}
 use Rattle.edif_spec.specs.declared.keyword.Keyword.TheVariants.{PortRef}
-use Rattle.edif_contents.specs.Ends.{EndFaultIn, ReadEnd}
-use Rattle.edif_contents.specs.declared.ends.EndAt.{EndAt}
+use Rattle.edif_spec.proofs.NetFaultsApart.{zip_append}
+use Rattle.edif_tree.specs.Handles.{here, all}
+use Rattle.edif_tree.specs.Eaches.{left}
 use Rattle.edif_parts.proofs.Answering.{hand_on}
-use Rattle.edif_contents.proofs.NetLemmas.{among_here, keyword_here, zip_end, zip_step}
-use Rattle.edif_grammar.proofs.StandLemmas.{stand_node, stand_read}
-use Rattle.edif_parts.proofs.Steps.{step_at, take_all}
+use Rattle.edif_parts.proofs.Steps.{ended, stepped}
+use Rattle.edif_contents.specs.Ends.{EndFaultIn, ReadEnd}
+use Rattle.edif_contents.proofs.Followers.{next_has}
+use Rattle.edif_contents.proofs.NetLemmas.{among_here}
 use Rattle.edif_contents.proofs.nets.read_ends.Goals as goal
 
 pub loop-node-init : goal.loop-node-init
-loop-node-init c = λ ts st. rw c.new-ends.ensures.items tt
-
-pub read_end-requires-clause-node : goal.read_end-requires-clause-node
-read_end-requires-clause-node c = stand_node c.args.tree.now.rows c.args.nodes.now c.requires.nodes.0 c.loop-node.node-index _ c.requires.nodes.1 c.loop-node-test.true
+loop-node-init c = record {
+  can_next = tt;
+  is_finite = tt;
+  ends = ([], sym (ap left c.into_iter-node-iterator.ensures.into_iter_gives ∙ c.iter-node-items.ensures), rw c.new-ends.ensures.items tt);
+}
 
 pub read_end-requires-clause-keyword : goal.read_end-requires-clause-keyword
-read_end-requires-clause-keyword c = λ t at.
-    let r = stand_read c.args.tree.now.rows c.args.nodes.now c.requires.nodes.0 c.loop-node.node-index (record { 0 = 0 }) c.requires.nodes.1 c.loop-node-test.true in
-    keyword_here c.args.tree.now.rows c.args.nodes.now c.requires.nodes.0 PortRef c.loop-node.node-index _ t r c.requires.nodes.2 at
+read_end-requires-clause-keyword c =
+    let b = c.loop-node.invariant.ends in
+    next_has PortRef (all c.args.nodes) b.0 (left c.loop-node.node-iterator) (left c.next.new.self) (here c.in-Some.node) b.1 c.in-Some.ensures.steps c.requires.nodes
 
 pub returns-in_err-end : goal.returns-in_err-end
-returns-in_err-end c = λ ts st.
-    let s = step_at c.args.tree.now.rows c.args.nodes.now ts c.loop-node.node-index (record { 0 = 0 }) st c.loop-node-test.true in
-    hand_on (AllZip (ReadEnd c.args.around.now) ts) (EndFaultIn c.args.around.now s.tree) (Among (EndFaultIn c.args.around.now) ts) c.from_residual.result c.in_err-end.field-0.0 c.from_residual.ensures.1
-    (λ f b. among_here (EndFaultIn c.args.around.now) ts c.loop-node.node-index f s b) (c.in_err-end.ensures s.tree s.at)
+returns-in_err-end c =
+    let t = here c.in-Some.node in
+    let ts = all c.args.nodes in
+    let s = c.args.around.now in
+    let b = c.loop-node.invariant.ends in
+    hand_on (AllZip (ReadEnd s) ts) (EndFaultIn s t) (Among (EndFaultIn s) ts) c.from_residual.result c.in_err-end.field-0.0 c.from_residual.ensures.1
+    (λ f h. among_here (EndFaultIn s) ts b.0 (left c.loop-node.node-iterator) (left c.next.new.self) t f b.1 c.in-Some.ensures.steps h) c.in_err-end.ensures
 
 pub loop-node-preserved : goal.loop-node-preserved
-loop-node-preserved c = λ ts st.
-    let s = step_at c.args.tree.now.rows c.args.nodes.now ts c.loop-node.node-index (record { 0 = 0 }) st c.loop-node-test.true in
-    let g = zip_step (ReadEnd c.args.around.now) ts c.loop-node.ends.items c.loop-node.node-index c.in_ok-end.end s (c.loop-node.invariant ts st) (c.in_ok-end.ensures s.tree s.at) in
-    let P : List EndAt → Type 0 = λ v. AllZip (ReadEnd c.args.around.now) (take (suc c.loop-node.node-index) ts) v in
-    rw (add-one c.loop-node.node-index) (subst P (sym c.in_ok-push.ensures.items) g)
+loop-node-preserved c =
+    let t = here c.in-Some.node in
+    let b = c.loop-node.invariant.ends in
+    let R = ReadEnd c.args.around.now in
+    record {
+      can_next = tt;
+      is_finite = tt;
+      ends = (b.0 ++ t ∷ [], stepped (all c.args.nodes) b.0 (left c.loop-node.node-iterator) (left c.next.new.self) t b.1 c.in-Some.ensures.steps, rw c.in_ok-push.ensures.items (zip_append R b.0 c.loop-node.ends.items (t ∷ []) (c.in_ok-end.end ∷ []) b.2 (c.in_ok-end.ensures, tt)));
+    }
 
 pub returns : goal.returns
-returns c = λ ts st.
-    let e : c.loop-node.node-index ≡ length c.args.nodes.now = omega arith in
-    rw c.of.ensures (zip_end (ReadEnd c.args.around.now) ts c.loop-node.ends.items c.loop-node.node-index (ap (λ n. take n ts) e ∙ take_all c.args.tree.now.rows c.args.nodes.now ts st) (c.loop-node.invariant ts st))
+returns c =
+    let b = c.loop-node.invariant.ends in
+    let Z : List Placed → Type 0 = λ v. AllZip (ReadEnd c.args.around.now) v c.loop-node.ends.items in
+    rw c.of.ensures (subst Z (ended (all c.args.nodes) b.0 (left c.loop-node.node-iterator) b.1 c.in-None.ensures.steps.0) b.2)

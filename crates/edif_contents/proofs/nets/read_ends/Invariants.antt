@@ -1,10 +1,15 @@
-use Rattle.std.proofs.Common.{List, take}
+use Rattle.std.proofs.Common.{◌≡◌, ◌++◌, List}
 use Rattle.std.specs.List.{AllZip}
 use Rattle.spelling_spec.specs.Tree.{Placed}
+use Rattle.edif_tree.specs.Handles.{all}
+use Rattle.edif_tree.specs.Eaches.{left}
 use Rattle.edif_contents.specs.Ends.{ReadEnd}
-use Rattle.edif_grammar.specs.Forms.{Stand}
 use Rattle.edif_contents.proofs.nets.read_ends.Given as goal
 
 -- the ends so far
 abbrev pub invariant-loop-node : goal.invariant-loop-node
-invariant-loop-node l = (ts : List Placed) → Stand l.tree.rows l.nodes ts → AllZip (ReadEnd l.around) (take l.node-index ts) l.ends.items
+invariant-loop-node l = record {
+  can_next : (goal.iterator-loop-node).can_next l.node-iterator;
+  is_finite : (goal.iterator-loop-node).is_finite l.node-iterator;
+  ends : (before : List Placed) × (all l.fn.nodes ≡ before ++ left l.node-iterator) × AllZip (ReadEnd l.around) before l.ends.items;
+}

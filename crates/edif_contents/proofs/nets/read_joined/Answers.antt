@@ -1,27 +1,29 @@
-use Rattle.std.proofs.Common.{refl}
-use Rattle.edif_spec.specs.Faults.{Among, followers}
+use Rattle.std.proofs.Common.{◌≡◌, refl, sym, subst, true}
+use Rattle.std.specs.List.{AllByRecursion}
+use Rattle.spelling_spec.specs.Tree.{bare}
+use Rattle.edif_spec.specs.Faults.{Among}
+use Rattle.edif_spec.specs.Rows.{has_keyword}
 use Rattle.edif_spec.specs.Stands.{JoinedFault}
-use Rattle.edif_spec.specs.declared.keyword.Keyword.TheVariants.{Joined}
+use Rattle.edif_spec.specs.declared.keyword.Keyword.TheVariants.{PortRef}
+use Rattle.edif_tree.specs.Handles.{here, all}
+use Rattle.edif_parts.proofs.Answering.{hand_on}
 use Rattle.edif_contents.specs.Ends.{EndFaultIn}
 use Rattle.edif_contents.specs.Nets.{ReadJoined}
-use Rattle.edif_parts.proofs.Answering.{hand_on}
 use Rattle.edif_contents.proofs.NetLemmas.{joined_fails, joined_read, refs_follow}
 use Rattle.edif_contents.proofs.nets.read_joined.Goals as goal
 
 pub read_ends-requires-clause-nodes : goal.read_ends-requires-clause-nodes
 read_ends-requires-clause-nodes c =
-    let n = c.requires.node in
-    let a = c.in_ok-parts.ensures n.0 n.1 in
-    (followers Joined n.0, a.inner, (refs_follow n.0 a.fits).0)
+    let a = c.in_ok-parts.ensures in
+    subst (λ v. AllByRecursion (λ u. has_keyword PortRef (bare u) ≡ true) v) (sym a.inner) (refs_follow (here c.args.node) a.fits).0
 
 pub returns-in_err-ends : goal.returns-in_err-ends
-returns-in_err-ends c = λ t at.
-    let a = c.in_ok-parts.ensures t at in
+returns-in_err-ends c =
+    let t = here c.args.node in
+    let a = c.in_ok-parts.ensures in
     let s = c.args.around.now in
-    hand_on (ReadJoined c.args.tree.now.rows s t) (Among (EndFaultIn s) (followers Joined t)) (JoinedFault s.libs.now.libs s.ports.now s.insts.now t) c.from_residual-in_err-ends.result c.in_err-ends.field-0.0 c.from_residual-in_err-ends.ensures.1
-    (λ f b. joined_fails s t f (refs_follow t a.fits).1 b) (c.in_err-ends.ensures (followers Joined t) a.inner)
+    hand_on (ReadJoined s t) (Among (EndFaultIn s) (all c.in_ok-parts.parts.inner)) (JoinedFault s.libs.now.libs s.ports.now s.insts.now t) c.from_residual-in_err-ends.result c.in_err-ends.field-0.0 c.from_residual-in_err-ends.ensures.1
+    (λ f b. joined_fails s t f (refs_follow t a.fits).1 (subst (λ v. Among (EndFaultIn s) v f) a.inner b)) c.in_err-ends.ensures
 
 pub returns : goal.returns
-returns c = λ t at.
-    let a = c.in_ok-parts.ensures t at in
-    joined_read c.args.tree.now.rows c.args.around.now t c.in_ok-parts.parts _ a (refs_follow t a.fits).1 (c.in_ok-ends.ensures (followers Joined t) a.inner) refl
+returns c = joined_read c.args.around.now (here c.args.node) c.in_ok-parts.parts _ c.in_ok-parts.ensures c.in_ok-ends.ensures refl

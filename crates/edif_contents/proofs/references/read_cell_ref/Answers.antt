@@ -1,66 +1,61 @@
-use Rattle.std.proofs.Common.{[], ◌∷◌, refl, arith}
-use Rattle.edif_spec.specs.Faults.{followers}
-use Rattle.edif_spec.specs.Keyword.{One, identifier}
-use Rattle.edif_spec.specs.declared.keyword.Keyword.TheVariants.{CellRef, LibraryRef, ViewRef}
-use Rattle.spelling_spec.specs.Tree.{Word', bare}
+use Rattle.std.proofs.Common.{◌≡◌, ◌≤◌, List, arith, length, map, sym, subst, true}
+use Rattle.std.specs.List.{AllByRecursion}
+use Rattle.spelling_spec.specs.Tree.{Placed, Word', bare}
 use Rattle.edif_spec.specs.Design as design
-use Rattle.edif_spec.specs.Means.{MeansCellRef}
+use Rattle.edif_spec.specs.Means.{MeansCellRef, MeansLibraryRef}
+use Rattle.edif_spec.specs.Rows.{has_keyword}
 use Rattle.edif_spec.specs.Stands.{CellRefFault, Dangles}
-use Rattle.edif_contents.proofs.FixedNodes.{one_of}
-use Rattle.edif_contents.proofs.RefLemmas.{LibraryFault, handed_on, library_follows, library_fails, cell_ref_means, cell_fails, word_there}
+use Rattle.edif_spec.specs.declared.keyword.Keyword.TheVariants.{LibraryRef}
+use Rattle.edif_spec.proofs.KnownForms.{only}
+use Rattle.edif_tree.specs.Handles.{here, all}
+use Rattle.edif_parts.proofs.Answering.{hand_on}
+use Rattle.edif_contents.proofs.RefLemmas.{LibraryFault, cell_fails, cell_ref_means, cell_ref_node, library_fails, library_follows}
 use Rattle.edif_contents.proofs.references.read_cell_ref.Goals as goal
 
 pub read_library-requires : goal.read_library-requires
 read_library-requires c =
-    let n = c.requires.node in
-    let a = c.in_ok-parts.ensures n.0 n.1 in
-    let l = library_follows ViewRef n.0 a.fits in
-    (followers CellRef n.0, a.inner, l.0, l.1)
+    let a = c.in_ok-parts.ensures in
+    let l = library_follows (here c.args.node) a.fits in
+    subst (λ v. AllByRecursion (λ u. has_keyword LibraryRef (bare u) ≡ true) v × (length v ≤ 1)) (sym a.inner) (l.0, l.1)
 
 pub returns-in_err-lib : goal.returns-in_err-lib
-returns-in_err-lib c = λ t at.
-    let a = c.in_ok-parts.ensures t at in
+returns-in_err-lib c =
+    let t = here c.args.node in
+    let a = c.in_ok-parts.ensures in
     let libs = c.args.libs.now.libs in
-    let l = library_follows ViewRef t a.fits in
-    handed_on (MeansCellRef libs c.args.own (bare t)) (LibraryFault libs c.args.own (followers CellRef t) c.in_ok-parts.parts.place) (CellRefFault libs c.args.own t) c.from_residual-in_err-lib.result c.in_err-lib.field-0.0 c.from_residual-in_err-lib.ensures.1
-    (c.in_err-lib.ensures (followers CellRef t) a.inner) (λ f b. library_fails libs c.args.own t c.in_ok-parts.parts.place f a.place l.2 b)
+    hand_on (MeansCellRef libs c.args.own (bare t)) (LibraryFault libs c.args.own (all c.in_ok-parts.parts.inner) c.in_ok-parts.parts.place) (CellRefFault libs c.args.own t) c.from_residual-in_err-lib.result c.in_err-lib.field-0.0 c.from_residual-in_err-lib.ensures.1
+    (λ f b. library_fails libs c.args.own t c.in_ok-parts.parts.place f a.place (library_follows t a.fits).2 (subst (λ v. LibraryFault libs c.args.own v c.in_ok-parts.parts.place f) a.inner b)) c.in_err-lib.ensures
 
-pub bounds-parts-0 : goal.bounds-parts-0
-bounds-parts-0 c =
-    let n = c.requires.node in
-    let p = one_of c.args.tree.now.rows ViewRef CellRef identifier (One LibraryRef ∷ []) n.0 c.in_ok-parts.parts refl refl refl (c.in_ok-parts.ensures n.0 n.1) in
-    omega (arith, p.count)
+pub at-requires : goal.at-requires
+at-requires c = omega (arith, (cell_ref_node (here c.args.node) c.in_ok-parts.parts c.in_ok-parts.ensures).count)
 
-pub reference_at-name-requires-clause-node : goal.reference_at-name-requires-clause-node
-reference_at-name-requires-clause-node c =
-    let n = c.requires.node in
-    let p = one_of c.args.tree.now.rows ViewRef CellRef identifier (One LibraryRef ∷ []) n.0 c.in_ok-parts.parts refl refl refl (c.in_ok-parts.ensures n.0 n.1) in
-    (p.fit.a, p.node (record { 0 = 0 }))
-
-pub reference_at-name-requires-clause-word : goal.reference_at-name-requires-clause-word
-reference_at-name-requires-clause-word c = λ t at.
-    let n = c.requires.node in
-    let p = one_of c.args.tree.now.rows ViewRef CellRef identifier (One LibraryRef ∷ []) n.0 c.in_ok-parts.parts refl refl refl (c.in_ok-parts.ensures n.0 n.1) in
-    word_there c.args.tree.now.rows _ p.fit.a t p.fit.is_a (p.node (record { 0 = 0 })) at
+pub reference_at-name-requires : goal.reference_at-name-requires
+reference_at-name-requires c = only _ ((cell_ref_node (here c.args.node) c.in_ok-parts.parts c.in_ok-parts.ensures).a (here c.at.result) c.at.ensures).is
 
 pub returns-in_err-slot : goal.returns-in_err-slot
-returns-in_err-slot c = λ t at.
-    let a = c.in_ok-parts.ensures t at in
+returns-in_err-slot c =
+    let t = here c.args.node in
+    let u = here c.at.result in
+    let a = c.in_ok-parts.ensures in
     let libs = c.args.libs.now.libs in
-    let l = library_follows ViewRef t a.fits in
-    let p = one_of c.args.tree.now.rows ViewRef CellRef identifier (One LibraryRef ∷ []) t c.in_ok-parts.parts refl refl refl a in
-    let name = c.reference_at-name.result.name.now in
-    let scope = design.cell_ids libs c.in_ok-lib.lib in
-    handed_on (MeansCellRef libs c.args.own (bare t)) (Dangles scope (Word' c.reference_at-name.result.place name)) (CellRefFault libs c.args.own t) c.from_residual-in_err-slot.result c.in_err-slot.field-0.0 c.from_residual-in_err-slot.ensures.1
-    (c.in_err-slot.ensures scope name c.cell.ensures)
-    (λ f b. cell_fails libs c.args.own t p.fit.a name c.reference_at-name.result.place c.in_ok-lib.lib f p.fit.at_a l.2 (c.in_ok-lib.ensures (followers CellRef t) a.inner) (c.reference_at-name.ensures p.fit.a (p.node (record { 0 = 0 }))) b)
+    let lib = c.in_ok-lib.lib in
+    let name = c.reference_at-name.result in
+    let scope = design.cell_ids libs lib in
+    let n = cell_ref_node t c.in_ok-parts.parts a in
+    let L : List Placed → Type 0 = λ v. MeansLibraryRef libs c.args.own (map bare v) lib in
+    hand_on (MeansCellRef libs c.args.own (bare t)) (Dangles scope (Word' name.place name.name.now)) (CellRefFault libs c.args.own t) c.from_residual-in_err-slot.result c.in_err-slot.field-0.0 c.from_residual-in_err-slot.ensures.1
+    (λ f b. cell_fails libs c.args.own t u name.name.now name.place lib f (n.a u c.at.ensures).at (library_follows t a.fits).2 (subst L a.inner c.in_ok-lib.ensures) c.reference_at-name.ensures b)
+    (c.in_err-slot.ensures scope name.name.now c.cell.ensures)
 
 pub returns : goal.returns
-returns c = λ t at.
-    let a = c.in_ok-parts.ensures t at in
+returns c =
+    let t = here c.args.node in
+    let u = here c.at.result in
+    let a = c.in_ok-parts.ensures in
     let libs = c.args.libs.now.libs in
-    let l = library_follows ViewRef t a.fits in
-    let p = one_of c.args.tree.now.rows ViewRef CellRef identifier (One LibraryRef ∷ []) t c.in_ok-parts.parts refl refl refl a in
-    let name = c.reference_at-name.result.name.now in
-    cell_ref_means libs c.args.own t p.fit.a name c.reference_at-name.result.place c.in_ok-lib.lib c.in_ok-slot.slot p.fit.form l.2 (c.in_ok-lib.ensures (followers CellRef t) a.inner) (c.reference_at-name.ensures p.fit.a (p.node (record { 0 = 0 })))
-    (c.in_ok-slot.ensures (design.cell_ids libs c.in_ok-lib.lib) name c.cell.ensures)
+    let lib = c.in_ok-lib.lib in
+    let name = c.reference_at-name.result in
+    let n = cell_ref_node t c.in_ok-parts.parts a in
+    let L : List Placed → Type 0 = λ v. MeansLibraryRef libs c.args.own (map bare v) lib in
+    cell_ref_means libs c.args.own t u name.name.now name.place lib c.in_ok-slot.slot (n.form u c.at.ensures) (library_follows t a.fits).2 (subst L a.inner c.in_ok-lib.ensures) c.reference_at-name.ensures
+    (c.in_ok-slot.ensures (design.cell_ids libs lib) name.name.now c.cell.ensures)

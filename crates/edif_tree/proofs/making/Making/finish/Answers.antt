@@ -4,6 +4,7 @@ use Rattle.std.specs.Prelude.{vec_len, slice_get}
 use Rattle.spelling_spec.specs.Tree.{Placed}
 use Rattle.spelling_spec.specs.TreeFaults.{Lists}
 use Rattle.edif_tree.specs.Nodes.{Table, IsAt}
+use Rattle.edif_tree.proofs.OrderLemmas.{root_is}
 use Rattle.edif_tree.proofs.ReadFaults.{ends_open, ends_empty, ends_closed}
 use Rattle.edif_tree.proofs.making.Making.finish.Goals as goal
 use Rattle.edif_tree.proofs.making.Making.finish.Goals.{in_default-via-in-Some+else-is_empty, in_default-via-in_default}
@@ -15,8 +16,8 @@ of-requires c =
     let empty : length c.args.self.forms.items ≡ 0 = omega arith in
     let first : slice_get c.args.self.loose.items 0 ≡ Some c.in-Some.root =
     ap (λ v. slice_get v 0) (sym c.deref.ensures.value) ∙ (sym c.first.ensures.value ∙ (sym c.copied-root.ensures ∙ c.in-Some.is)) in
-    let found = (ends_closed c.args.self c.requires.0 c.args.end c.in-Some.root empty first c.requires.1).1 in
-    (found.0, found.1)
+    let found = ends_closed c.args.self c.requires.0 c.args.end c.in-Some.root empty first c.requires.1 in
+    root_is c.args.self.nodes c.in-Some.root found.1.0 found.2 found.1.1
 
 pub returns-in-Some-clause-ok : goal.returns-in-Some-clause-ok
 returns-in-Some-clause-ok c ts h =

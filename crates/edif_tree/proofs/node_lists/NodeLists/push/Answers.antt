@@ -1,6 +1,6 @@
 use Rattle.std.proofs.Common.{◌≡◌, ◌∷◌, ◌++◌, ◌∙◌, [], List, ℕ, ap, sym, subst, length, arith}
 use Rattle.edif_tree.specs.NodeLists.{lists_from, AreEnds}
-use Rattle.edif_tree.specs.declared.node.NodeId.{NodeId}
+use Rattle.edif_tree.specs.declared.stored.NodeId.{NodeId}
 use Rattle.edif_tree.proofs.NodeListLemmas.{ends_pushed, list_pushed}
 use Rattle.edif_tree.proofs.node_lists.NodeLists.push.Goals as goal
 

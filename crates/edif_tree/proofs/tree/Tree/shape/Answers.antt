@@ -1,16 +1,12 @@
-use Rattle.std.proofs.Common.{ap, sym, subst, List}
-use Rattle.edif_tree.specs.Nodes.{Row, IsAt, ShapeIs}
-use Rattle.edif_tree.proofs.NodeLemmas.{node_in_rows, shape_read}
+use Rattle.std.proofs.Common.{◌≡◌, ap, subst, length, Some, arith}
+use Rattle.std.specs.Prelude.{option_map, slice_get}
+use Rattle.edif_tree.specs.Nodes.{Row, Table, seen}
 use Rattle.edif_tree.proofs.tree.Tree.shape.Goals as goal
 
 pub shape-requires : goal.shape-requires
-shape-requires c =
-    let A : List Row → Type 0 = λ rows. IsAt rows c.args.node c.requires.0 in
-    node_in_rows c.self.inside.nodes c.args.node c.requires.0 (subst A (sym (ap (λ t. t.rows) c.self.view_is)) c.requires.1)
+shape-requires c = (let same = ap (λ t. length t.rows) c.self.view_is in omega (arith, c.requires))
 
 pub returns : goal.returns
-returns c t h =
-    let view = ap (λ t. t.rows) c.self.view_is in
-    let A : List Row → Type 0 = λ rows. IsAt rows c.args.node t in
-    let S : List Row → Type 0 = λ rows. ShapeIs rows c.shape.result t in
-    subst S view (shape_read c.self.inside.nodes c.args.node t c.shape.result c.shape.ensures (subst A (sym view) h))
+returns c =
+    let P : Table → Type 0 = λ v. option_map (λ (r : Row). r.shape) (slice_get v.rows c.args.id.0) ≡ Some (seen c.shape.result) in
+    subst P c.self.view_is c.shape.ensures

@@ -3,8 +3,8 @@ ghost use Rattle.std.specs.Prelude.{◌≡◌, ◌<◌, ◌∷◌, ◌++◌, [],
 ghost use Rattle.edif_tree.specs.Making.{IsLeaf, leaf_of};
 ghost use Rattle.edif_tree.specs.Nodes.{FormOf, IntegerOf, StringOf, WordOf, seen};
 
-use crate::node::{Node, NodeId, NodeKind, Shape};
 use crate::node_lists::NodeLists;
+use crate::stored::{NodeId, StoredKind, StoredNode, StoredShape};
 use indexmap::IndexSet;
 use netlist_schema::{Ident, NoMemory, Text};
 use spelling_spec::TokenKind;
@@ -13,15 +13,15 @@ use std::marker::Model;
 
 /// Nodes, each with its place and shape, as contracts see them. Each word stands once.
 #[derive(Drop)]
-pub struct Nodes {
-    nodes: Vec<Node>,
+pub struct Store {
+    nodes: Vec<StoredNode>,
     arguments: NodeLists,
     words: IndexSet<Ident>,
     integers: Vec<i64>,
     strings: Vec<Text>,
 }
 
-impl Model for Nodes {
+impl Model for Store {
     ghost use Rattle.std.specs.Prelude.{List, map};
     ghost use Rattle.edif_tree.specs.Nodes.{Row, row_of, AreWithin};
 
@@ -43,22 +43,22 @@ fn small(number: u64) -> Result<u32, NoMemory>
 }
 
 /// Adds a node behind the others.
-fn add_node(nodes: &mut Vec<Node>, place: u64, kind: NodeKind) -> Result<NodeId, NoMemory>
+fn add_node(nodes: &mut Vec<StoredNode>, place: u64, kind: StoredKind) -> Result<NodeId, NoMemory>
     ensures id { IfOk result (λ id. id.0 ≡ length nodes.old.items) }
     ensures ok { OnOk result (nodes.new.items ≡ nodes.old.items ++ record { place = place; kind = kind } ∷ []) }
     ensures err { OnErr result (nodes.new.items ≡ nodes.old.items) }
 {
     let id = small(nodes.len() as u64)?;
     let place = small(place)?;
-    nodes.push(Node { place, kind })?;
+    nodes.push(StoredNode { place, kind })?;
     Ok(NodeId(id))
 }
 
-impl Nodes {
-    pub fn new(alloc: Global) -> Nodes
+impl Store {
+    pub fn new(alloc: Global) -> Store
         ensures { result ≡ [] }
     {
-        Nodes {
+        Store {
             nodes: Vec::new(alloc),
             arguments: NodeLists::new(alloc),
             words: IndexSet::new(alloc),
@@ -73,7 +73,7 @@ impl Nodes {
     {
         let (at, _) = self.words.insert_full(name)?;
         let at = small(at as u64)?;
-        add_node(&mut self.nodes, place, NodeKind::Word(at))
+        add_node(&mut self.nodes, place, StoredKind::Word(at))
     }
 
     /// Adds the node of an integer.
@@ -82,7 +82,7 @@ impl Nodes {
     {
         let at = small(self.integers.len() as u64)?;
         self.integers.push(value)?;
-        add_node(&mut self.nodes, place, NodeKind::Integer(at))
+        add_node(&mut self.nodes, place, StoredKind::Integer(at))
     }
 
     /// Adds the node of a string.
@@ -91,7 +91,7 @@ impl Nodes {
     {
         let at = small(self.strings.len() as u64)?;
         self.strings.push(text)?;
-        add_node(&mut self.nodes, place, NodeKind::String(at))
+        add_node(&mut self.nodes, place, StoredKind::String(at))
     }
 
     /// Adds the node of a word, an integer or a string.
@@ -113,7 +113,7 @@ impl Nodes {
     {
         let at = small(self.arguments.len() as u64)?;
         self.arguments.push(ids)?;
-        add_node(&mut self.nodes, place, NodeKind::Form(at))
+        add_node(&mut self.nodes, place, StoredKind::Form(at))
     }
 
     /// The place of a node.
@@ -125,15 +125,15 @@ impl Nodes {
     }
 
     /// What stands at a node.
-    pub fn shape(&self, id: NodeId) -> Shape<'_>
+    pub fn shape(&self, id: NodeId) -> StoredShape<'_>
         requires { id.0 < length self.now }
         ensures { option_map (λ row. row.shape) (slice_get self.now id.0) ≡ Some (seen result) }
     {
         match self.nodes[id.0 as usize].kind {
-            NodeKind::Form(at) => Shape::Form(self.arguments.get(at as usize)),
-            NodeKind::Word(at) => Shape::Word(&self.words.as_slice()[at as usize]),
-            NodeKind::Integer(at) => Shape::Integer(self.integers[at as usize]),
-            NodeKind::String(at) => Shape::String(&self.strings[at as usize]),
+            StoredKind::Form(at) => StoredShape::Form(self.arguments.get(at as usize)),
+            StoredKind::Word(at) => StoredShape::Word(&self.words.as_slice()[at as usize]),
+            StoredKind::Integer(at) => StoredShape::Integer(self.integers[at as usize]),
+            StoredKind::String(at) => StoredShape::String(&self.strings[at as usize]),
         }
     }
 }

@@ -3,9 +3,9 @@ use Rattle.std.specs.Int.{w64}
 use Rattle.std.specs.Prelude.{FitsSigned}
 use Rattle.std.proofs.lemmas.Int.{to_z-of_z}
 use Rattle.edif_tree.specs.Nodes.{IntegerOf, Stores}
-use Rattle.edif_tree.specs.declared.node.NodeKind.TheVariants as kinds
+use Rattle.edif_tree.specs.declared.stored.StoredKind.TheVariants as kinds
 use Rattle.edif_tree.proofs.NodeLemmas.{added, stays, read_last}
-use Rattle.edif_tree.proofs.nodes.Nodes.push_integer.Goals as goal
+use Rattle.edif_tree.proofs.store.Store.push_integer.Goals as goal
 
 pub invariant_of-self-2 : goal.invariant_of-self-2
 invariant_of-self-2 c =

@@ -1,8 +1,8 @@
 use Rattle.std.proofs.Common.{◌≡◌, ◌∷◌, [], ap, length, arith}
 use Rattle.edif_tree.specs.Nodes.{StringOf, Stores}
-use Rattle.edif_tree.specs.declared.node.NodeKind.TheVariants as kinds
+use Rattle.edif_tree.specs.declared.stored.StoredKind.TheVariants as kinds
 use Rattle.edif_tree.proofs.NodeLemmas.{added, stays, read_last}
-use Rattle.edif_tree.proofs.nodes.Nodes.push_string.Goals as goal
+use Rattle.edif_tree.proofs.store.Store.push_string.Goals as goal
 
 pub invariant_of-self-2 : goal.invariant_of-self-2
 invariant_of-self-2 c =

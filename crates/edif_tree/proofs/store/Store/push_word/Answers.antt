@@ -1,8 +1,8 @@
 use Rattle.std.proofs.Common.{ap}
 use Rattle.edif_tree.specs.Nodes.{WordOf, Stores}
-use Rattle.edif_tree.specs.declared.node.NodeKind.TheVariants as kinds
+use Rattle.edif_tree.specs.declared.stored.StoredKind.TheVariants as kinds
 use Rattle.edif_tree.proofs.NodeLemmas.{added, stays, words_grow, word_read_back, are_within_more}
-use Rattle.edif_tree.proofs.nodes.Nodes.push_word.Goals as goal
+use Rattle.edif_tree.proofs.store.Store.push_word.Goals as goal
 
 pub invariant_of-self-in_err-at-2 : goal.invariant_of-self-in_err-at-2
 invariant_of-self-in_err-at-2 c =
