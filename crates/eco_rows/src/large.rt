@@ -1,12 +1,7 @@
 //! Operations on designs with many cells.
-use crate::ops::{add_cell, add_inst};
-use crate::rows::check;
-use cells_model::PlainCells;
-use edit_spec::Reply;
-use netlist_schema::Row;
+use crate::said::replies;
 use std::alloc::Global;
 use std::test::Fail;
-use text_designs::design_of;
 
 const HEAD: &[u8] =
     b"(edif f (edifVersion 2 0 0) (edifLevel 0) (keywordMap (keywordLevel 0)) (library w (edifLevel 0) (technology (numberDefinition))";
@@ -43,18 +38,24 @@ fn chain(alloc: Global, count: u32) -> Result<Vec<u8>, Fail> {
 
 #[test]
 fn a_full_library_takes_no_cell(rt: HostRuntime) -> Result<(), Fail> {
-    let alloc = rt.alloc();
-    let text = leaves(alloc, 65_536)?;
-    let mut cells = PlainCells::new(alloc, design_of(alloc, text.as_slice())?);
-    let op = add_cell(alloc, b"w", b"d", true, Row::of(Vec::new(alloc)))?;
-    check(alloc, &mut cells, &op, &Reply::TooMany { limit: 65_536 })
+    let text = leaves(rt.alloc(), 65_536)?;
+    let found = replies(
+        rt.alloc(),
+        text.as_slice(),
+        "begin\nadd-cell w d leaf\ncommit\n",
+    )?;
+    assert!(rt; found.as_slice() == "too-many 65536\n".as_bytes());
+    Ok(())
 }
 
 #[test]
 fn a_long_chain_is_gone_through(rt: HostRuntime) -> Result<(), Fail> {
-    let alloc = rt.alloc();
-    let text = chain(alloc, 20_000)?;
-    let mut cells = PlainCells::new(alloc, design_of(alloc, text.as_slice())?);
-    let op = add_inst(alloc, b"w", b"c1", b"x", b"w", b"c20000")?;
-    check(alloc, &mut cells, &op, &Reply::IsCyclic)
+    let text = chain(rt.alloc(), 20_000)?;
+    let found = replies(
+        rt.alloc(),
+        text.as_slice(),
+        "begin\nadd-inst w c1 x w c20000\ncommit\n",
+    )?;
+    assert!(rt; found.as_slice() == "is-cyclic\n".as_bytes());
+    Ok(())
 }

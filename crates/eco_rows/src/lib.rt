@@ -1,9 +1,9 @@
-//! Worked lists of operations, as tests on plain cells.
+//! Tests of single operations: those of worked lists, each with its reply, and operations on designs with many cells.
 #![tactic(auto)]
 
 #[cfg(test)]
 mod large;
 #[cfg(test)]
-mod ops;
-#[cfg(test)]
 mod rows;
+#[cfg(test)]
+mod said;
