@@ -12,6 +12,7 @@ use Rattle.edif_spec.specs.declared.fault.ClashKind.TheVariants.{Duplicate}
 use Rattle.edif_spec.specs.declared.fault.MeaningFault.{MeaningFault}
 use Rattle.edif_spec.specs.declared.fault.MeaningFault.TheVariants.{Clash}
 use Rattle.edif_spec.proofs.FaultForms.{filter_bare}
+use Rattle.edif_parts.specs.Adding.{Adds, DefinesAgain}
 use Rattle.edif_parts.specs.Names.{ids, Define, DefinesName, IsAgain}
 use Rattle.edif_parts.proofs.NameLists.{define_push, ids_named, ids_push, name_repeats, none_distinct, distinct_push}
 use Rattle.edif_parts.proofs.Steps.{those_keep, those_skip}
@@ -58,6 +59,12 @@ forms_push {A} M V g k ts t xs x ns ms place h m v d n f =
       distinct = subst S (sym n.1) (subst Z (sym (ids_push ns (g x) place)) (distinct_push (ids ns) (g x) f.distinct n.0));
     }
 
+pub forms_add : {A : Type 0} (M : Bare → A → Type 0) (V : A → Type 0) (g : A → List ℕ) (k : Keyword) (ts : List Placed) (t : Placed) (xs ys : List A) (ns ms : List (List ℕ × ℕ))
+    → has_keyword k (bare t) ≡ true → Adds M V g t xs ys ns ms → NamedForms M V g k ts xs ns → NamedForms M V g k (ts ++ t ∷ []) ys ms
+forms_add {A} M V g k ts t xs ys ns ms h a f =
+    let P : List A → Type 0 = λ v. NamedForms M V g k (ts ++ t ∷ []) v ms in
+    subst P (sym a.list) (forms_push M V g k ts t xs a.value ns ms a.place h a.means a.valid a.at a.name f)
+
 -- a form of another keyword
 pub forms_skip : {A : Type 0} (M : Bare → A → Type 0) (V : A → Type 0) (g : A → List ℕ) (k : Keyword) (ts : List Placed) (t : Placed) (xs : List A) (ns : List (List ℕ × ℕ))
     → has_keyword k (bare t) ≡ false → NamedForms M V g k ts xs ns → NamedForms M V g k (ts ++ t ∷ []) xs ns
@@ -74,6 +81,10 @@ forms_again M V g k all before rest t xs ns name place f e d r n =
     let P : List Placed → Type 0 = λ w. Repeats w (Clash Duplicate place n.0) in
     let Q : MeaningFault → Type 0 = λ v. Repeats (those_of k all) v in
     subst Q (sym n.2) (subst P (sym e) (name_repeats (those_of k before) ns t (those_of k rest) name n.0 place r.defines n.1 d))
+
+pub forms_twice : {A : Type 0} (M : Bare → A → Type 0) (V : A → Type 0) (g : A → List ℕ) (k : Keyword) (all before rest : List Placed) (t : Placed) (xs : List A) (ns : List (List ℕ × ℕ)) (f : MeaningFault)
+    → those_of k all ≡ those_of k before ++ t ∷ those_of k rest → NamedForms M V g k before xs ns → DefinesAgain ns t f → Repeats (those_of k all) f
+forms_twice M V g k all before rest t xs ns f e r d = forms_again M V g k all before rest t xs ns d.0 d.1 f e d.2 r d.3
 
 pub forms_each : {A : Type 0} (M : Bare → A → Type 0) (V : A → Type 0) (g : A → List ℕ) (k : Keyword) (ts : List Placed) (xs : List A) (ns : List (List ℕ × ℕ)) → NamedForms M V g k ts xs ns → Each M (those k (map bare ts)) xs
 forms_each M V g k ts xs ns f = let P : List Bare → Type 0 = λ w. Each M w xs in subst P (filter_bare (has_keyword k) ts) f.means

@@ -1,5 +1,5 @@
 -- What is read of an interface.
-use Rattle.std.specs.Prelude.{◌≡◌, ◌<◌, ◌≤◌, ◌⊎◌, ℕ, List, [], map, length, sum_by}
+use Rattle.std.specs.Prelude.{◌≡◌, ◌+◌, ◌<◌, ◌≤◌, ◌⊎◌, ℕ, List, [], ◌∷◌, ◌++◌, None, map, length, sum_by}
 use Rattle.std.specs.List.{All}
 use Rattle.spelling_spec.specs.Tree.{Placed, bare}
 use Rattle.netlist_schema.specs.Design.{port_width}
@@ -14,9 +14,10 @@ use Rattle.edif_spec.specs.Stands.{PortFault}
 use Rattle.edif_spec.specs.declared.fault.MeaningFault.{MeaningFault}
 use Rattle.edif_spec.specs.declared.fault.MeaningFault.TheVariants.{OverLimit}
 use Rattle.edif_spec.specs.declared.keyword.Keyword.TheVariants as keywords
-use Rattle.edif_parts.specs.Names.{ids}
+use Rattle.edif_parts.specs.Names.{DefinesName, ids}
 use Rattle.edif_parts.specs.declared.interface.Interface.{Interface}
 use Rattle.edif_parts.specs.declared.interface.Ports.{Ports}
+use Rattle.edif_parts.specs.declared.ports.PortAt.{PortAt}
 
 -- The ports among the followers of an interface, and their names.
 pub record ReadPorts (ts : List Placed) (p : Ports) : Type 0 where
@@ -35,6 +36,14 @@ PortsFault us f = Among PortFault us f ⊎ (Repeats us f ⊎ (Beyond MOST_PORTS 
 -- a port at a place passes a limit, behind so many others, where so many bits are its own and theirs
 abbrev pub PassesLimit : ℕ → ℕ → ℕ → MeaningFault → Type 0
 PassesLimit ports bits place f = ((MOST_PORTS ≤ ports) × (f ≡ OverLimit MOST_PORTS place)) ⊎ ((MOST_BITS < bits) × (f ≡ OverLimit MOST_BITS place))
+
+-- a port behind others of so many bits, within the limits, and its name, which no other has: the bits with its own
+pub record PortAdded (read : PortAt) (bits : ℕ) (old new : List design.Port) (names more : List (List ℕ × ℕ)) (all_bits : ℕ) : Type 0 where
+  pub name : DefinesName names read.port.name.id read.place more None
+  pub list : new ≡ old ++ read.port ∷ []
+  pub sum : all_bits ≡ bits + port_width read.port
+  pub count : length old < MOST_PORTS
+  pub most : all_bits ≤ MOST_BITS
 
 -- The ports and the properties that an interface means, and the names of the ports.
 pub record ReadInterface (t : Placed) (i : Interface) : Type 0 where

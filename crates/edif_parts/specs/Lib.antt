@@ -1,3 +1,4 @@
+pub mod Adding
 pub mod Interfaces
 pub mod Names
 pub mod Ports

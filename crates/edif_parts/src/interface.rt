@@ -1,19 +1,21 @@
 //! The interface of a cell: its ports, and properties of its own.
-ghost use Rattle.std.specs.Prelude.{◌≡◌, ◌<◌, ◌≤◌, IfErr, List, OnOk, true};
+ghost use Rattle.std.specs.Prelude.{◌≡◌, ◌+◌, ◌<◌, ◌≤◌, ◌⊎◌, IfErr, List, [], OnOk, length, true};
 ghost use Rattle.spelling_spec.specs.Tree.{bare};
+ghost use Rattle.netlist_schema.specs.Design.{port_width};
 ghost use Rattle.netlist_schema.specs.declared.limits.TheConstants.{MOST_BITS, MOST_PORTS};
 ghost use Rattle.edif_spec.specs.Faults.{those_of};
 ghost use Rattle.edif_spec.specs.Rows.{has_keyword};
 ghost use Rattle.edif_spec.specs.Stands.{InterfaceFault};
 ghost use Rattle.edif_spec.specs.declared.keyword.Keyword.TheVariants.{Interface as InterfaceWord, Port as PortWord};
 ghost use Rattle.edif_tree.specs.Handles.{here, all};
-ghost use Rattle.edif_parts.specs.Interfaces.{PassesLimit, PortsFault, ReadInterface, ReadPorts};
+ghost use Rattle.edif_parts.specs.Interfaces.{PassesLimit, PortAdded, PortsFault, ReadInterface, ReadPorts};
+ghost use Rattle.edif_parts.specs.Names.{IsAgain};
 ghost use Rattle.edif_parts.specs.Reading.{Answers, Names as FailsBy};
 
 use crate::error::{EdifError, over_limit};
 use crate::names::Names;
 use crate::parts::read_parts;
-use crate::ports::read_port;
+use crate::ports::{PortAt, read_port};
 use crate::properties::read_properties;
 use bus_members::width;
 use edif_grammar::is_form_of;
@@ -58,23 +60,47 @@ pub struct Ports {
     pub names: Names,
 }
 
-/// The ports among these followers of an interface.
-fn read_ports(alloc: Global, inner: Nodes<'_>) -> Result<Ports, EdifError>
-    ensures { Answers (ReadPorts (all inner.entry)) (PortsFault (those_of PortWord (all inner.entry))) result }
+/// Adds a port and its name, which is not there yet, for the form at a place, behind ports of so many bits: the bits with its own.
+fn add_port(
+    port: PortAt,
+    at: u64,
+    bits: u64,
+    names: &mut Names,
+    ports: &mut Vec<Port>,
+) -> Result<u64, EdifError>
+    requires { bits ≤ MOST_BITS }
+    ensures { Answers (PortAdded port bits ports.old.items ports.new.items names.old names.new) (λ f. IsAgain names.old port.port.name.id port.place f ⊎ PassesLimit (length ports.old.items) (bits + port_width port.port) at f) result }
 {
-    let mut names = Names::new(alloc);
+    let PortAt { port, place } = port;
+    names.add(&port.name.id, place)?;
+    let bits = bits + u64::from(width(&port));
+    within_limits(ports.len(), bits, at)?;
+    ports.push(port)?;
+    Ok(bits)
+}
+
+/// The ports among these followers of an interface, as `read_ports` gives them; their names are put into a table without names.
+fn add_ports(alloc: Global, inner: Nodes<'_>, names: &mut Names) -> Result<Row<Port>, EdifError>
+    requires { names.old ≡ [] }
+    ensures { Answers (λ ps. ReadPorts (all inner.entry) (record { ports = ps; names = names.new })) (PortsFault (those_of PortWord (all inner.entry))) result }
+{
     let mut ports = Vec::new(alloc);
     let mut bits = 0;
     for node in inner.iter() {
         if is_form_of(node, Keyword::Port) {
             let read = read_port(alloc, node)?;
-            names.add(&read.port.name.id, read.place)?;
-            bits += u64::from(width(&read.port));
-            within_limits(ports.len(), bits, node.place())?;
-            ports.push(read.port)?;
+            bits = add_port(read, node.place(), bits, names, &mut ports)?;
         }
     }
-    let ports = Row::of(ports);
+    Ok(Row::of(ports))
+}
+
+/// The ports among these followers of an interface.
+fn read_ports(alloc: Global, inner: Nodes<'_>) -> Result<Ports, EdifError>
+    ensures { Answers (ReadPorts (all inner.entry)) (PortsFault (those_of PortWord (all inner.entry))) result }
+{
+    let mut names = Names::new(alloc);
+    let ports = add_ports(alloc, inner, &mut names)?;
     Ok(Ports { ports, names })
 }
 

@@ -1,15 +1,17 @@
 //! The properties of an owner.
-ghost use Rattle.std.specs.Prelude.{◌≡◌, Some, List, map, true};
+ghost use Rattle.std.specs.Prelude.{◌≡◌, ◌⊎◌, Some, List, [], map, true};
 ghost use Rattle.std.specs.List.{All};
 ghost use Rattle.spelling_spec.specs.Tree.{bare};
 ghost use Rattle.netlist_schema.specs.Names.{HasDistinctKeys};
 ghost use Rattle.netlist_schema.specs.Typed.{IsTypedProperty};
+ghost use Rattle.edif_spec.specs.Design as design;
 ghost use Rattle.edif_spec.specs.Faults.{defined, those_of};
 ghost use Rattle.edif_spec.specs.Means.{MeansProperties, MeansProperty};
 ghost use Rattle.edif_spec.specs.Rows.{has_keyword};
 ghost use Rattle.edif_spec.specs.Stands.{PropertiesFault, PropertyFault};
 ghost use Rattle.edif_spec.specs.declared.keyword.Keyword.TheVariants.{Property as PropertyWord};
 ghost use Rattle.edif_tree.specs.Handles.{here, all};
+ghost use Rattle.edif_parts.specs.Adding.{Adds, DefinesAgain};
 ghost use Rattle.edif_parts.specs.Reading.{Answers};
 
 use crate::error::EdifError;
@@ -46,18 +48,44 @@ pub fn read_property(alloc: Global, node: Node<'_>) -> Result<PropertyAt, EdifEr
     Ok(PropertyAt { property, place })
 }
 
+/// Adds the property at a node and the name of its key, which is not there yet.
+fn add_property(
+    alloc: Global,
+    node: Node<'_>,
+    names: &mut Names,
+    properties: &mut Vec<Property>,
+) -> Result<(), EdifError>
+    requires { has_keyword PropertyWord (bare (here node)) ≡ true }
+    ensures { Answers (λ _. Adds MeansProperty IsTypedProperty (λ (p : design.Property). p.key.id) (here node.entry) properties.old.items properties.new.items names.old names.new) (λ f. PropertyFault (here node.entry) f ⊎ DefinesAgain names.old (here node.entry) f) result }
+{
+    let PropertyAt { property, place } = read_property(alloc, node)?;
+    names.add(&property.key.id, place)?;
+    properties.push(property)?;
+    Ok(())
+}
+
+/// The properties among these followers of a form, as `read_properties` gives them, with no names of keys before.
+fn add_properties(
+    alloc: Global,
+    inner: Nodes<'_>,
+    names: &mut Names,
+) -> Result<Row<Property>, EdifError>
+    requires { names.old ≡ [] }
+    ensures { Answers (λ ps. MeansProperties (map bare (all inner.entry)) ps × All IsTypedProperty ps × HasDistinctKeys ps) (PropertiesFault (those_of PropertyWord (all inner.entry))) result }
+{
+    let mut properties = Vec::new(alloc);
+    for node in inner.iter() {
+        if is_form_of(node, Keyword::Property) {
+            add_property(alloc, node, names, &mut properties)?;
+        }
+    }
+    Ok(Row::of(properties))
+}
+
 /// The properties among these followers of a form, in order, with keys that differ.
 pub fn read_properties(alloc: Global, inner: Nodes<'_>) -> Result<Row<Property>, EdifError>
     ensures { Answers (λ ps. MeansProperties (map bare (all inner.entry)) ps × All IsTypedProperty ps × HasDistinctKeys ps) (PropertiesFault (those_of PropertyWord (all inner.entry))) result }
 {
     let mut names = Names::new(alloc);
-    let mut properties = Vec::new(alloc);
-    for node in inner.iter() {
-        if is_form_of(node, Keyword::Property) {
-            let read = read_property(alloc, node)?;
-            names.add(&read.property.key.id, read.place)?;
-            properties.push(read.property)?;
-        }
-    }
-    Ok(Row::of(properties))
+    add_properties(alloc, inner, &mut names)
 }

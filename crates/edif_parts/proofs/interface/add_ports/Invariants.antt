@@ -5,7 +5,7 @@ use Rattle.netlist_schema.specs.Design.{port_width}
 use Rattle.edif_tree.specs.Handles.{all}
 use Rattle.edif_tree.specs.Eaches.{left}
 use Rattle.edif_parts.proofs.PortLists.{PortForms}
-use Rattle.edif_parts.proofs.interface.read_ports.Given as goal
+use Rattle.edif_parts.proofs.interface.add_ports.Given as goal
 
 abbrev pub invariant-loop-node : goal.invariant-loop-node
 invariant-loop-node l = record {

@@ -7,7 +7,7 @@ use Rattle.edif_spec.specs.declared.keyword.Keyword.TheVariants as keywords
 use Rattle.edif_tree.specs.Handles.{all}
 use Rattle.edif_tree.specs.Eaches.{left}
 use Rattle.edif_parts.proofs.NamedForms.{NamedForms}
-use Rattle.edif_parts.proofs.properties.read_properties.Given as goal
+use Rattle.edif_parts.proofs.properties.add_properties.Given as goal
 
 abbrev pub invariant-loop-node : goal.invariant-loop-node
 invariant-loop-node l =

@@ -1,0 +1,20 @@
+-- A further form of a list of forms that define names.
+use Rattle.std.specs.Prelude.{◌≡◌, ℕ, List, [], ◌∷◌, ◌++◌, None, Some}
+use Rattle.spelling_spec.specs.Tree.{Bare, Placed, bare}
+use Rattle.edif_spec.specs.Faults.{defined}
+use Rattle.edif_spec.specs.declared.fault.MeaningFault.{MeaningFault}
+use Rattle.edif_parts.specs.Names.{DefinesName, IsAgain}
+
+-- the form means a value, which has the property and stands behind the others, and defines its name, which no other has
+pub record Adds {A : Type 0} (M : Bare → A → Type 0) (V : A → Type 0) (g : A → List ℕ) (t : Placed) (old new : List A) (names more : List (List ℕ × ℕ)) : Type 0 where
+  pub value : A
+  pub place : ℕ
+  pub means : M (bare t) value
+  pub valid : V value
+  pub at : defined t ≡ Some (g value, place)
+  pub name : DefinesName names (g value) place more None
+  pub list : new ≡ old ++ value ∷ []
+
+-- the form defines a name that another has
+abbrev pub DefinesAgain : List (List ℕ × ℕ) → Placed → MeaningFault → Type 0
+DefinesAgain names t f = (name : List ℕ) × (place : ℕ) × (defined t ≡ Some (name, place)) × IsAgain names name place f
