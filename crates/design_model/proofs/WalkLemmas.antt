@@ -1,46 +1,19 @@
 -- The occurrences below a path, one instance after another.
-use Rattle.std.proofs.Common.{◌≡◌, ◌<◌, ◌≤◌, ◌+◌, ℕ, zero, suc, List, [], ◌∷◌, ◌++◌, map, length, get_or, drop, refl, sym, ap, ◌∙◌, arith, append_assoc, append-nil, length-append}
+use Rattle.std.proofs.Common.{◌≡◌, ◌<◌, ◌≤◌, ◌+◌, ℕ, zero, suc, List, [], ◌∷◌, ◌++◌, map, length, get_or, drop, refl, sym, ap, ◌∙◌, arith, length-append}
 use Rattle.std.specs.List.{enumerate_from, flat_map}
-use Rattle.std.proofs.lemmas.List.{map-append, length-map}
+use Rattle.std.proofs.lemmas.List.{length-map}
 use Rattle.netlist_schema.specs.Design.{Design}
 use Rattle.netlist_schema.specs.Hierarchy.{insts_at, NoCellIsBelowItself}
 use Rattle.netlist_schema.specs.Types.{CellId, Inst}
 use Rattle.flat_spec.specs.Occurrences.{Occurrence, occurrences, under}
+use Rattle.flat_spec.specs.Below.{under_path}
+use Rattle.flat_spec.proofs.BelowLemmas.{below_each, occurrences-under_path}
 use Rattle.flat_spec.proofs.OccurrenceLemmas.{occurrences_go_down}
-use Rattle.design_model.specs.Walk.{under_path}
 use Rattle.design_model.proofs.RunLemmas.{drop-first, part_more}
 
 -- the occurrences of the cells of instances, in order, each tree under the place of its instance; the first has that place
 abbrev under_each : Design → ℕ → List Inst → List Occurrence
 under_each d i insts = flat_map (λ (p : ℕ × Inst). map (under p.0) (occurrences d p.1.of)) (enumerate_from i insts)
-
--- the same, where the trees stand below the path
-abbrev pub below_each : Design → List ℕ → ℕ → List Inst → List Occurrence
-below_each d path i insts = flat_map (λ (p : ℕ × Inst). map (under_path (path ++ p.0 ∷ [])) (occurrences d p.1.of)) (enumerate_from i insts)
-
-under_path-under : (path : List ℕ) (i : ℕ) (os : List Occurrence) → map (under_path path) (map (under i) os) ≡ map (under_path (path ++ i ∷ [])) os
-under_path-under path i [] = refl
-under_path-under path i (o ∷ os) =
-    let same : path ++ i ∷ o.path ≡ (path ++ i ∷ []) ++ o.path = sym (append_assoc path (i ∷ []) o.path) in
-    let others = under_path-under path i os in
-    λ t. record { path = same t; cell = o.cell } ∷ others t
-
-under_path-each : (d : Design) (path : List ℕ) (i : ℕ) (insts : List Inst) → map (under_path path) (under_each d i insts) ≡ below_each d path i insts
-under_path-each d path i [] = refl
-under_path-each d path i (inst ∷ insts) =
-    let one = under_path-under path i (occurrences d inst.of) in
-    let others = under_path-each d path (i + 1) insts in
-    map-append (under_path path) (map (under i) (occurrences d inst.of)) (under_each d (i + 1) insts)
-    ∙ (λ t. one t ++ others t)
-
--- the occurrences of a cell whose tree stands at the path
-occurrences-under_path : (d : Design) → NoCellIsBelowItself d → (path : List ℕ) (cell : CellId)
-    → map (under_path path) (occurrences d cell) ≡ record { path = path; cell = cell } ∷ below_each d path 0 (insts_at d cell)
-occurrences-under_path d acyclic path cell =
-    let root : path ++ [] ≡ path = append-nil path in
-    let others = under_path-each d path 0 (insts_at d cell) in
-    ap (map (under_path path)) (occurrences_go_down d cell acyclic)
-    ∙ (λ t. record { path = root t; cell = cell } ∷ others t)
 
 -- the root is found, and what is below it is left
 pub root_found : (d : Design) → NoCellIsBelowItself d → (path here : List ℕ) (cell : CellId) (insts : List Inst) (found pushed : List Occurrence)

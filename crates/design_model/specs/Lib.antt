@@ -2,4 +2,3 @@ pub mod Firsts
 pub mod Labels
 pub mod Items
 pub mod Tables
-pub mod Walk

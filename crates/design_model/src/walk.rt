@@ -3,7 +3,7 @@ ghost use Rattle.std.specs.Prelude.{◌≡◌, ◌++◌, ◌∷◌, [], IfOk, On
 ghost use Rattle.std.specs.List.{flat_map};
 ghost use Rattle.netlist_schema.specs.Valid.{IsValid};
 ghost use Rattle.flat_spec.specs.Occurrences.{occurrences, own_nets};
-ghost use Rattle.design_model.specs.Walk.{under_path};
+ghost use Rattle.flat_spec.specs.Below.{under_path};
 
 use cell_lookup::{insts_at, net_count};
 use flat_spec::{NetAt, Path};

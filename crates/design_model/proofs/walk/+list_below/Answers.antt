@@ -1,7 +1,8 @@
 use Rattle.std.proofs.Common.{◌≡◌, ◌<◌, ◌++◌, ◌∷◌, [], length, arith, refl, ap, ◌∙◌}
 use Rattle.flat_spec.specs.Occurrences.{occurrences}
 use Rattle.design_model.proofs.RunLemmas.{all_found}
-use Rattle.design_model.proofs.WalkLemmas.{root_found, instance_more, occurrences-fewer, below_each}
+use Rattle.flat_spec.proofs.BelowLemmas.{below_each}
+use Rattle.design_model.proofs.WalkLemmas.{root_found, instance_more, occurrences-fewer}
 use Rattle.design_model.proofs.walk.+list_below.Goals as goal
 
 pub loop-i-init : goal.loop-i-init

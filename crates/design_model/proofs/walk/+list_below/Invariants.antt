@@ -1,7 +1,7 @@
 use Rattle.std.proofs.Common.{◌≡◌, ◌++◌, drop, length, map}
 use Rattle.flat_spec.specs.Occurrences.{occurrences}
-use Rattle.design_model.specs.Walk.{under_path}
-use Rattle.design_model.proofs.WalkLemmas.{below_each}
+use Rattle.flat_spec.specs.Below.{under_path}
+use Rattle.flat_spec.proofs.BelowLemmas.{below_each}
 use Rattle.design_model.proofs.walk.+list_below.Given as goal
 
 abbrev pub decreases-list_below : goal.decreases-list_below

@@ -1,6 +1,6 @@
 use Rattle.std.proofs.Common.{◌++◌, [], ap, map, ◌∙◌}
 use Rattle.flat_spec.specs.Occurrences.{occurrences}
-use Rattle.design_model.specs.Walk.{under_path}
+use Rattle.flat_spec.specs.Below.{under_path}
 use Rattle.design_model.proofs.WalkLemmas.{under_path-nil}
 use Rattle.design_model.proofs.walk.list_occurrences.Goals as goal
 
