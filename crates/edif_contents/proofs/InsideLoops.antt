@@ -1,16 +1,17 @@
 -- The loops over the instances and the nets of contents.
-use Rattle.std.proofs.Common.{◌≡◌, ℕ, ◌+◌, ◌<◌, ◌≤◌, List, [], ◌∷◌, ◌++◌, map, length, replicate, refl, sym, ap, ◌∙◌, subst, inl, inr, true, false, Option, None, arith, length-append}
-use Rattle.std.specs.Prelude.{◌^◌}
+use Rattle.std.proofs.Common.{◌≡◌, ℕ, ◌+◌, ◌<◌, ◌≤◌, List, [], ◌∷◌, ◌++◌, map, length, replicate, refl, sym, ap, ◌∙◌, subst, inl, inr, true, false, Option, None, Some, arith, length-append}
+use Rattle.std.specs.Prelude.{◌^◌, IfSome}
 use Rattle.std.specs.List.{All, AllByRecursion, AllZip, flat_map}
 use Rattle.std.proofs.lemmas.List.Elements.{All-from_recursion, recursion_from_All}
 use Rattle.spelling_spec.specs.Tree.{Bare, Placed, bare}
 use Rattle.netlist_schema.specs.Names.{AreDistinct}
+use Rattle.netlist_schema.specs.Width.{IsWidth}
 use Rattle.edif_spec.specs.Design as design
 use Rattle.edif_spec.specs.Faults.{AtTwo, Beyond, SameOfTwo, declared_width, place_of, repeated, those_of}
 use Rattle.edif_spec.specs.Means.{MeansEnd, MeansInst}
 use Rattle.edif_spec.specs.Nets.{FineForm, NetForm, Stretch, net_at, nets_of, row_size}
 use Rattle.edif_spec.specs.Rows.{Each, has_keyword}
-use Rattle.edif_spec.specs.Stands.{SameEnd, counted_ends, ends_in, net_names_in, row_ends}
+use Rattle.edif_spec.specs.Stands.{InstFault, SameEnd, counted_ends, ends_in, net_names_in, row_ends}
 use Rattle.edif_spec.specs.declared.keyword.Keyword.{Keyword}
 use Rattle.edif_spec.specs.declared.keyword.Keyword.TheVariants as keywords
 use Rattle.edif_spec.specs.declared.fault.MeaningFault.{MeaningFault}
@@ -20,13 +21,13 @@ use Rattle.edif_spec.proofs.NetFaultsApart.{net_declares, zip_append, zip_flat, 
 use Rattle.edif_spec.proofs.RowForms.{GivesName, flat_append, length_numbered, net_names_are, nets_counted, rows_fine}
 use Rattle.edif_tree.specs.Handles.{all}
 use Rattle.edif_parts.specs.Names.{DefinesName, ids}
-use Rattle.edif_parts.proofs.NamedForms.{NamedForms, forms_distinct, forms_each, forms_push, forms_skip, forms_start, forms_valid}
+use Rattle.edif_parts.proofs.NamedForms.{NamedForms, forms_again, forms_distinct, forms_each, forms_push, forms_skip, forms_start, forms_valid}
 use Rattle.edif_parts.proofs.NameLists.{none_distinct}
-use Rattle.edif_parts.proofs.Steps.{those_keep, those_skip}
+use Rattle.edif_parts.proofs.Steps.{fault_here, here_first, those_keep, those_skip}
 use Rattle.edif_contents.specs.Inners as inners
-use Rattle.edif_contents.specs.Inners.{ReadInsts}
-use Rattle.edif_contents.specs.Joins.{AreJoined, RowEndsFault, bits, bits_of_row, row_of}
-use Rattle.edif_contents.specs.Nets.{IsFine, MeansNetIn, NetsFaultIn, ReadNet, ReadNets, RowAdded, RowNameFault, row_names}
+use Rattle.edif_contents.specs.Inners.{InstTakenFault, InstsFault, ReadInsts}
+use Rattle.edif_contents.specs.Joins.{RowEndsFault, bits, bits_of_row, row_of}
+use Rattle.edif_contents.specs.Nets.{AreJoinedIn, AreMeant, IsFine, MeansNetIn, NetsFaultIn, NetsSoFar, ReadNet, ReadNets, RowAdded, RowJoined, RowNameFault, ends_of, names_in, refs_in, row_names}
 use Rattle.edif_contents.specs.declared.ends.Surroundings.{Surroundings}
 use Rattle.edif_contents.specs.declared.insts.InstAt.{InstAt}
 use Rattle.edif_contents.specs.declared.insts.Insts.{Insts}
@@ -79,44 +80,28 @@ insts_end libs own ts r f = record {
   names = f.forms.named;
 }
 
+-- what is wrong with a further instance is wrong with the instances
+pub insts_next_fails : (libs : List design.Lib) (own : Option ℕ) (ts before us rest : List Placed) (t : Placed) (xs : List design.Inst) (ns : List (List ℕ × ℕ)) (f : MeaningFault)
+    → ts ≡ before ++ us → us ≡ t ∷ rest → has_keyword keywords.Instance (bare t) ≡ true → InstsSoFar libs own before xs ns → InstTakenFault libs own t ns xs f → InstsFault libs own (those_of keywords.Instance ts) f
+insts_next_fails libs own ts before us rest t xs ns f e d h s (inl b) = inl (fault_here (InstFault libs own) keywords.Instance ts before us rest t f e d h b)
+insts_next_fails libs own ts before us rest t xs ns f e d h s (inr (inl b)) =
+    inr (inl (forms_again (MeansInst libs own) inners.IsFine inst_name keywords.Instance ts before rest t xs ns b.name b.place f (here_first keywords.Instance ts before us rest t e d h) b.defines s.forms b.again))
+insts_next_fails libs own ts before us rest t xs ns f e d h s (inr (inr b)) =
+    let P : MeaningFault → Type 0 = λ v. Beyond 1048576 (those_of keywords.Instance ts) v in
+    inr (inr (subst P (sym b.1) (forms_beyond (MeansInst libs own) inners.IsFine inst_name keywords.Instance ts before rest t xs ns 1048576 (place_of t) (here_first keywords.Instance ts before us rest t e d h) s.forms s.count b.0 refl)))
+
 -- Nets.
 abbrev pub net_name : design.Net → List ℕ
 net_name n = n.name.id
 
-abbrev pub ends_of : List design.Net → List design.End
-ends_of ns = flat_map (λ (n : design.Net). n.ends) ns
-
-abbrev pub refs_in : List Placed → List (Placed × ℕ × ℕ)
-refs_in ts = flat_map row_ends (those_of keywords.Net ts)
-
 abbrev pub counted_in : List Placed → List Placed
 counted_in ts = flat_map counted_ends (those_of keywords.Net ts)
-
-abbrev pub names_in : List Placed → List (List ℕ × ℕ)
-names_in ts = flat_map net_names_in (those_of keywords.Net ts)
-
-abbrev pub AreJoinedIn : Surroundings → List (Placed × ℕ × ℕ) → List design.End → List (design.End × ℕ) → Type 0
-AreJoinedIn s ts es js = AreJoined s.libs.now.libs s.ports.now s.insts.now ts es js
 
 abbrev pub RowEndsFaultIn : Surroundings → List (Placed × ℕ × ℕ) → List Placed → MeaningFault → Type 0
 RowEndsFaultIn s ts counted f = RowEndsFault s.libs.now.libs s.ports.now s.insts.now ts counted f
 
 abbrev pub MeansEndsIn : Surroundings → ℕ → List Placed → List Stretch → Type 0
 MeansEndsIn s size us ss = AllZip (λ u x. MeansEnd s.libs.now.libs s.ports.now s.insts.now (bare u) x × (x.width ≡ size)) us ss
-
-abbrev pub AreMeant : Surroundings → List Placed → List NetForm → Type 0
-AreMeant s ts ns = AllZip (λ u n. MeansNetIn s (bare u) n) ts ns
-
--- The forms of nets among these mean rows, whose nets are these, and join these ends; their names, with their places, differ.
-pub record NetsSoFar (s : Surroundings) (ts : List Placed) (xs : List design.Net) (ns : List (List ℕ × ℕ)) (js : List (design.End × ℕ)) : Type 0 where
-  pub forms : List NetForm
-  pub mean : AreMeant s (those_of keywords.Net ts) forms
-  pub fine : AllByRecursion FineForm forms
-  pub nets : xs ≡ flat_map nets_of forms
-  pub names : ns ≡ names_in ts
-  pub distinct : AreDistinct (ids ns)
-  pub count : length xs ≤ 1048576
-  pub joins : AreJoinedIn s (refs_in ts) (ends_of xs) js
 
 pub nets_start : (s : Surroundings) → NetsSoFar s [] [] [] []
 nets_start s = record {
@@ -157,6 +142,20 @@ row_counts s t n size h d = ap (λ v. repeated (λ u. v) (ends_in t)) (net_decla
 
 row_ends_joined : (n : NetForm) (ss : List Stretch) (size : ℕ) → ss ≡ n.joined → size ≡ row_size n.array → ends_of (nets_of n) ≡ bits_of_row size ss
 row_ends_joined n ss size e d = row_bits n 0 (row_size n.array) ∙ (ap (λ v. bits_of_row v n.joined) (sym d) ∙ ap (bits_of_row size) (sym e))
+
+-- the ends of a row that is read are joined
+pub row_joined : (s : Surroundings) (before : List Placed) (nets : List design.Net) (t : Placed) (n : NetAt) (ss : List Stretch) (size : ℕ) (js : List (design.End × ℕ)) → ss ≡ n.form.joined → size ≡ row_size n.form.array → all n.ends ≡ ends_in t → length nets + size ≤ 1048576
+    → AreJoinedIn s (refs_in before ++ row_of size (all n.ends)) (ends_of nets ++ bits_of_row size ss) js → RowJoined s before nets t n.form js
+row_joined s before nets t n ss size js e d m l j =
+    let P : List Placed → Type 0 = λ v. AreJoinedIn s (refs_in before ++ row_of size v) (ends_of nets ++ bits_of_row size ss) js in
+    let Q : List Stretch → Type 0 = λ v. AreJoinedIn s (refs_in before ++ row_of size (ends_in t)) (ends_of nets ++ bits_of_row size v) js in
+    let R : ℕ → Type 0 = λ v. AreJoinedIn s (refs_in before ++ row_of v (ends_in t)) (ends_of nets ++ bits_of_row v n.form.joined) js in
+    record { room = omega (arith, d, l); joins = subst R d (subst Q e (subst P m j)) }
+
+-- the width of a row that is read
+pub row_small : (array : Option ℕ) → IfSome array IsWidth → row_size array < 2 ^ 32
+row_small None h = omega arith
+row_small (Some w) h = omega (arith, h.1)
 
 pub nets_push : (s : Surroundings) (ts : List Placed) (t : Placed) (xs ys : List design.Net) (r : NetAt) (ss : List Stretch) (size : ℕ) (ns ms : List (List ℕ × ℕ)) (js ks : List (design.End × ℕ))
     → has_keyword keywords.Net (bare t) ≡ true → ReadNet s t r → ss ≡ r.form.joined → size ≡ row_size r.form.array → length xs + size ≤ 1048576 → RowAdded r.form r.place ns xs ms ys

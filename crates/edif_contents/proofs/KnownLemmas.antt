@@ -1,6 +1,6 @@
 -- Libraries with the names of their cells, as they grow at the end.
-use Rattle.std.proofs.Common.{◌≡◌, ℕ, zero, suc, ◌-◌, ◌<◌, ◌≤◌, List, [], ◌∷◌, ◌++◌, map, length, refl, sym, ap, ◌∙◌, subst, Option, None, Some, arith, Result, Ok, Err, cond}
-use Rattle.std.specs.Prelude.{slice_get, slice_set, slice_index_or, option_map, unwrap_or, IfOk, OnErr, is_ok}
+use Rattle.std.proofs.Common.{◌≡◌, ℕ, zero, suc, ◌-◌, ◌<◌, ◌≤◌, List, [], ◌∷◌, ◌++◌, map, length, refl, sym, ap, ◌∙◌, subst, Option, None, Some, arith, Result, Ok, Err}
+use Rattle.std.specs.Prelude.{slice_get, slice_set, slice_index_or, option_map, unwrap_or, IfNone, IfOk, IfSome, OnErr}
 use Rattle.std.specs.List.{Contains}
 use Rattle.std.proofs.lemmas.List.{map-append}
 use Rattle.edif_spec.specs.Design as design
@@ -8,11 +8,17 @@ use Rattle.edif_spec.specs.Means.{meant}
 use Rattle.edif_names.specs.declared.scope.Meant.{Meant}
 use Rattle.edif_names.specs.declared.scope.Meant.TheVariants as answers
 use Rattle.edif_parts.specs.Names.{ids, Tells, DefinesName}
+use Rattle.edif_parts.proofs.NameLists.{ids_named}
 use Rattle.edif_contents.specs.Known.{KnownLibs, NamedLib, last_names, with_cell, OpensLib, AddsTo, AddsCell}
 
 -- what contracts see
 abbrev pub seen : List NamedLib → List (List ℕ × ℕ) → KnownLibs
 seen ls names = record { libs = map (λ (l : NamedLib). l.lib) ls; lib_names = names; cell_names = last_names ls }
+
+-- an item is pushed, or none
+abbrev pub Pushed : {A : Type 0} → Option ℕ → A → List A → List A → Type 0
+Pushed None x old new = new ≡ old ++ x ∷ []
+Pushed (Some earlier) x old new = new ≡ old
 
 -- an element that is read at its place
 pub get_at : {A : Type 0} (xs : List A) (i : ℕ) (x : A) → i < length xs → x ≡ slice_index_or xs i x → slice_get xs i ≡ Some x
@@ -98,9 +104,25 @@ kept old head cells new names more body name place earlier v k d e =
     let h : DefinesName names body.name.id place more (Some earlier) = subst Q k d in
     subst P v (h.0, λ i. named head (e i) (h.1 i))
 
-pub pushed : {A E : Type 0} (r : Result A E) (x : A) (ls mid new : List NamedLib) (head : design.LibHead) (cells : List design.CellBody) (names : List (List ℕ × ℕ)) → new ≡ cond (is_ok r) (mid ++ named head cells names ∷ []) mid → r ≡ Ok x
-    → mid ≡ ls → cells ≡ [] → names ≡ [] → new ≡ ls ++ named head [] [] ∷ []
-pushed r x ls mid new head cells names e k m c n = e ∙ ap (λ v. cond (is_ok v) (mid ++ named head cells names ∷ []) mid) k ∙ (λ i. m i ++ named head (c i) (n i) ∷ [])
+-- one more item where its name was not there earlier
+pub pushed : {A : Type 0} (o : Option ℕ) (x y : A) (old mid new : List A) → IfNone o (new ≡ mid ++ y ∷ []) → IfSome o (λ _. new ≡ mid) → mid ≡ old → y ≡ x → Pushed o x old new
+pushed None x y old mid new n s m e = n ∙ (ap (λ v. v ++ y ∷ []) m ∙ ap (λ v. old ++ v ∷ []) e)
+pushed (Some earlier) x y old mid new n s m e = s ∙ m
+
+-- the names of items, where one more is pushed or none
+pub ids_grown : {A : Type 0} (g : A → List ℕ) (old new : List A) (x : A) (names more : List (List ℕ × ℕ)) (place : ℕ) (o : Option ℕ) → DefinesName names (g x) place more o → Pushed o x old new → ids names ≡ map g old → ids more ≡ map g new
+ids_grown g old new x names more place None d e i = ap ids d.1 ∙ (ids_named g names old x place i ∙ sym (ap (map g) e))
+ids_grown g old new x names more place (Some earlier) d e i = ap ids d.1 ∙ (i ∙ sym (ap (map g) e))
+
+pub opened : (old : KnownLibs) (ls new : List NamedLib) (names more : List (List ℕ × ℕ)) (head : design.LibHead) (place : ℕ) (o : Option ℕ) → seen ls names ≡ old → DefinesName names head.name.id place more o
+    → Pushed o (named head [] []) ls new → OpensLib old head place (seen new more) o
+opened old ls new names more head place None v d e = opens old ls new names more head place v d e
+opened old ls new names more head place (Some earlier) v d e = stays old ls new names more head place earlier v d e
+
+pub grown : (old : NamedLib) (head : design.LibHead) (cells new : List design.CellBody) (names more : List (List ℕ × ℕ)) (body : design.CellBody) (name : List ℕ) (place : ℕ) (o : Option ℕ) → named head cells names ≡ old → name ≡ body.name.id
+    → DefinesName names name place more o → Pushed o body cells new → AddsTo old body place (named head new more) o
+grown old head cells new names more body name place None v k d e = added old head cells new names more body name place v k d e
+grown old head cells new names more body name place (Some earlier) v k d e = kept old head cells new names more body name place earlier v k d e
 
 -- The last library, and those before it.
 record LastOf (ls : List NamedLib) (i : ℕ) (l : NamedLib) : Type 0 where

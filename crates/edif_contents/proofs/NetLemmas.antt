@@ -28,7 +28,7 @@ use Rattle.edif_parts.specs.declared.ports.BusName.{BusName}
 use Rattle.edif_parts.proofs.NameForms.{defined_first}
 use Rattle.edif_parts.proofs.PartLemmas.{Argument, TwoNodes, two_nodes}
 use Rattle.edif_contents.specs.Ends.{EndFaultIn, MeansEndIn, ReadEnd, WidthFaultIn}
-use Rattle.edif_contents.specs.Nets.{MeansNetIn, NetFaultIn, ReadJoined, ReadNet}
+use Rattle.edif_contents.specs.Nets.{MeansNetIn, NetFaultIn, ReadJoined, ReadNet, StretchesFaultIn}
 use Rattle.edif_contents.specs.declared.ends.EndAt.{EndAt}
 use Rattle.edif_contents.specs.declared.ends.Surroundings.{Surroundings}
 use Rattle.edif_contents.specs.declared.nets.JoinedAt.{JoinedAt}
@@ -98,10 +98,15 @@ net_nodes t p a = two_nodes keywords.Net bus_name (the keywords.Joined) (Many ke
 pub net_refs : (t v : Placed) → Argument 1 (the keywords.Joined) t v → ends_in t ≡ parts keywords.Joined keywords.PortRef v
 net_refs t v a = ap ends_joined a.at ∙ joined_ends v (form_choice keywords.Joined v a.is)
 
-pub net_width_fails : (s : Surroundings) (t u v : Placed) (n : BusName) (f : MeaningFault) → slice_get (arguments t) 0 ≡ Some u → ends_in t ≡ parts keywords.Joined keywords.PortRef v → ReadBusName u n → Among (WidthFaultIn s n.array) (parts keywords.Joined keywords.PortRef v) f → NetFaultIn s t f
+net_width_fails : (s : Surroundings) (t u v : Placed) (n : BusName) (f : MeaningFault) → slice_get (arguments t) 0 ≡ Some u → ends_in t ≡ parts keywords.Joined keywords.PortRef v → ReadBusName u n → Among (WidthFaultIn s n.array) (parts keywords.Joined keywords.PortRef v) f → NetFaultIn s t f
 net_width_fails s t u v n f g e a b =
     let P : List Placed → Type 0 = λ x. Among (WidthFaultIn s n.array) x f in
     stands.net_width (record { name_part = u; name = n.name; array = n.array; there = g; means = a.means; fault = subst P (sym e) b })
+
+-- what is wrong with what a net joins
+pub net_joined_fails : (s : Surroundings) (t u v : Placed) (n : BusName) (f : MeaningFault) → slice_get (arguments t) 0 ≡ Some u → Argument 1 (the keywords.Joined) t v → ReadBusName u n → StretchesFaultIn s n.array v f → NetFaultIn s t f
+net_joined_fails s t u v n f g b a (inl h) = stands.net_joined (v, b.at, form_choice keywords.Joined v b.is, h)
+net_joined_fails s t u v n f g b a (inr h) = net_width_fails s t u v n f g (net_refs t v b) a h
 
 pub net_read : (s : Surroundings) (t u v : Placed) (a : BusName) (j : JoinedAt) (ps : List design.Property) (n : NetAt) → IsFormOf keywords.Net (bare t) (bare u ∷ bare v ∷ []) (map bare (followers keywords.Net t)) → slice_get (arguments t) 0 ≡ Some u → ends_in t ≡ parts keywords.Joined keywords.PortRef v
     → n.form ≡ record { name = a.name; array = a.array; joined = stretches j.ends; properties = ps } → n.place ≡ a.place → all n.ends ≡ all j.nodes

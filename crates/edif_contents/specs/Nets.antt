@@ -1,31 +1,46 @@
 -- What is read of nets.
-use Rattle.std.specs.Prelude.{◌≡◌, ◌^◌, ◌<◌, ◌≤◌, ◌⊎◌, ◌++◌, ℕ, List, [], ◌∷◌, None, Some, map, length}
-use Rattle.std.specs.List.{All, AllZip, flat_map}
+use Rattle.std.specs.Prelude.{◌≡◌, ◌^◌, ◌<◌, ◌≤◌, ◌⊎◌, ◌+◌, ◌++◌, ℕ, List, [], ◌∷◌, Option, None, Some, map, length}
+use Rattle.std.specs.List.{All, AllByRecursion, AllZip, flat_map}
 use Rattle.spelling_spec.specs.Tree.{Bare, Placed, bare}
 use Rattle.netlist_schema.specs.Names.{AreDistinct, HasDistinctKeys}
 use Rattle.netlist_schema.specs.Typed.{IsTypedNet}
 use Rattle.netlist_schema.specs.declared.limits.TheConstants.{MOST_ENDS, MOST_NETS}
 use Rattle.edif_spec.specs.Design as design
-use Rattle.edif_spec.specs.Faults.{Among, AtTwo, Beyond, SameOfTwo, declared_width, defined, parts, repeated}
+use Rattle.edif_spec.specs.Faults.{Among, AtTwo, Beyond, SameOfTwo, declared_width, defined, parts, repeated, those_of}
 use Rattle.edif_spec.specs.Nets.{FineForm, NetForm, name_at, nets_of, row_size}
 use Rattle.bus_spec.specs.Members.{numbered}
 use Rattle.edif_spec.specs.Means.{MeansNet}
 use Rattle.edif_spec.specs.Rows.{Each, IsFormOf, those}
-use Rattle.edif_spec.specs.Stands.{NetFault, SameEnd, counted_ends, ends_in, net_names_in, row_ends}
+use Rattle.edif_spec.specs.Stands.{JoinedFault, NetFault, SameEnd, counted_ends, ends_in, net_names_in, row_ends}
 use Rattle.edif_spec.specs.declared.fault.MeaningFault.{MeaningFault}
 use Rattle.edif_spec.specs.declared.keyword.Keyword.TheVariants as keywords
 use Rattle.edif_tree.specs.Handles.{all}
-use Rattle.edif_contents.specs.Ends.{ReadEnd}
+use Rattle.edif_contents.specs.Ends.{ReadEnd, WidthFaultIn}
+use Rattle.edif_contents.specs.Joins.{AreJoined, bits_of_row, row_of}
 use Rattle.edif_parts.specs.Names.{DefinesName, ids}
+use Rattle.edif_contents.specs.declared.ends.EndAt.{EndAt}
 use Rattle.edif_contents.specs.declared.ends.Surroundings.{Surroundings}
 use Rattle.edif_contents.specs.declared.nets.JoinedAt.{JoinedAt}
 use Rattle.edif_contents.specs.declared.nets.NetAt.{NetAt}
+use Rattle.edif_contents.specs.declared.nets.StretchesAt.{StretchesAt}
 
 -- What a net joins: the ends that its forms mean, and the nodes of these.
 pub record ReadJoined (s : Surroundings) (t : Placed) (j : JoinedAt) : Type 0 where
   pub form : IsFormOf keywords.Joined (bare t) [] (map bare (parts keywords.Joined keywords.PortRef t))
   pub ends : AllZip (ReadEnd s) (parts keywords.Joined keywords.PortRef t) j.ends
   pub nodes : all j.nodes ≡ parts keywords.Joined keywords.PortRef t
+
+-- The bits that a form says that a net joins, which are as wide as its array says; they begin at numbers of 32 bits.
+pub record ReadStretches (s : Surroundings) (array : Option ℕ) (t : Placed) (j : StretchesAt) : Type 0 where
+  pub ends : List EndAt
+  pub joined : ReadJoined s t (record { ends = ends; nodes = j.nodes })
+  pub wide : AllByRecursion (λ (e : EndAt). e.stretch.width ≡ row_size array) ends
+  pub stretches : j.stretches ≡ map (λ (e : EndAt). e.stretch) ends
+  pub within : All (λ s. s.first < 2 ^ 32) j.stretches
+
+-- what is wrong with what a net joins: with the form, an end of another width
+abbrev pub StretchesFaultIn : Surroundings → Option ℕ → Placed → MeaningFault → Type 0
+StretchesFaultIn s array t f = JoinedFault s.libs.now.libs s.ports.now s.insts.now t f ⊎ Among (WidthFaultIn s array) (parts keywords.Joined keywords.PortRef t) f
 
 -- what a net means as it is written, and what is wrong with one
 abbrev pub MeansNetIn : Surroundings → Bare → NetForm → Type 0
@@ -80,3 +95,41 @@ pub record ReadNets (s : Surroundings) (ts : List Placed) (ns : List design.Net)
 abbrev pub NetsFaultIn : Surroundings → List Placed → MeaningFault → Type 0
 NetsFaultIn s ts f = Among (NetFaultIn s) ts f ⊎ (AtTwo (SameEnd s.libs.now.libs s.ports.now s.insts.now f) (flat_map row_ends ts)
     ⊎ (AtTwo (SameOfTwo f) (flat_map net_names_in ts) ⊎ (Beyond MOST_NETS (repeated declared_width ts) f ⊎ Beyond MOST_ENDS (flat_map counted_ends ts) f)))
+
+-- the ends of nets, and the forms of ends and the names of the forms of nets among these
+abbrev pub ends_of : List design.Net → List design.End
+ends_of ns = flat_map (λ (n : design.Net). n.ends) ns
+
+abbrev pub refs_in : List Placed → List (Placed × ℕ × ℕ)
+refs_in ts = flat_map row_ends (those_of keywords.Net ts)
+
+abbrev pub names_in : List Placed → List (List ℕ × ℕ)
+names_in ts = flat_map net_names_in (those_of keywords.Net ts)
+
+-- these ends are joined there
+abbrev pub AreJoinedIn : Surroundings → List (Placed × ℕ × ℕ) → List design.End → List (design.End × ℕ) → Type 0
+AreJoinedIn s ts es js = AreJoined s.libs.now.libs s.ports.now s.insts.now ts es js
+
+-- each form means the row in its place
+abbrev pub AreMeant : Surroundings → List Placed → List NetForm → Type 0
+AreMeant s ts ns = AllZip (λ u n. MeansNetIn s (bare u) n) ts ns
+
+-- The forms of nets among these mean rows, whose nets are these, and join these ends; their names, with their places, differ.
+pub record NetsSoFar (s : Surroundings) (ts : List Placed) (xs : List design.Net) (ns : List (List ℕ × ℕ)) (js : List (design.End × ℕ)) : Type 0 where
+  pub forms : List NetForm
+  pub mean : AreMeant s (those_of keywords.Net ts) forms
+  pub fine : AllByRecursion FineForm forms
+  pub nets : xs ≡ flat_map nets_of forms
+  pub names : ns ≡ names_in ts
+  pub distinct : AreDistinct (ids ns)
+  pub count : length xs ≤ MOST_NETS
+  pub joins : AreJoinedIn s (refs_in ts) (ends_of xs) js
+
+-- The ends of a form of a net that comes next are joined, and there is room for its nets.
+pub record RowJoined (s : Surroundings) (before : List Placed) (old : List design.Net) (t : Placed) (n : NetForm) (js : List (design.End × ℕ)) : Type 0 where
+  pub room : length old + row_size n.array ≤ MOST_NETS
+  pub joins : AreJoinedIn s (refs_in before ++ row_of (row_size n.array) (ends_in t)) (ends_of old ++ bits_of_row (row_size n.array) n.joined) js
+
+-- what is wrong with nets where this form comes next, whatever follows it
+abbrev pub NextNetFault : Surroundings → List Placed → Placed → MeaningFault → Type 0
+NextNetFault s before t f = (rest : List Placed) → NetsFaultIn s (those_of keywords.Net (before ++ t ∷ rest)) f

@@ -1,12 +1,13 @@
 //! Instances.
-ghost use Rattle.std.specs.Prelude.{◌≡◌, true};
+ghost use Rattle.std.specs.Prelude.{◌≡◌, ◌≤◌, [], length, true};
 ghost use Rattle.spelling_spec.specs.Tree.{bare};
 ghost use Rattle.edif_spec.specs.Faults.{those_of};
 ghost use Rattle.edif_spec.specs.Rows.{has_keyword};
 ghost use Rattle.edif_spec.specs.Stands.{InstFault};
-ghost use Rattle.edif_spec.specs.declared.keyword.Keyword.TheVariants.{Instance};
+ghost use Rattle.edif_spec.specs.declared.keyword.Keyword.TheVariants.{Designator, Instance};
 ghost use Rattle.edif_tree.specs.Handles.{here, all};
-ghost use Rattle.edif_contents.specs.Inners.{InstsFault, ReadInst, ReadInsts};
+ghost use Rattle.edif_contents.specs.Inners.{InstAdded, InstTaken, InstTakenFault, InstsFault, NotesFault, ReadInst, ReadInsts, ReadNotes};
+ghost use Rattle.edif_parts.specs.Names.{IsAgain};
 ghost use Rattle.edif_parts.specs.Reading.{Answers};
 
 use crate::known::Libraries;
@@ -20,8 +21,8 @@ use edif_parts::properties::read_properties;
 use edif_parts::texts::read_text_among;
 use edif_spec::Keyword;
 use edif_tree::{Node, Nodes};
-use netlist_schema::Inst;
 use netlist_schema::limits::MOST_INSTS;
+use netlist_schema::{Inst, Property, Row, Text};
 use std::alloc::Global;
 
 /// An instance, and where its name stands.
@@ -31,6 +32,26 @@ pub struct InstAt {
     pub inst: Inst,
     /// The number of bytes before the identifier of its name.
     pub place: u64,
+}
+
+/// What an instance says beside its name and its cell.
+#[derive(Drop)]
+struct InstNotes {
+    designator: Option<Text>,
+    properties: Row<Property>,
+}
+
+/// What these followers of an instance say.
+fn read_notes(alloc: Global, inner: Nodes<'_>) -> Result<InstNotes, EdifError>
+    requires { length (those_of Designator (all inner)) ≤ 1 }
+    ensures { Answers (ReadNotes (all inner.entry)) (NotesFault (all inner.entry)) result }
+{
+    let designator = read_text_among(alloc, inner, Keyword::Designator)?;
+    let properties = read_properties(alloc, inner)?;
+    Ok(InstNotes {
+        designator,
+        properties,
+    })
 }
 
 /// The instance that a form at a node means, in the library `own`.
@@ -46,14 +67,13 @@ pub fn read_inst(
     let parts = read_parts(alloc, node, Keyword::Instance)?;
     let name = read_name(alloc, parts.fixed.at(0))?;
     let of = read_view_ref(alloc, parts.fixed.at(1), libs, own)?;
-    let designator = read_text_among(alloc, parts.inner, Keyword::Designator)?;
-    let properties = read_properties(alloc, parts.inner)?;
+    let notes = read_notes(alloc, parts.inner)?;
     Ok(InstAt {
         inst: Inst {
             name: name.name,
             of,
-            designator,
-            properties,
+            designator: notes.designator,
+            properties: notes.properties,
         },
         place: name.place,
     })
@@ -68,6 +88,52 @@ pub struct Insts {
     pub names: Names,
 }
 
+/// Adds an instance, whose name is not there yet; else the error says that it is.
+fn add_inst(read: InstAt, names: &mut Names, list: &mut Vec<Inst>) -> Result<(), EdifError>
+    ensures { Answers (λ _. InstAdded read names.old list.old.items names.new list.new.items) (IsAgain names.old read.inst.name.id read.place) result }
+{
+    names.add(&read.inst.name.id, read.place)?;
+    list.push(read.inst)?;
+    Ok(())
+}
+
+/// Adds the instance that a form at a node means, and its name, which is not there yet, where there is room.
+fn take_inst(
+    alloc: Global,
+    node: Node<'_>,
+    libs: &Libraries,
+    own: Option<u32>,
+    names: &mut Names,
+    list: &mut Vec<Inst>,
+) -> Result<(), EdifError>
+    requires { has_keyword Instance (bare (here node)) ≡ true }
+    ensures { Answers (λ _. InstTaken libs.now.libs own (here node.entry) names.old list.old.items names.new list.new.items) (InstTakenFault libs.now.libs own (here node.entry) names.old list.old.items) result }
+{
+    room(list.len(), MOST_INSTS, node.place())?;
+    let read = read_inst(alloc, node, libs, own)?;
+    add_inst(read, names, list)
+}
+
+/// The instances among these followers of a form, as `read_insts` reads them, with their names, where none is yet.
+fn take_insts(
+    alloc: Global,
+    inner: Nodes<'_>,
+    libs: &Libraries,
+    own: Option<u32>,
+    names: &mut Names,
+) -> Result<Vec<Inst>, EdifError>
+    requires { names.old ≡ [] }
+    ensures { Answers (λ list. ReadInsts libs.now.libs own (all inner.entry) (record { list = list; names = names.new })) (InstsFault libs.now.libs own (those_of Instance (all inner.entry))) result }
+{
+    let mut list = Vec::new(alloc);
+    for node in inner.iter() {
+        if is_form_of(node, Keyword::Instance) {
+            take_inst(alloc, node, libs, own, names, &mut list)?;
+        }
+    }
+    Ok(list)
+}
+
 /// The instances among these followers of a form, in order, with names that differ.
 pub fn read_insts(
     alloc: Global,
@@ -78,14 +144,6 @@ pub fn read_insts(
     ensures { Answers (ReadInsts libs.now.libs own (all inner.entry)) (InstsFault libs.now.libs own (those_of Instance (all inner.entry))) result }
 {
     let mut names = Names::new(alloc);
-    let mut list = Vec::new(alloc);
-    for node in inner.iter() {
-        if is_form_of(node, Keyword::Instance) {
-            room(list.len(), MOST_INSTS, node.place())?;
-            let read = read_inst(alloc, node, libs, own)?;
-            names.add(&read.inst.name.id, read.place)?;
-            list.push(read.inst)?;
-        }
-    }
+    let list = take_insts(alloc, inner, libs, own, &mut names)?;
     Ok(Insts { list, names })
 }

@@ -1,10 +1,10 @@
 //! The libraries that a file has defined so far, with the names in them.
-ghost use Rattle.std.specs.Prelude.{◌≡◌, ◌<◌, [], length, IfOk, OnErr};
+ghost use Rattle.std.specs.Prelude.{◌≡◌, ◌<◌, ◌++◌, ◌∷◌, [], length, map, IfNone, IfOk, IfSome, OnErr, OnOk, vec_capacity, vec_len};
 ghost use Rattle.std.specs.Option.{option_copied};
 ghost use Rattle.edif_spec.specs.Design as design;
 ghost use Rattle.edif_spec.specs.Means.{meant};
-ghost use Rattle.edif_contents.specs.Known.{AddsCell, AddsTo, OpensLib};
-ghost use Rattle.edif_parts.specs.Names.{Tells, ids};
+ghost use Rattle.edif_contents.specs.Known.{AddsCell, AddsTo, NamedLib, OpensLib};
+ghost use Rattle.edif_parts.specs.Names.{DefinesName, Tells, ids};
 
 use edif_names::Meant;
 use edif_parts::names::Names;
@@ -53,7 +53,9 @@ impl KnownCell {
     fn into_body(self) -> CellBody
         ensures { result ≡ self }
     {
-        let KnownCell { body, .. } = self;
+        let KnownCell { body, ports, insts } = self;
+        drop(ports);
+        drop(insts);
         body
     }
 }
@@ -86,28 +88,98 @@ impl KnownLib {
         ensures ok { IfOk result (λ earlier. AddsTo self.old cell place self.new earlier) }
         ensures err { OnErr result (self.new ≡ self.old) }
     {
-        self.cells.reserve(1)?;
-        if let Some(earlier) = self.names.define(cell.name(), place)? {
-            drop(cell);
-            return Ok(Some(earlier));
+        match define_within(&mut self.cells, &mut self.names, cell.name(), place) {
+            Ok(earlier) => {
+                push_new(&mut self.cells, cell, earlier);
+                Ok(earlier)
+            }
+            Err(NoMemory) => {
+                drop(cell);
+                Err(NoMemory)
+            }
         }
-        self.cells.push(cell).unwrap();
-        Ok(None)
     }
 
     /// The library without its names.
     fn into_lib(self, alloc: Global) -> Result<Lib, NoMemory>
         ensures { IfOk result (λ lib. lib ≡ self.lib) }
     {
-        let KnownLib { head, cells, .. } = self;
-        let mut bodies = Vec::new(alloc);
-        for cell in cells {
-            bodies.push(cell.into_body())?;
+        let KnownLib { head, cells, names } = self;
+        drop(names);
+        let cells = into_bodies(alloc, cells)?;
+        Ok(Lib { head, cells })
+    }
+}
+
+/// The cells without their names, in order.
+fn into_bodies(alloc: Global, cells: Vec<KnownCell>) -> Result<Row<CellBody>, NoMemory>
+    ensures { IfOk result (λ bodies. bodies ≡ cells.items) }
+{
+    let mut bodies = Vec::new(alloc);
+    for cell in cells {
+        bodies.push(cell.into_body())?;
+    }
+    Ok(Row::of(bodies))
+}
+
+/// Adds a library without its names to those that are given.
+fn give_lib(alloc: Global, lib: KnownLib, given: &mut Vec<Lib>) -> Result<(), NoMemory>
+    ensures { OnOk result (given.new.items ≡ given.old.items ++ lib.lib ∷ []) }
+{
+    let lib = lib.into_lib(alloc)?;
+    given.push(lib)?;
+    Ok(())
+}
+
+/// The libraries without their names, in order.
+fn give_libs(alloc: Global, libs: Vec<KnownLib>) -> Result<Row<Lib>, NoMemory>
+    ensures { IfOk result (λ given. given ≡ map (λ (l : NamedLib). l.lib) libs.items) }
+{
+    let mut given = Vec::new(alloc);
+    for lib in libs {
+        give_lib(alloc, lib, &mut given)?;
+    }
+    Ok(Row::of(given))
+}
+
+/// Defines a name, which stands at a place, where there is room for one more of these items. Where an equal name is there, the answer
+/// is its place, and the names stay; after `NoMemory` they stay as well.
+fn define_within<T: Drop>(
+    items: &mut Vec<T>,
+    names: &mut Names,
+    name: &Ident,
+    place: u64,
+) -> Result<Option<u64>, NoMemory>
+    ensures ok { IfOk result (λ earlier. DefinesName names.old name.now place names.new earlier) }
+    ensures err { OnErr result (names.new ≡ names.old) }
+    ensures items { items.new.items ≡ items.old.items }
+    ensures room { OnOk result (vec_len items.new < vec_capacity items.new) }
+{
+    items.reserve(1)?;
+    names.define(name, place)
+}
+
+/// Adds an item where its name was not there earlier, and there is room for it. Takes no memory.
+fn push_new<T: Drop>(items: &mut Vec<T>, item: T, earlier: Option<u64>)
+    requires { vec_len items.old < vec_capacity items.old }
+    ensures none { IfNone earlier (items.new.items ≡ items.old.items ++ item ∷ []) }
+    ensures some { IfSome earlier (λ _. items.new.items ≡ items.old.items) }
+{
+    if earlier.is_none() {
+        push_within(items, item);
+    }
+}
+
+/// Adds an item where there is room for it. Takes no memory.
+fn push_within<T: Drop>(items: &mut Vec<T>, item: T)
+    requires { vec_len items.old < vec_capacity items.old }
+    ensures { items.new.items ≡ items.old.items ++ item ∷ [] }
+{
+    match items.push(item) {
+        Ok(()) => {}
+        Err(_) => {
+            prove!(false);
         }
-        Ok(Lib {
-            head,
-            cells: Row::of(bodies),
-        })
     }
 }
 
@@ -149,17 +221,14 @@ impl Libraries {
         ensures ok { IfOk result (λ earlier. OpensLib self.old head place self.new earlier) }
         ensures err { OnErr result (self.new ≡ self.old) }
     {
-        self.libs.reserve(1)?;
-        if let Some(earlier) = self.names.define(&head.name.id, place)? {
-            return Ok(Some(earlier));
-        }
+        let earlier = define_within(&mut self.libs, &mut self.names, &head.name.id, place)?;
         let lib = KnownLib {
             head,
             cells: Vec::new(self.alloc),
             names: Names::new(self.alloc),
         };
-        self.libs.push(lib).unwrap();
-        Ok(None)
+        push_new(&mut self.libs, lib, earlier);
+        Ok(earlier)
     }
 
     /// Adds a cell, whose name stands at a place, to the last library. Where an equal name is there, the answer is its place, and
@@ -196,12 +265,9 @@ impl Libraries {
     pub fn into_libs(self) -> Result<Row<Lib>, NoMemory>
         ensures { IfOk result (λ libs. libs ≡ self.libs) }
     {
-        let Libraries { alloc, libs, .. } = self;
-        let mut given = Vec::new(alloc);
-        for lib in libs {
-            given.push(lib.into_lib(alloc)?)?;
-        }
-        Ok(Row::of(given))
+        let Libraries { alloc, libs, names } = self;
+        drop(names);
+        give_libs(alloc, libs)
     }
 
     /// What a name means among the libraries. Takes no memory.

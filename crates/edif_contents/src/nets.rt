@@ -1,7 +1,8 @@
 //! Nets.
-ghost use Rattle.std.specs.Prelude.{◌≡◌, ◌+◌, ◌^◌, ◌<◌, ◌≤◌, IfOk, List, None, map, true};
+ghost use Rattle.std.specs.Prelude.{◌≡◌, ◌+◌, ◌++◌, ◌∷◌, [], ◌^◌, ◌<◌, ◌≤◌, ℕ, IfOk, List, None, length, map, true};
 ghost use Rattle.std.specs.List.{All, AllByRecursion, AllZip};
 ghost use Rattle.spelling_spec.specs.Tree.{Placed, bare};
+ghost use Rattle.edif_spec.specs.Design as design;
 ghost use Rattle.edif_spec.specs.Faults.{Among, those_of};
 ghost use Rattle.edif_spec.specs.Rows.{has_keyword};
 ghost use Rattle.edif_spec.specs.Stands.{JoinedFault};
@@ -10,10 +11,10 @@ ghost use Rattle.edif_spec.specs.declared.keyword.Keyword.TheVariants.{Joined, N
 ghost use Rattle.edif_tree.specs.Handles.{here, all};
 ghost use Rattle.edif_contents.specs.Ends.{AreNamed, EndFaultIn, ReadEnd, WidthFaultIn};
 ghost use Rattle.netlist_schema.specs.Names.{AreDistinct};
-ghost use Rattle.netlist_schema.specs.declared.limits.TheConstants.{MOST_NETS};
+ghost use Rattle.netlist_schema.specs.declared.limits.TheConstants.{MOST_ENDS, MOST_NETS};
 ghost use Rattle.edif_spec.specs.Nets.{end_of, name_at, net_at, row_size};
 ghost use Rattle.edif_spec.specs.Stands.{width_kind};
-ghost use Rattle.edif_contents.specs.Nets.{NetAdded, NetFaultIn, NetsFaultIn, ReadJoined, ReadNet, ReadNets, RowAdded, RowNameFault};
+ghost use Rattle.edif_contents.specs.Nets.{NetAdded, NetFaultIn, NetsFaultIn, NetsSoFar, NextNetFault, ReadJoined, ReadNet, ReadNets, ReadStretches, RowAdded, RowJoined, RowNameFault, StretchesFaultIn};
 ghost use Rattle.edif_parts.specs.Names.{IsAgain, ids};
 ghost use Rattle.edif_parts.specs.Reading.{Answers};
 
@@ -39,6 +40,13 @@ pub struct JoinedAt<'a> {
     pub ends: Row<EndAt>,
     /// Their nodes.
     pub nodes: Nodes<'a>,
+}
+
+/// The bits that a net joins, as it is written, and the nodes of its ends.
+#[derive(Drop)]
+struct StretchesAt<'a> {
+    stretches: Row<Stretch>,
+    nodes: Nodes<'a>,
 }
 
 /// A net as it is written, where its name stands, and the nodes of its ends.
@@ -141,6 +149,26 @@ fn stretches_of(alloc: Global, ends: &[EndAt]) -> Result<Row<Stretch>, NoMemory>
     Ok(Row::of(stretches))
 }
 
+/// The bits that the form at a node says that a net with this array joins.
+fn read_stretches<'a>(
+    alloc: Global,
+    node: Node<'a>,
+    array: &Option<Width>,
+    around: &Surroundings,
+) -> Result<StretchesAt<'a>, EdifError>
+    requires keyword { has_keyword Joined (bare (here node)) ≡ true }
+    requires names { AreNamed around.now }
+    ensures { Answers (ReadStretches around.now array.now (here node.entry)) (StretchesFaultIn around.now array.now (here node.entry)) result }
+{
+    let joined = read_joined(alloc, node, around)?;
+    check_widths(joined.ends.as_slice(), array)?;
+    let stretches = stretches_of(alloc, joined.ends.as_slice())?;
+    Ok(StretchesAt {
+        stretches,
+        nodes: joined.nodes,
+    })
+}
+
 /// The net that a form at a node means, as it is written.
 pub fn read_net<'a>(
     alloc: Global,
@@ -153,15 +181,13 @@ pub fn read_net<'a>(
 {
     let parts = read_parts(alloc, node, Keyword::Net)?;
     let BusName { name, array, place } = read_bus_name(alloc, parts.fixed.at(0))?;
-    let joined = read_joined(alloc, parts.fixed.at(1), around)?;
-    check_widths(joined.ends.as_slice(), &array)?;
+    let joined = read_stretches(alloc, parts.fixed.at(1), &array, around)?;
     let properties = read_properties(alloc, parts.inner)?;
-    let stretches = stretches_of(alloc, joined.ends.as_slice())?;
     Ok(NetAt {
         form: NetForm {
             name,
             array,
-            joined: stretches,
+            joined: joined.stretches,
             properties,
         },
         place,
@@ -279,6 +305,73 @@ fn nets_room(count: usize, size: u32, place: u64) -> Result<(), EdifError>
     Ok(())
 }
 
+/// Joins the ends of the net of the form at a node, which is read so, where there is room for its row behind so many nets. The error
+/// is the first end that is joined already, or the first form beyond a limit.
+fn join_form(
+    node: Node<'_>,
+    read: &NetAt<'_>,
+    count: usize,
+    joins: &mut Joins,
+) -> Result<(), EdifError>
+    requires keyword { has_keyword NetWord (bare (here node)) ≡ true }
+    requires ends { length (all read.now.ends) ≡ length read.now.form.joined }
+    requires within { All (λ s. s.first + row_size read.now.form.array ≤ 2 ^ 32) read.now.form.joined }
+    requires nets { count ≤ MOST_NETS }
+    requires joined { length joins.old ≤ MOST_ENDS }
+    ensures { (s : Surroundings) (before : List Placed) (nets : List design.Net) (names : List (List ℕ × ℕ)) → ReadNet s (here node.entry) read.now → length nets ≡ count → NetsSoFar s before nets names joins.old
+        → Answers (λ _. RowJoined s before nets (here node.entry) read.now.form joins.new) (NextNetFault s before (here node.entry)) result }
+{
+    let size = row_size(&read.form.array);
+    nets_room(count, size, node.place())?;
+    join_row(read.ends, read.form.joined.as_slice(), size, joins)
+}
+
+/// Adds the nets for which the form of a net at a node stands to those that are there, with their names and the bits that they join;
+/// else the error names what is wrong with the form, whatever follows it.
+fn take_net(
+    alloc: Global,
+    node: Node<'_>,
+    around: &Surroundings,
+    names: &mut Names,
+    joins: &mut Joins,
+    nets: &mut Vec<Net>,
+) -> Result<(), EdifError>
+    requires keyword { has_keyword NetWord (bare (here node)) ≡ true }
+    requires names { AreNamed around.now }
+    requires nets { length nets.old.items ≤ MOST_NETS }
+    requires joined { length joins.old ≤ MOST_ENDS }
+    requires distinct { AreDistinct (ids names.old) }
+    ensures { (before : List Placed) → NetsSoFar around.now before nets.old.items names.old joins.old
+        → Answers (λ _. NetsSoFar around.now (before ++ here node.entry ∷ []) nets.new.items names.new joins.new) (NextNetFault around.now before (here node.entry)) result }
+{
+    let read = read_net(alloc, node, around)?;
+    join_form(node, &read, nets.len(), joins)?;
+    add_row(alloc, read.form, read.place, names, nets)
+}
+
+/// The nets of the forms of nets among these followers of a form, as `read_nets` reads them, with their names and the bits that they
+/// join, where none is yet.
+fn take_nets(
+    alloc: Global,
+    inner: Nodes<'_>,
+    around: &Surroundings,
+    names: &mut Names,
+    joins: &mut Joins,
+) -> Result<Row<Net>, EdifError>
+    requires named { AreNamed around.now }
+    requires names { names.old ≡ [] }
+    requires joins { joins.old ≡ [] }
+    ensures { Answers (ReadNets around.now (all inner.entry)) (NetsFaultIn around.now (those_of NetWord (all inner.entry))) result }
+{
+    let mut nets = Vec::new(alloc);
+    for node in inner.iter() {
+        if is_form_of(node, Keyword::Net) {
+            take_net(alloc, node, around, names, joins, &mut nets)?;
+        }
+    }
+    Ok(Row::of(nets))
+}
+
 /// The nets for which the forms of nets among these followers of a form stand, in order, with names that differ and each bit joined
 /// once.
 pub fn read_nets(
@@ -291,15 +384,5 @@ pub fn read_nets(
 {
     let mut names = Names::new(alloc);
     let mut joins = Joins::new(alloc);
-    let mut nets = Vec::new(alloc);
-    for node in inner.iter() {
-        if is_form_of(node, Keyword::Net) {
-            let read = read_net(alloc, node, around)?;
-            let size = row_size(&read.form.array);
-            nets_room(nets.len(), size, node.place())?;
-            join_row(read.ends, read.form.joined.as_slice(), size, &mut joins)?;
-            add_row(alloc, read.form, read.place, &mut names, &mut nets)?;
-        }
-    }
-    Ok(Row::of(nets))
+    take_nets(alloc, inner, around, &mut names, &mut joins)
 }

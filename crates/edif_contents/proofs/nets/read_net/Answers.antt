@@ -1,23 +1,21 @@
-use Rattle.std.proofs.Common.{◌≡◌, ◌<◌, List, map, refl, sym, ap, ◌∙◌, subst, arith}
+use Rattle.std.proofs.Common.{◌<◌, List, map, refl, ap, subst, arith}
 use Rattle.std.specs.Prelude.{◌^◌}
-use Rattle.std.specs.List.{All, AllByRecursion, AllZip}
+use Rattle.std.specs.List.{All}
 use Rattle.spelling_spec.specs.Tree.{Placed, bare}
 use Rattle.netlist_schema.specs.Names.{HasDistinctKeys}
 use Rattle.netlist_schema.specs.Typed.{IsTypedProperty}
-use Rattle.edif_spec.specs.Faults.{Among, parts, those_of}
+use Rattle.edif_spec.specs.Faults.{those_of}
 use Rattle.edif_spec.specs.Means.{MeansProperties}
-use Rattle.edif_spec.specs.Nets.{NetForm, Stretch, row_size}
-use Rattle.edif_spec.specs.Stands.{BusNameFault, JoinedFault, PropertiesFault}
+use Rattle.edif_spec.specs.Nets.{NetForm, Stretch}
+use Rattle.edif_spec.specs.Stands.{BusNameFault, PropertiesFault}
 use Rattle.edif_spec.specs.Stands as stands
-use Rattle.edif_spec.specs.declared.keyword.Keyword.TheVariants.{Joined, PortRef, Property}
+use Rattle.edif_spec.specs.declared.keyword.Keyword.TheVariants.{Joined, Property}
 use Rattle.edif_spec.proofs.KnownForms.{form_choice}
 use Rattle.edif_tree.specs.Handles.{here, all}
 use Rattle.edif_parts.proofs.Answering.{hand_on}
 use Rattle.edif_parts.specs.declared.ports.BusName.{BusName}
-use Rattle.edif_contents.specs.Ends.{ReadEnd, WidthFaultIn}
-use Rattle.edif_contents.specs.Nets.{NetFaultIn, ReadNet}
-use Rattle.edif_contents.specs.declared.ends.EndAt.{EndAt}
-use Rattle.edif_contents.proofs.NetLemmas.{net_nodes, net_read, net_refs, net_width_fails, stretches}
+use Rattle.edif_contents.specs.Nets.{NetFaultIn, ReadNet, StretchesFaultIn}
+use Rattle.edif_contents.proofs.NetLemmas.{net_joined_fails, net_nodes, net_read, net_refs}
 use Rattle.edif_contents.proofs.nets.read_net.Goals as goal
 
 pub at-requires : goal.at-requires
@@ -37,31 +35,19 @@ returns-in_err-name c =
     let n = net_nodes t c.in_ok-parts.parts c.in_ok-parts.ensures in
     hand_on (ReadNet s t) (BusNameFault u) (NetFaultIn s t) c.from_residual-in_err-name.result c.in_err-name.field-0.0 c.from_residual-in_err-name.ensures.1 (λ f b. stands.net_name (u, (n.a u c.at.ensures).at, b)) c.in_err-name.ensures
 
-pub read_joined-requires-clause-keyword : goal.read_joined-requires-clause-keyword
-read_joined-requires-clause-keyword c = form_choice Joined (here c.at-2.result) ((net_nodes (here c.args.node) c.in_ok-parts.parts c.in_ok-parts.ensures).b (here c.at-2.result) c.at-2.ensures).is
+pub read_stretches-requires-clause-keyword : goal.read_stretches-requires-clause-keyword
+read_stretches-requires-clause-keyword c = form_choice Joined (here c.at-2.result) ((net_nodes (here c.args.node) c.in_ok-parts.parts c.in_ok-parts.ensures).b (here c.at-2.result) c.at-2.ensures).is
 
 pub returns-in_err-joined : goal.returns-in_err-joined
 returns-in_err-joined c =
-    let t = here c.args.node in
-    let v = here c.at-2.result in
-    let s = c.args.around.now in
-    let b = (net_nodes t c.in_ok-parts.parts c.in_ok-parts.ensures).b v c.at-2.ensures in
-    hand_on (ReadNet s t) (JoinedFault s.libs.now.libs s.ports.now s.insts.now v) (NetFaultIn s t) c.from_residual-in_err-joined.result c.in_err-joined.field-0.0 c.from_residual-in_err-joined.ensures.1
-    (λ f h. stands.net_joined (v, b.at, form_choice Joined v b.is, h)) c.in_err-joined.ensures
-
-pub returns-in_err-check_widths : goal.returns-in_err-check_widths
-returns-in_err-check_widths c =
     let t = here c.args.node in
     let u = here c.at.result in
     let v = here c.at-2.result in
     let s = c.args.around.now in
     let n = net_nodes t c.in_ok-parts.parts c.in_ok-parts.ensures in
-    let us = parts Joined PortRef v in
     let name : BusName = c.in_ok-name.field-0 in
-    let Z : List EndAt → Type 0 = λ v. AllZip (ReadEnd s) us v in
-    let ends : Z c.as_slice.result.now = subst Z (sym c.as_slice.ensures) c.in_ok-joined.ensures.ends in
-    hand_on (ReadNet s t) (Among (WidthFaultIn s name.array) us) (NetFaultIn s t) c.from_residual-in_err-check_widths.result c.in_err-check_widths.field-0.0 c.from_residual-in_err-check_widths.ensures.1
-    (λ f b. net_width_fails s t u v name f (n.a u c.at.ensures).at (net_refs t v (n.b v c.at-2.ensures)) c.in_ok-name.ensures b) (c.in_err-check_widths.ensures s us ends)
+    hand_on (ReadNet s t) (StretchesFaultIn s name.array v) (NetFaultIn s t) c.from_residual-in_err-joined.result c.in_err-joined.field-0.0 c.from_residual-in_err-joined.ensures.1
+    (λ f b. net_joined_fails s t u v name f (n.a u c.at.ensures).at (n.b v c.at-2.ensures) c.in_ok-name.ensures b) c.in_err-joined.ensures
 
 pub returns-in_err-properties : goal.returns-in_err-properties
 returns-in_err-properties c =
@@ -78,16 +64,10 @@ returns c =
     let a = c.in_ok-parts.ensures in
     let s = c.args.around.now in
     let n = net_nodes t c.in_ok-parts.parts a in
-    let us = parts Joined PortRef v in
     let name : BusName = c.in_ok-name.field-0 in
     let j = c.in_ok-joined.joined in
     let joined = c.in_ok-joined.ensures in
-    let P : EndAt → Type 0 = λ e. e.stretch.width ≡ row_size name.array in
     let X : List Stretch → Type 0 = λ v. All (λ x. x.first < 2 ^ 32) v in
-    let Z : List EndAt → Type 0 = λ v. AllZip (ReadEnd s) us v in
     let Q : List Placed → Type 0 = λ v. MeansProperties (map bare v) c.in_ok-properties.properties × All IsTypedProperty c.in_ok-properties.properties × HasDistinctKeys c.in_ok-properties.properties in
-    let ends : Z c.as_slice.result.now = subst Z (sym c.as_slice.ensures) joined.ends in
-    let wide : AllByRecursion P j.ends = subst (λ v. AllByRecursion P v) c.as_slice.ensures (c.in_ok-check_widths.ensures s us ends) in
-    let same : c.in_ok-stretches.stretches ≡ stretches j.ends = c.in_ok-stretches.ensures.0 ∙ ap stretches c.as_slice-2.ensures in
     let made : List Stretch → NetForm = λ v. record { name = name.name; array = name.array; joined = v; properties = c.in_ok-properties.properties } in
-    net_read s t u v name j c.in_ok-properties.properties _ (n.form u v c.at.ensures c.at-2.ensures) (n.a u c.at.ensures).at (net_refs t v (n.b v c.at-2.ensures)) (ap made same) refl refl c.in_ok-name.ensures joined wide (subst X same c.in_ok-stretches.ensures.1) (subst Q a.inner c.in_ok-properties.ensures)
+    net_read s t u v name (record { ends = joined.ends; nodes = j.nodes }) c.in_ok-properties.properties _ (n.form u v c.at.ensures c.at-2.ensures) (n.a u c.at.ensures).at (net_refs t v (n.b v c.at-2.ensures)) (ap made joined.stretches) refl refl c.in_ok-name.ensures joined.joined joined.wide (subst X joined.stretches joined.within) (subst Q a.inner c.in_ok-properties.ensures)

@@ -1,10 +1,22 @@
-use Rattle.std.proofs.Common.{ℕ, Option, subst}
-use Rattle.edif_parts.specs.Names.{DefinesName}
-use Rattle.edif_contents.proofs.KnownLemmas.{opens, pushed}
+use Rattle.std.proofs.Common.{[]}
+use Rattle.edif_contents.specs.Known.{NamedLib}
+use Rattle.edif_contents.proofs.KnownLemmas.{ids_grown, named, opened, pushed}
 use Rattle.edif_contents.proofs.known.Libraries.open.Goals as goal
+
+pub invariant_of-self-2 : goal.invariant_of-self-2
+invariant_of-self-2 c =
+    let o = c.in_ok-earlier.earlier in
+    let libs = c.self.inside.libs.items in
+    let new = c.push_new.new.items.items in
+    let head = c.args.head in
+    ids_grown (λ (l : NamedLib). l.lib.head.name.id) libs new (named head [] []) c.self.inside.names c.define_within.new.names c.args.place o c.in_ok-earlier.ensures.ok
+    (pushed o (named head [] []) (named head c.new.result.items c.new-2.result) libs c.define_within.new.items.items new c.push_new.ensures.none c.push_new.ensures.some c.define_within.ensures.items (λ i. named head (c.new.ensures.items i) (c.new-2.ensures i))) c.self.invariant
 
 pub returns-clause-ok : goal.returns-clause-ok
 returns-clause-ok c =
-    let P : Option ℕ → Type 0 = λ v. DefinesName c.self.inside.names c.args.head.name.id c.args.place c.define.new.self v in
-    opens c.args.self.now c.self.inside.libs.items c.push.new.self.items c.self.inside.names c.define.new.self c.args.head c.args.place c.self.view_is (subst P c.in_default.is c.in_ok-earlier.ensures.ok)
-    (pushed c.push.result c.unwrap.result c.self.inside.libs.items c.reserve.new.self.items c.push.new.self.items c.args.head c.new.result.items c.new-2.result c.push.ensures.items c.unwrap.ensures c.reserve.ensures.items c.new.ensures.items c.new-2.ensures)
+    let o = c.in_ok-earlier.earlier in
+    let libs = c.self.inside.libs.items in
+    let new = c.push_new.new.items.items in
+    let head = c.args.head in
+    opened c.args.self.now libs new c.self.inside.names c.define_within.new.names head c.args.place o c.self.view_is c.in_ok-earlier.ensures.ok
+    (pushed o (named head [] []) (named head c.new.result.items c.new-2.result) libs c.define_within.new.items.items new c.push_new.ensures.none c.push_new.ensures.some c.define_within.ensures.items (λ i. named head (c.new.ensures.items i) (c.new-2.ensures i)))

@@ -2,13 +2,13 @@ use Rattle.std.proofs.Common.{◌≡◌, ◌++◌, List}
 use Rattle.spelling_spec.specs.Tree.{Placed}
 use Rattle.edif_tree.specs.Handles.{all}
 use Rattle.edif_tree.specs.Eaches.{left}
-use Rattle.edif_contents.proofs.InsideLoops.{NetsSoFar}
-use Rattle.edif_contents.proofs.nets.read_nets.Given as goal
+use Rattle.edif_contents.proofs.InsideLoops.{InstsSoFar}
+use Rattle.edif_contents.proofs.insts.take_insts.Given as goal
 
--- the nets so far
+-- the instances so far
 abbrev pub invariant-loop-node : goal.invariant-loop-node
 invariant-loop-node l = record {
   can_next : (goal.iterator-loop-node).can_next l.node-iterator;
   is_finite : (goal.iterator-loop-node).is_finite l.node-iterator;
-  nets : (before : List Placed) × (all l.fn.inner ≡ before ++ left l.node-iterator) × NetsSoFar l.around before l.nets.items l.names l.joins;
+  insts : (before : List Placed) × (all l.fn.inner ≡ before ++ left l.node-iterator) × InstsSoFar l.libs.libs l.own before l.list.items l.names;
 }
