@@ -17,8 +17,8 @@ use Rattle.edif_grammar.specs.declared.lent.Form.{Form}
 use Rattle.edif_grammar.proofs.FormLemmas.{once_fits}
 use Rattle.edif_parts.proofs.NameForms.{defined_first}
 use Rattle.edif_parts.proofs.PartLemmas.{TwoNodes, two_nodes}
-use Rattle.edif_contents.specs.Inners.{NotesFault, ReadInst, ReadNotes}
-use Rattle.edif_contents.specs.declared.insts.InstNotes.{InstNotes}
+use Rattle.edif_contents.specs.Inners.{DetailsFault, ReadInst, ReadDetails}
+use Rattle.edif_contents.specs.declared.insts.InstDetails.{InstDetails}
 
 abbrev follows : List Follower
 follows = One keywords.Designator ∷ Many keywords.Property ∷ Many keywords.Comment ∷ Many keywords.UserData ∷ []
@@ -30,12 +30,12 @@ pub one_designator : (t : Placed) (p : Form) → ArePartsOf keywords.Instance t 
 one_designator t p a = once_fits keywords.Instance keywords.Designator (name_definition ∷ the keywords.ViewRef ∷ []) follows t refl (inl refl) refl a.fits
 
 -- what is wrong with what an instance says
-pub notes_fail : (libs : List design.Lib) (own : Option ℕ) (t : Placed) (f : MeaningFault) → NotesFault (followers keywords.Instance t) f → InstFault libs own t f
-notes_fail libs own t f (inl b) = stands.inst_designator b
-notes_fail libs own t f (inr b) = stands.inst_properties b
+pub details_fail : (libs : List design.Lib) (own : Option ℕ) (t : Placed) (f : MeaningFault) → DetailsFault (followers keywords.Instance t) f → InstFault libs own t f
+details_fail libs own t f (inl b) = stands.inst_designator b
+details_fail libs own t f (inr b) = stands.inst_properties b
 
-pub inst_read : (libs : List design.Lib) (own : Option ℕ) (t u v : Placed) (name : design.Name) (place : ℕ) (id : design.CellId) (s : InstNotes) → IsFormOf keywords.Instance (bare t) (bare u ∷ bare v ∷ []) (map bare (followers keywords.Instance t)) → slice_get (arguments t) 0 ≡ Some u
-    → MeansName (bare u) name × IsTypedName name × (name_of u ≡ Some (name.id, place)) → MeansViewRef libs own (bare v) id → ReadNotes (followers keywords.Instance t) s
+pub inst_read : (libs : List design.Lib) (own : Option ℕ) (t u v : Placed) (name : design.Name) (place : ℕ) (id : design.CellId) (s : InstDetails) → IsFormOf keywords.Instance (bare t) (bare u ∷ bare v ∷ []) (map bare (followers keywords.Instance t)) → slice_get (arguments t) 0 ≡ Some u
+    → MeansName (bare u) name × IsTypedName name × (name_of u ≡ Some (name.id, place)) → MeansViewRef libs own (bare v) id → ReadDetails (followers keywords.Instance t) s
     → ReadInst libs own t (record { inst = record { name = name; of = id; designator = s.designator; properties = s.properties }; place = place })
 inst_read libs own t u v name place id s f a n w r = record {
   mean = record { name_part = bare u; view_part = bare v; inner = map bare (followers keywords.Instance t); form = f; name = n.0; of = w; designator = r.designator.0; properties = r.properties.0 };

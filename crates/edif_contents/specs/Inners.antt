@@ -15,17 +15,17 @@ use Rattle.edif_spec.specs.declared.fault.MeaningFault.TheVariants.{OverLimit}
 use Rattle.edif_spec.specs.declared.keyword.Keyword.TheVariants as keywords
 use Rattle.edif_parts.specs.Names.{DefinesName, IsAgain, ids}
 use Rattle.edif_contents.specs.declared.insts.InstAt.{InstAt}
-use Rattle.edif_contents.specs.declared.insts.InstNotes.{InstNotes}
+use Rattle.edif_contents.specs.declared.insts.InstDetails.{InstDetails}
 use Rattle.edif_contents.specs.declared.insts.Insts.{Insts}
 
 -- The designator and the properties that these followers of an instance mean.
-pub record ReadNotes (ts : List Placed) (n : InstNotes) : Type 0 where
+pub record ReadDetails (ts : List Placed) (n : InstDetails) : Type 0 where
   pub designator : Perhaps (MeansText keywords.Designator) (those keywords.Designator (map bare ts)) n.designator × IfSome n.designator IsBytes
   pub properties : MeansProperties (map bare ts) n.properties × All IsTypedProperty n.properties × HasDistinctKeys n.properties
 
 -- what is wrong with them
-abbrev pub NotesFault : List Placed → MeaningFault → Type 0
-NotesFault ts f = Among (RowFault keywords.Designator) (those_of keywords.Designator ts) f ⊎ PropertiesFault (those_of keywords.Property ts) f
+abbrev pub DetailsFault : List Placed → MeaningFault → Type 0
+DetailsFault ts f = Among (RowFault keywords.Designator) (those_of keywords.Designator ts) f ⊎ PropertiesFault (those_of keywords.Property ts) f
 
 -- The instance that a form means, and the place of its name.
 pub record ReadInst (libs : List design.Lib) (own : Option ℕ) (t : Placed) (i : InstAt) : Type 0 where

@@ -6,7 +6,7 @@ ghost use Rattle.edif_spec.specs.Rows.{has_keyword};
 ghost use Rattle.edif_spec.specs.Stands.{InstFault};
 ghost use Rattle.edif_spec.specs.declared.keyword.Keyword.TheVariants.{Designator, Instance};
 ghost use Rattle.edif_tree.specs.Handles.{here, all};
-ghost use Rattle.edif_contents.specs.Inners.{InstAdded, InstTaken, InstTakenFault, InstsFault, NotesFault, ReadInst, ReadInsts, ReadNotes};
+ghost use Rattle.edif_contents.specs.Inners.{InstAdded, InstTaken, InstTakenFault, InstsFault, DetailsFault, ReadInst, ReadInsts, ReadDetails};
 ghost use Rattle.edif_parts.specs.Names.{IsAgain};
 ghost use Rattle.edif_parts.specs.Reading.{Answers};
 
@@ -36,19 +36,19 @@ pub struct InstAt {
 
 /// What an instance says beside its name and its cell.
 #[derive(Drop)]
-struct InstNotes {
+struct InstDetails {
     designator: Option<Text>,
     properties: Row<Property>,
 }
 
 /// What these followers of an instance say.
-fn read_notes(alloc: Global, inner: Nodes<'_>) -> Result<InstNotes, EdifError>
+fn read_details(alloc: Global, inner: Nodes<'_>) -> Result<InstDetails, EdifError>
     requires { length (those_of Designator (all inner)) ≤ 1 }
-    ensures { Answers (ReadNotes (all inner.entry)) (NotesFault (all inner.entry)) result }
+    ensures { Answers (ReadDetails (all inner.entry)) (DetailsFault (all inner.entry)) result }
 {
     let designator = read_text_among(alloc, inner, Keyword::Designator)?;
     let properties = read_properties(alloc, inner)?;
-    Ok(InstNotes {
+    Ok(InstDetails {
         designator,
         properties,
     })
@@ -67,13 +67,13 @@ pub fn read_inst(
     let parts = read_parts(alloc, node, Keyword::Instance)?;
     let name = read_name(alloc, parts.fixed.at(0))?;
     let of = read_view_ref(alloc, parts.fixed.at(1), libs, own)?;
-    let notes = read_notes(alloc, parts.inner)?;
+    let details = read_details(alloc, parts.inner)?;
     Ok(InstAt {
         inst: Inst {
             name: name.name,
             of,
-            designator: notes.designator,
-            properties: notes.properties,
+            designator: details.designator,
+            properties: details.properties,
         },
         place: name.place,
     })
