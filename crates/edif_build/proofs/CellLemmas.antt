@@ -192,37 +192,37 @@ inside_fine libs own ports (t ∷ []) (Some x) h = record {
 -- A view says the same of its cell whatever the cell's name, type and properties.
 pub view_means : (libs : List design.Lib) (own : Option ℕ) (u : Placed) (v : View) (n : design.Name) (k : design.CellKind) (ps : List design.Property) → ReadView libs own u v → MeansView libs own (bare u) (body_of v n k ps)
 view_means libs own u v n k ps r =
-    let P : List Bare → Type 0 = λ w. Perhaps (MeansContents libs own v.interface.ports) w (contents_of v.inside) in
+    let P : List Bare → Type 0 = λ w. Perhaps (MeansContents libs own v.body.interface.ports) w (contents_of v.body.inside) in
     record {
       name_part = bare r.name_part;
       type_part = bare r.type_part;
       interface_part = bare r.interface_part;
       inner = map bare (followers keywords.View u);
       form = r.form;
-      name = r.name;
+      name = r.heading.name.0;
       netlist = r.netlist;
-      interface = record { inner = map bare (followers keywords.Interface r.interface_part); form = r.interface.form; ports = r.interface.ports; properties = r.interface.properties };
-      contents = subst P (filter_bare (has_keyword keywords.Contents) (followers keywords.View u)) (inside_means libs own v.interface.ports (those_of keywords.Contents (followers keywords.View u)) v.inside r.inside);
-      properties = r.properties;
+      interface = record { inner = map bare (followers keywords.Interface r.interface_part); form = r.body.interface.form; ports = r.body.interface.ports; properties = r.body.interface.properties };
+      contents = subst P (filter_bare (has_keyword keywords.Contents) (followers keywords.View u)) (inside_means libs own v.body.interface.ports (those_of keywords.Contents (followers keywords.View u)) v.body.inside r.body.inside);
+      properties = r.heading.properties.0;
     }
 
-pub view_names : (libs : List design.Lib) (own : Option ℕ) (u : Placed) (v : View) → ReadView libs own u v → names_of v.inside ≡ design.inst_ids (insts_in (contents_of v.inside))
-view_names libs own u v r = inside_names libs own v.interface.ports (those_of keywords.Contents (followers keywords.View u)) v.inside r.inside
+pub view_names : (libs : List design.Lib) (own : Option ℕ) (u : Placed) (v : View) → ReadView libs own u v → names_of v.body.inside ≡ design.inst_ids (insts_in (contents_of v.body.inside))
+view_names libs own u v r = inside_names libs own v.body.interface.ports (those_of keywords.Contents (followers keywords.View u)) v.body.inside r.body.inside
 
 sound_body : (libs : List design.Lib) (own : Option ℕ) (u : Placed) (v : View) (n : design.Name) (k : design.CellKind) (ps : List design.Property) → ReadView libs own u v → IsTypedName n → All IsTypedProperty ps → HasDistinctKeys ps → IsSoundCell (body_of v n k ps)
 sound_body libs own u v n k ps r tn tp d =
-    let i : FineInside (insts_of (body_of v n k ps)) (nets_of (body_of v n k ps)) = inside_fine libs own v.interface.ports (those_of keywords.Contents (followers keywords.View u)) v.inside r.inside in
+    let i : FineInside (insts_of (body_of v n k ps)) (nets_of (body_of v n k ps)) = inside_fine libs own v.body.interface.ports (those_of keywords.Contents (followers keywords.View u)) v.body.inside r.body.inside in
     record {
-      typed = record { name = tn; properties = tp; view = r.typed_name; view_properties = r.typed; interface_properties = r.interface.typed_properties; ports = r.interface.typed; insts = i.insts_typed; nets = i.nets_typed };
-      limits = record { ports = r.interface.count; bits = r.interface.bits; insts = i.insts_count; nets = i.nets_count; ends = i.ends_count };
+      typed = record { name = tn; properties = tp; view = r.heading.name.1; view_properties = r.heading.properties.1; interface_properties = r.body.interface.typed_properties; ports = r.body.interface.typed; insts = i.insts_typed; nets = i.nets_typed };
+      limits = record { ports = r.body.interface.count; bits = r.body.interface.bits; insts = i.insts_count; nets = i.nets_count; ends = i.ends_count };
       names = record {
-        ports = r.interface.distinct;
+        ports = r.body.interface.distinct;
         insts = i.inst_names;
         nets = i.net_names;
         properties = d;
-        view_properties = r.keys;
-        interface_properties = r.interface.keys;
-        port_properties = r.interface.port_keys;
+        view_properties = r.heading.properties.2;
+        interface_properties = r.body.interface.keys;
+        port_properties = r.body.interface.port_keys;
         inst_properties = i.inst_keys;
         net_properties = i.net_keys;
       };

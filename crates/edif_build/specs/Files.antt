@@ -84,6 +84,10 @@ pub record ReadFollowers (ts : List Placed) (known : KnownLibs) (o : Option Top)
   pub libs : LibsAre (libraries ts) known
   pub top : TopIs known.libs ts o
 
+-- the libraries and the top that what follows in a file means, without the names that are known then
+abbrev pub ReadBody : List Placed → List design.Lib → Option Top → Type 0
+ReadBody ts libs o = (known : KnownLibs) × ReadFollowers ts known o × (libs ≡ known.libs)
+
 -- in what follows: in the libraries, in the first design where the libraries before it are known
 abbrev pub FollowersFail : List Placed → MeaningFault → Type 0
 FollowersFail ts f = LibsFail (libraries ts) f ⊎ ((before : KnownLibs) × LibsAre (libraries (before_the_design ts)) before × (u : Placed) × (slice_get (those_of keywords.Design ts) 0 ≡ Some u) × DesignFault before.libs u f)

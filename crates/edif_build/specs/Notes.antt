@@ -11,7 +11,7 @@ use Rattle.edif_spec.specs.Faults.{AtTwo, Among, Beyond, FixedFault, FollowerFau
 use Rattle.edif_spec.specs.Keyword.{same}
 use Rattle.edif_spec.specs.Means.{MeansDesign, MeansNote, MeansPath}
 use Rattle.edif_spec.specs.Rows.{Each, has_keyword}
-use Rattle.edif_spec.specs.Stands.{NoteFault, SameNote, bad_form, note_parts}
+use Rattle.edif_spec.specs.Stands.{NoteFault, SameNote, StepsTo, bad_form, note_parts}
 use Rattle.edif_spec.specs.declared.keyword.Keyword.TheVariants as keywords
 use Rattle.edif_spec.specs.declared.fault.ClashKind.TheVariants.{Duplicate}
 use Rattle.edif_spec.specs.declared.fault.MeaningFault.{MeaningFault}
@@ -42,6 +42,14 @@ pub record ReadPath (libs : List design.Lib) (top : design.CellId) (t : Placed) 
   pub mean : MeansPath libs top (map bare (arguments t)) ns
   pub typed : All IsIdentifier ns
   pub some_step : 0 < length ns
+
+-- a further step, by the identifier of its instance, and the cell that this instance is of
+pub record StepAdded (libs : List design.Lib) (id : design.CellId) (t : Placed) (old new : List (List ℕ)) (next : design.CellId) : Type 0 where
+  pub inst : design.Inst
+  pub means : StepsTo libs id t inst
+  pub typed : IsIdentifier inst.name.id
+  pub list : new ≡ old ++ inst.name.id ∷ []
+  pub leads : next ≡ inst.of
 
 -- a note, and where the key of its property stands
 pub record IsNoted (libs : List design.Lib) (top : design.CellId) (t : Placed) (n : design.Note) (place : ℕ) : Type 0 where

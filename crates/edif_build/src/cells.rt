@@ -8,38 +8,43 @@ ghost use Rattle.edif_spec.specs.Keyword.{same};
 ghost use Rattle.edif_spec.specs.Means.{IsNetlist, MeansKind};
 ghost use Rattle.edif_spec.specs.Rows.{has_keyword};
 ghost use Rattle.edif_spec.specs.Stands.{CellFault, CellTypeFault, ContentsFault, TypeFault, ViewFault, is_cell_type};
-ghost use Rattle.edif_spec.specs.declared.keyword.Keyword.TheVariants.{Cell as CellWord, CellType, Contents as ContentsWord, View as ViewWord, ViewType};
+ghost use Rattle.edif_spec.specs.declared.keyword.Keyword.TheVariants.{Cell as CellWord, CellType, Contents as ContentsWord, Interface as InterfaceWord, View as ViewWord, ViewType};
 ghost use Rattle.edif_tree.specs.Handles.{here, all};
-ghost use Rattle.edif_build.specs.Cells.{OneNode, ReadCell, ReadOnce, ReadView, ViewsFault, body_of, contents_of, names_of};
+ghost use Rattle.edif_build.specs.Cells.{OneNode, ReadCell, ReadOnce, ReadView, ReadViewBody, ViewBodyFault, ViewsFault, body_of, contents_of, names_of};
 ghost use Rattle.edif_contents.specs.Insides.{ReadContents};
 ghost use Rattle.edif_parts.specs.Names.{ids};
 ghost use Rattle.edif_parts.specs.Reading.{Answers};
 
+use crate::headings::{Heading, read_heading};
 use edif_contents::contents::{Inside, read_contents};
 use edif_contents::known::{KnownCell, Libraries};
 use edif_contents::references::reference_at;
 use edif_grammar::is_form_of;
 use edif_parts::error::{EdifError, bad_form, clash, fault_at};
 use edif_parts::interface::{Interface, read_interface};
-use edif_parts::names::{NameAt, Names, read_name};
+use edif_parts::names::{NameAt, Names};
 use edif_parts::parts::{is_word, read_parts};
-use edif_parts::properties::read_properties;
 use edif_spec::{ClashKind, Keyword, Kind};
 use edif_tree::{Node, Nodes};
-use netlist_schema::{CellBody, CellKind, Contents, Ident, Name, Port, Property, Row};
+use netlist_schema::{CellBody, CellKind, Contents, Ident, Port};
 use std::alloc::Global;
 
-/// What a view says.
+/// The interface of a view, and its contents.
 #[derive(Drop)]
-pub struct View {
-    /// Its name.
-    pub name: Name,
-    /// Its own properties.
-    pub properties: Row<Property>,
+pub struct ViewBody {
     /// Its interface.
     pub interface: Interface,
     /// Its contents; a leaf has none.
     pub inside: Option<Inside>,
+}
+
+/// What a view says.
+#[derive(Drop)]
+pub struct View {
+    /// Its name, and its own properties.
+    pub heading: Heading,
+    /// Its interface, and its contents.
+    pub body: ViewBody,
 }
 
 /// A cell, and where its identifier stands.
@@ -115,6 +120,24 @@ fn read_contents_among(
     Ok(None)
 }
 
+/// The interface that the form at a node means, and the contents among these followers of its view.
+fn read_view_body(
+    alloc: Global,
+    node: Node<'_>,
+    inner: Nodes<'_>,
+    libs: &Libraries,
+    own: Option<u32>,
+) -> Result<ViewBody, EdifError>
+    requires keyword { has_keyword InterfaceWord (bare (here node)) ≡ true }
+    requires few { length (those_of ContentsWord (all inner)) ≤ 1 }
+    ensures { Answers (ReadViewBody libs.now.libs own (here node.entry) (all inner.entry)) (ViewBodyFault libs.now.libs own (here node.entry) (all inner.entry)) result }
+{
+    let interface = read_interface(alloc, node)?;
+    let ports = interface.ports.as_slice();
+    let inside = read_contents_among(alloc, inner, libs, own, ports, &interface.names)?;
+    Ok(ViewBody { interface, inside })
+}
+
 /// The view that a form at a node means, of a cell of the library `own`.
 fn read_view(
     alloc: Global,
@@ -126,18 +149,10 @@ fn read_view(
     ensures { Answers (ReadView libs.now.libs own (here node.entry)) (ViewFault libs.now.libs own (here node.entry)) result }
 {
     let parts = read_parts(alloc, node, Keyword::View)?;
-    let name = read_name(alloc, parts.fixed.at(0))?;
     read_view_type(alloc, parts.fixed.at(1))?;
-    let interface = read_interface(alloc, parts.fixed.at(2))?;
-    let ports = interface.ports.as_slice();
-    let inside = read_contents_among(alloc, parts.inner, libs, own, ports, &interface.names)?;
-    let properties = read_properties(alloc, parts.inner)?;
-    Ok(View {
-        name: name.name,
-        properties,
-        interface,
-        inside,
-    })
+    let heading = read_heading(alloc, parts.fixed.at(0), parts.inner)?;
+    let body = read_view_body(alloc, parts.fixed.at(2), parts.inner, libs, own)?;
+    Ok(View { heading, body })
 }
 
 /// The node of the one view among the followers of a cell at a place. Takes no memory.
@@ -191,25 +206,20 @@ fn apart(alloc: Global, inside: Option<Inside>) -> Pieces
 }
 
 /// A cell by its parts. Takes no memory.
-fn cell_of(
-    alloc: Global,
-    name: NameAt,
-    kind: CellKind,
-    properties: Row<Property>,
-    view: View,
-) -> CellAt
-    requires ports { ids view.interface.names ≡ design.port_ids view.interface.ports }
-    requires insts { names_of view.inside ≡ design.inst_ids (design.insts_of (body_of view name.name kind properties)) }
-    ensures cell { result.cell ≡ body_of view name.name kind properties }
-    ensures place { result.place ≡ name.place }
+fn cell_of(alloc: Global, heading: Heading, kind: CellKind, view: View) -> CellAt
+    requires ports { ids view.body.interface.names ≡ design.port_ids view.body.interface.ports }
+    requires insts { names_of view.body.inside ≡ design.inst_ids (design.insts_of (body_of view heading.name.name kind heading.properties)) }
+    ensures cell { result.cell ≡ body_of view heading.name.name kind heading.properties }
+    ensures place { result.place ≡ heading.name.place }
 {
+    let Heading { name, properties } = heading;
     let NameAt { name, place } = name;
-    let View {
+    let View { heading, body } = view;
+    let Heading {
         name: view,
         properties: view_properties,
-        interface,
-        inside,
-    } = view;
+    } = heading;
+    let ViewBody { interface, inside } = body;
     let Interface {
         ports,
         properties: interface_properties,
@@ -220,7 +230,7 @@ fn cell_of(
         name,
         kind,
         properties,
-        view,
+        view: view.name,
         view_properties,
         interface_properties,
         ports,
@@ -242,9 +252,8 @@ pub fn read_cell(
 {
     let parts = read_parts(alloc, node, Keyword::Cell)?;
     let found = one_view(parts.inner, parts.place)?;
-    let name = read_name(alloc, parts.fixed.at(0))?;
     let kind = read_kind(alloc, parts.fixed.at(1))?;
+    let heading = read_heading(alloc, parts.fixed.at(0), parts.inner)?;
     let view = read_view(alloc, found, libs, Some(own))?;
-    let properties = read_properties(alloc, parts.inner)?;
-    Ok(cell_of(alloc, name, kind, properties, view))
+    Ok(cell_of(alloc, heading, kind, view))
 }

@@ -8,7 +8,7 @@ ghost use Rattle.edif_spec.specs.Stands.{FileFault, Stands};
 ghost use Rattle.edif_spec.specs.declared.fault.MeaningFault.{MeaningFault};
 ghost use Rattle.edif_tree.specs.Handles.{here, all};
 ghost use Rattle.edif_tree.specs.Nodes.{IsAt};
-ghost use Rattle.edif_build.specs.Files.{DesignAt, FollowersFail, HasFixed, ReadFollowers, ReadForm, ReadHeads, ReadRoot, SecondDesigns, head_of, notes_of};
+ghost use Rattle.edif_build.specs.Files.{DesignAt, FollowersFail, HasFixed, ReadBody, ReadFollowers, ReadForm, ReadHeads, ReadRoot, SecondDesigns, head_of, notes_of};
 ghost use Rattle.edif_build.specs.Libraries.{LibsAre};
 ghost use Rattle.edif_parts.specs.Reading.{Answers};
 ghost use Rattle.edif_parts.specs.declared.error.EdifError.TheVariants.{NoMemory};
@@ -117,11 +117,32 @@ fn read_followers(
     Ok(Some(top))
 }
 
-/// The design of these parts. Takes no memory.
-fn design_of(alloc: Global, title: Name, libs: Row<Lib>, top: Option<Top>) -> Design
-    requires { IsValid (record { title = title; libs = libs; top = head_of top; notes = notes_of top }) }
-    ensures { result ≡ record { title = title; libs = libs; top = head_of top; notes = notes_of top } }
+/// The libraries of a file, and its top.
+#[derive(Drop)]
+struct Body {
+    /// The libraries, in order.
+    libs: Row<Lib>,
+    /// The top, where there is one.
+    top: Option<Top>,
+}
+
+/// The libraries and the top that the form of a file has.
+fn read_body(alloc: Global, form: FileForm<'_>) -> Result<Body, EdifError>
+    requires { DesignAt (all form.inner) form.design }
+    ensures { Answers (λ b. ReadBody (all form.entry.inner) b.libs b.top) (FollowersFail (all form.entry.inner)) result }
 {
+    let mut libs = Libraries::new(alloc);
+    let top = read_followers(alloc, form.inner, form.design, &mut libs)?;
+    let libs = libs.into_libs()?;
+    Ok(Body { libs, top })
+}
+
+/// The design of these parts. Takes no memory.
+fn design_of(alloc: Global, title: Name, body: Body) -> Design
+    requires { IsValid (record { title = title; libs = body.libs; top = head_of body.top; notes = notes_of body.top }) }
+    ensures { result ≡ record { title = title; libs = body.libs; top = head_of body.top; notes = notes_of body.top } }
+{
+    let Body { libs, top } = body;
     match top {
         Some(top) => {
             let Top { head, notes } = top;
@@ -137,10 +158,8 @@ fn read_whole(alloc: Global, tree: &Tree) -> Result<Design, EdifError>
 {
     let form = read_form(alloc, tree.root())?;
     let title = read_heads(alloc, form.fixed)?;
-    let mut libs = Libraries::new(alloc);
-    let top = read_followers(alloc, form.inner, form.design, &mut libs)?;
-    let libs = libs.into_libs()?;
-    Ok(design_of(alloc, title, libs, top))
+    let body = read_body(alloc, form)?;
+    Ok(design_of(alloc, title, body))
 }
 
 /// The design that the tree of a file means. A fault that is named stands in the tree; where several do, it is any of them.

@@ -3,6 +3,7 @@
 
 mod cells;
 mod file;
+mod headings;
 mod levels;
 mod libraries;
 mod notes;

@@ -7,7 +7,7 @@ ghost use Rattle.edif_spec.specs.Means.{is_note};
 ghost use Rattle.edif_spec.specs.Stands.{NoteFault, PathFault, StepFault, StepsTo};
 ghost use Rattle.edif_tree.specs.Handles.{here, all};
 ghost use Rattle.edif_parts.specs.Names.{DefinesName};
-ghost use Rattle.edif_build.specs.Notes.{AreNoted, FailsBehind, HasNoteParts, IsAgain, NotesFail, ReadNote, ReadNotes, ReadPath, ShapeFault, flat, is_mark};
+ghost use Rattle.edif_build.specs.Notes.{AreNoted, FailsBehind, HasNoteParts, IsAgain, NotesFail, ReadNote, ReadNotes, ReadPath, ShapeFault, StepAdded, flat, is_mark};
 ghost use Rattle.edif_parts.specs.Reading.{Answers, Names as FailsBy};
 
 use edif_contents::known::Libraries;
@@ -159,6 +159,22 @@ fn read_step<'a>(node: Node<'_>, libs: &'a Libraries, id: CellId) -> Result<&'a 
     }
 }
 
+/// Adds the identifier of the instance that the step at a node means, in a cell; the answer is the cell that the instance is of.
+fn add_step(
+    alloc: Global,
+    node: Node<'_>,
+    libs: &Libraries,
+    id: CellId,
+    path: &mut Vec<Ident>,
+) -> Result<CellId, EdifError>
+    ensures { Answers (StepAdded libs.now.libs id (here node.entry) path.old.items path.new.items) (StepFault libs.now.libs id (λ _. ⊥) (here node.entry)) result }
+{
+    let inst = read_step(node, libs, id)?;
+    let name = Copied::copy(&inst.name.id, alloc)?;
+    path.push(name)?;
+    Ok(inst.of)
+}
+
 /// The identifiers that the steps of the path at a node mean, from the top cell on.
 fn read_path(
     alloc: Global,
@@ -174,10 +190,7 @@ fn read_path(
     let mut path = Vec::new(alloc);
     let mut id = top;
     for step in steps.iter() {
-        let inst = read_step(step, libs, id)?;
-        let name = Copied::copy(&inst.name.id, alloc)?;
-        path.push(name)?;
-        id = inst.of;
+        id = add_step(alloc, step, libs, id, &mut path)?;
     }
     Ok(Row::of(path))
 }
@@ -227,6 +240,14 @@ fn is_mark(node: Node<'_>) -> bool
     }
 }
 
+/// Adds the key of a note. Where it is there, the error says so, with the place of the earlier one.
+fn add_key(alloc: Global, note: &NoteAt, keys: &mut NoteKeys) -> Result<(), EdifError>
+    ensures { Answers (λ _. DefinesName keys.old (flat note.now.note.path note.now.note.property.key.id) note.now.place keys.new None) (IsAgain keys.old (flat note.now.note.path note.now.note.property.key.id) note.now.place) result }
+{
+    let key = key_of(alloc, note.note.path.as_slice(), &note.note.property.key.id)?;
+    keys.add(key, note.place)
+}
+
 /// Adds the note at a node to the notes, whose keys are `keys`.
 fn add_note(
     alloc: Global,
@@ -244,10 +265,30 @@ fn add_note(
         return Err(over_limit(MOST_NOTES as u64, node.place()));
     }
     let note = read_note(alloc, node, libs, top)?;
-    let key = key_of(alloc, note.note.path.as_slice(), &note.note.property.key.id)?;
-    keys.add(key, note.place)?;
+    add_key(alloc, &note, keys)?;
     notes.push(note.note)?;
     Ok(())
+}
+
+/// The notes among these followers of a design's form, as `read_notes` gives them; their keys are put into a table without keys.
+fn add_notes(
+    alloc: Global,
+    inner: Nodes<'_>,
+    libs: &Libraries,
+    top: CellId,
+    keys: &mut NoteKeys,
+) -> Result<Row<Note>, EdifError>
+    requires { keys.old ≡ [] }
+    ensures { Answers (ReadNotes libs.now.libs top (filter (λ u. is_note (bare u)) (all inner.entry))) (NotesFail libs.now.libs top (filter (λ u. is_note (bare u)) (all inner.entry))) result }
+{
+    let mut notes = Vec::new(alloc);
+    for node in inner.iter() {
+        if !is_note(node) {
+            continue;
+        }
+        add_note(alloc, node, libs, top, keys, &mut notes)?;
+    }
+    Ok(Row::of(notes))
 }
 
 /// The notes among these followers of a design's form, in order, from the top cell on.
@@ -260,12 +301,5 @@ pub fn read_notes(
     ensures { Answers (ReadNotes libs.now.libs top (filter (λ u. is_note (bare u)) (all inner.entry))) (NotesFail libs.now.libs top (filter (λ u. is_note (bare u)) (all inner.entry))) result }
 {
     let mut keys = NoteKeys::new(alloc);
-    let mut notes = Vec::new(alloc);
-    for node in inner.iter() {
-        if !is_note(node) {
-            continue;
-        }
-        add_note(alloc, node, libs, top, &mut keys, &mut notes)?;
-    }
-    Ok(Row::of(notes))
+    add_notes(alloc, inner, libs, top, &mut keys)
 }

@@ -8,16 +8,15 @@ ghost use Rattle.edif_tree.specs.Handles.{here};
 ghost use Rattle.edif_build.specs.Notes.{ReadTop};
 ghost use Rattle.edif_parts.specs.Reading.{Answers};
 
+use crate::headings::{Heading, read_heading};
 use crate::notes::read_notes;
 use edif_contents::known::Libraries;
 use edif_contents::references::read_cell_ref;
 use edif_parts::error::EdifError;
-use edif_parts::names::read_name;
 use edif_parts::parts::read_parts;
-use edif_parts::properties::read_properties;
 use edif_spec::Keyword;
 use edif_tree::Node;
-use netlist_schema::{Note, Row, TopHead};
+use netlist_schema::{CellId, Note, Row, TopHead};
 use std::alloc::Global;
 
 /// The top, and the notes.
@@ -29,22 +28,27 @@ pub struct Top {
     pub notes: Row<Note>,
 }
 
+/// The top with a cell. Takes no memory.
+fn top_head(heading: Heading, cell: CellId) -> TopHead
+    ensures { result ≡ record { name = heading.name.name; cell = cell; properties = heading.properties } }
+{
+    let Heading { name, properties } = heading;
+    TopHead {
+        name: name.name,
+        cell,
+        properties,
+    }
+}
+
 /// The top and the notes that the form of a design at a node means.
 pub fn read_top(alloc: Global, node: Node<'_>, libs: &Libraries) -> Result<Top, EdifError>
     requires { has_keyword DesignWord (bare (here node)) ≡ true }
     ensures { Answers (ReadTop libs.now.libs (here node.entry)) (DesignFault libs.now.libs (here node.entry)) result }
 {
     let parts = read_parts(alloc, node, Keyword::Design)?;
-    let name = read_name(alloc, parts.fixed.at(0))?;
     let cell = read_cell_ref(alloc, parts.fixed.at(1), libs, None)?;
-    let properties = read_properties(alloc, parts.inner)?;
     let notes = read_notes(alloc, parts.inner, libs, cell)?;
-    Ok(Top {
-        head: TopHead {
-            name: name.name,
-            cell,
-            properties,
-        },
-        notes,
-    })
+    let heading = read_heading(alloc, parts.fixed.at(0), parts.inner)?;
+    let head = top_head(heading, cell);
+    Ok(Top { head, notes })
 }

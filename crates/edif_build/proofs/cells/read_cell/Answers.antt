@@ -1,18 +1,15 @@
 use Rattle.edif_spec.proofs.KnownForms.{form_choice}
-use Rattle.std.proofs.Common.{◌≡◌, List, [], ◌∷◌, map, sym, ap, ◌∙◌, subst, Some, arith}
-use Rattle.std.specs.List.{All}
-use Rattle.spelling_spec.specs.Tree.{Placed, bare}
-use Rattle.netlist_schema.specs.Names.{HasDistinctKeys}
-use Rattle.netlist_schema.specs.Typed.{IsTypedProperty}
+use Rattle.std.proofs.Common.{◌≡◌, List, [], ◌∷◌, sym, ap, ◌∙◌, subst, inl, inr, Some, arith}
+use Rattle.spelling_spec.specs.Tree.{Placed}
 use Rattle.edif_spec.specs.Faults.{followers, those_of}
 use Rattle.edif_spec.specs.Keyword.{name_definition, the}
-use Rattle.edif_spec.specs.Means.{MeansProperties}
-use Rattle.edif_spec.specs.Stands.{CellFault, CellTypeFault, NameFault, PropertiesFault, ViewFault}
+use Rattle.edif_spec.specs.Stands.{CellFault, CellTypeFault, ViewFault}
 use Rattle.edif_spec.specs.Stands as stands
 use Rattle.edif_spec.specs.declared.keyword.Keyword.TheVariants as keywords
 use Rattle.edif_tree.specs.Handles.{here, all}
 use Rattle.edif_tree.specs.declared.node.Node.{Node}
 use Rattle.edif_build.specs.Cells.{OneNode, ReadCell, ViewsFault}
+use Rattle.edif_build.specs.Headings.{HeadingFault, ReadHeading}
 use Rattle.edif_grammar.specs.Forms.{ArePartsOf}
 use Rattle.edif_grammar.specs.declared.lent.Form.{Form}
 use Rattle.edif_parts.proofs.Answering.{hand_on}
@@ -43,29 +40,30 @@ at-requires c = omega (arith, (nodes (here c.args.node) c.in_ok-parts.parts c.in
 pub at-requires-2 : goal.at-requires-2
 at-requires-2 c = omega (arith, (nodes (here c.args.node) c.in_ok-parts.parts c.in_ok-found.found c.in_ok-parts.ensures c.in_ok-found.ensures).count)
 
-pub read_name-requires : goal.read_name-requires
-read_name-requires c = ((nodes (here c.args.node) c.in_ok-parts.parts c.in_ok-found.found c.in_ok-parts.ensures c.in_ok-found.ensures).a (here c.at.result) c.at.ensures).is
-
-pub returns-in_err-name : goal.returns-in_err-name
-returns-in_err-name c =
-    let t = here c.args.node in
-    let u = here c.at.result in
-    let n = nodes t c.in_ok-parts.parts c.in_ok-found.found c.in_ok-parts.ensures c.in_ok-found.ensures in
-    hand_on (ReadCell c.args.libs.now.libs (Some c.args.own) t) (NameFault u) (CellFault c.args.libs.now.libs (Some c.args.own) t) c.from_residual-in_err-name.result c.in_err-name.field-0.0 c.from_residual-in_err-name.ensures.1
-    (λ f b. stands.cell_name (u, (n.a u c.at.ensures).at, b)) c.in_err-name.ensures
-
 pub read_kind-requires : goal.read_kind-requires
 read_kind-requires c =
-    let u = here c.at-2.result in
-    form_choice keywords.CellType u ((nodes (here c.args.node) c.in_ok-parts.parts c.in_ok-found.found c.in_ok-parts.ensures c.in_ok-found.ensures).b u c.at-2.ensures).is
+    let u = here c.at.result in
+    form_choice keywords.CellType u ((nodes (here c.args.node) c.in_ok-parts.parts c.in_ok-found.found c.in_ok-parts.ensures c.in_ok-found.ensures).b u c.at.ensures).is
 
 pub returns-in_err-kind : goal.returns-in_err-kind
 returns-in_err-kind c =
     let t = here c.args.node in
-    let u = here c.at-2.result in
-    let a = (nodes t c.in_ok-parts.parts c.in_ok-found.found c.in_ok-parts.ensures c.in_ok-found.ensures).b u c.at-2.ensures in
+    let u = here c.at.result in
+    let a = (nodes t c.in_ok-parts.parts c.in_ok-found.found c.in_ok-parts.ensures c.in_ok-found.ensures).b u c.at.ensures in
     hand_on (ReadCell c.args.libs.now.libs (Some c.args.own) t) (CellTypeFault u) (CellFault c.args.libs.now.libs (Some c.args.own) t) c.from_residual-in_err-kind.result c.in_err-kind.field-0.0 c.from_residual-in_err-kind.ensures.1
     (λ f b. stands.cell_type (u, a.at, form_choice keywords.CellType u a.is, b)) c.in_err-kind.ensures
+
+pub read_heading-requires : goal.read_heading-requires
+read_heading-requires c = ((nodes (here c.args.node) c.in_ok-parts.parts c.in_ok-found.found c.in_ok-parts.ensures c.in_ok-found.ensures).a (here c.at-2.result) c.at-2.ensures).is
+
+pub returns-in_err-heading : goal.returns-in_err-heading
+returns-in_err-heading c =
+    let t = here c.args.node in
+    let u = here c.at-2.result in
+    let n = nodes t c.in_ok-parts.parts c.in_ok-found.found c.in_ok-parts.ensures c.in_ok-found.ensures in
+    hand_on (ReadCell c.args.libs.now.libs (Some c.args.own) t) (HeadingFault u (all c.in_ok-parts.parts.inner)) (CellFault c.args.libs.now.libs (Some c.args.own) t)
+    c.from_residual-in_err-heading.result c.in_err-heading.field-0.0 c.from_residual-in_err-heading.ensures.1
+    (λ f b. (let F : List Placed → Type 0 = λ v. HeadingFault u v f in elim (subst F c.in_ok-parts.ensures.inner b) [ inl x ↦ stands.cell_name (u, (n.a u c.at-2.ensures).at, x) | inr x ↦ stands.cell_properties x ])) c.in_err-heading.ensures
 
 pub read_view-requires : goal.read_view-requires
 read_view-requires c = is_view (all c.in_ok-parts.parts.inner) (here c.in_ok-found.found) c.in_ok-found.ensures
@@ -79,15 +77,8 @@ returns-in_err-view c =
     hand_on (ReadCell libs (Some c.args.own) t) (ViewFault libs (Some c.args.own) u) (CellFault libs (Some c.args.own) t) c.from_residual-in_err-view.result c.in_err-view.field-0.0 c.from_residual-in_err-view.ensures.1
     (λ f b. view_fails_there libs (Some c.args.own) t u f o b) c.in_err-view.ensures
 
-pub returns-in_err-properties : goal.returns-in_err-properties
-returns-in_err-properties c =
-    let t = here c.args.node in
-    hand_on (ReadCell c.args.libs.now.libs (Some c.args.own) t) (PropertiesFault (those_of keywords.Property (all c.in_ok-parts.parts.inner))) (CellFault c.args.libs.now.libs (Some c.args.own) t)
-    c.from_residual-in_err-properties.result c.in_err-properties.field-0.0 c.from_residual-in_err-properties.ensures.1
-    (λ f b. (let F : List Placed → Type 0 = λ v. PropertiesFault (those_of keywords.Property v) f in stands.cell_properties (subst F c.in_ok-parts.ensures.inner b))) c.in_err-properties.ensures
-
 pub cell_of-requires-clause-ports : goal.cell_of-requires-clause-ports
-cell_of-requires-clause-ports c = c.in_ok-view.ensures.interface.names
+cell_of-requires-clause-ports c = c.in_ok-view.ensures.body.interface.names
 
 pub cell_of-requires-clause-insts : goal.cell_of-requires-clause-insts
 cell_of-requires-clause-insts c = view_names c.args.libs.now.libs (Some c.args.own) (here c.in_ok-found.found) c.in_ok-view.view c.in_ok-view.ensures
@@ -95,12 +86,13 @@ cell_of-requires-clause-insts c = view_names c.args.libs.now.libs (Some c.args.o
 pub returns : goal.returns
 returns c =
     let t = here c.args.node in
-    let u = here c.at.result in
-    let v = here c.at-2.result in
+    let u = here c.at-2.result in
+    let v = here c.at.result in
     let h = c.in_ok-parts.ensures in
     let o = view_of t c.in_ok-parts.parts c.in_ok-found.found h c.in_ok-found.ensures in
     let n = nodes t c.in_ok-parts.parts c.in_ok-found.found h c.in_ok-found.ensures in
-    let m = c.in_ok-name.ensures in
-    let M : List Placed → Type 0 = λ ts. MeansProperties (map bare ts) c.in_ok-properties.properties × All IsTypedProperty c.in_ok-properties.properties × HasDistinctKeys c.in_ok-properties.properties in
-    cell_means c.args.libs.now.libs (Some c.args.own) t (here c.in_ok-found.found) u v c.in_ok-name.name c.in_ok-kind.kind c.in_ok-properties.properties c.in_ok-view.view c.cell_of.result (n.form u v c.at.ensures c.at-2.ensures) m c.in_ok-kind.ensures o
-    c.in_ok-view.ensures (subst M h.inner c.in_ok-properties.ensures) (defined_first t u (n.a u c.at.ensures).at) c.cell_of.ensures.cell c.cell_of.ensures.place
+    let x = c.in_ok-heading.heading in
+    let H : List Placed → Type 0 = λ ts. ReadHeading u ts x in
+    let m = subst H h.inner c.in_ok-heading.ensures in
+    cell_means c.args.libs.now.libs (Some c.args.own) t (here c.in_ok-found.found) u v x.name c.in_ok-kind.kind x.properties c.in_ok-view.view c.cell_of.result (n.form u v c.at-2.ensures c.at.ensures) m.name c.in_ok-kind.ensures o
+    c.in_ok-view.ensures m.properties (defined_first t u (n.a u c.at-2.ensures).at) c.cell_of.ensures.cell c.cell_of.ensures.place

@@ -1,4 +1,4 @@
-use Rattle.std.proofs.Common.{◌≡◌, ◌<◌, ◌≤◌, List, [], ◌∷◌, ◌++◌, length, sym, ap, ◌∙◌, subst, arith}
+use Rattle.std.proofs.Common.{◌<◌, ◌≤◌, ℕ, List, [], ◌∷◌, ◌++◌, length, refl, sym, ◌∙◌, subst, arith}
 use Rattle.edif_spec.specs.Design as design
 use Rattle.edif_spec.specs.Stands.{NoteFault}
 use Rattle.edif_tree.specs.Handles.{here}
@@ -21,13 +21,13 @@ returns-in_err-note c = λ ts h.
     hand_on (λ _. AreNoted c.args.libs.now.libs c.args.top (ts ++ t ∷ []) c.args.notes.now.items c.args.keys.now) (NoteFault c.args.libs.now.libs c.args.top t) (FailsBehind c.args.libs.now.libs c.args.top ts t) c.from_residual.result c.in_err-note.field-0.0
     c.from_residual.ensures.1 (λ f b. noted_fails c.args.libs.now.libs c.args.top ts t f b) c.in_err-note.ensures
 
-pub returns-in_err-add : goal.returns-in_err-add
-returns-in_err-add c = λ ts h.
+pub returns-in_err-add_key : goal.returns-in_err-add_key
+returns-in_err-add_key c = λ ts h.
     let t = here c.args.node in
     let n = c.in_ok-note.note in
-    let e : c.in_ok-key.key.items ≡ flat n.note.path n.note.property.key.id = c.in_ok-key.ensures ∙ ap (λ v. flat v n.note.property.key.id) c.as_slice.ensures in
-    hand_on (λ _. AreNoted c.args.libs.now.libs c.args.top (ts ++ t ∷ []) c.args.notes.now.items c.add.new.self) (IsAgain c.args.keys.now c.in_ok-key.key.items n.place) (FailsBehind c.args.libs.now.libs c.args.top ts t) c.from_residual-in_err-add.result c.in_err-add.field-0.0
-    c.from_residual-in_err-add.ensures.1 (λ f b. noted_again c.args.libs.now.libs c.args.top ts c.args.notes.now.items c.args.keys.now t n.note c.in_ok-key.key.items n.place f h c.in_ok-note.ensures e b) c.in_err-add.ensures.err
+    let key : List ℕ = flat n.note.path n.note.property.key.id in
+    hand_on (λ _. AreNoted c.args.libs.now.libs c.args.top (ts ++ t ∷ []) c.args.notes.now.items c.add_key.new.keys) (IsAgain c.args.keys.now key n.place) (FailsBehind c.args.libs.now.libs c.args.top ts t) c.from_residual-in_err-add_key.result c.in_err-add_key.field-0.0
+    c.from_residual-in_err-add_key.ensures.1 (λ f b. noted_again c.args.libs.now.libs c.args.top ts c.args.notes.now.items c.args.keys.now t n.note key n.place f h c.in_ok-note.ensures refl b) c.in_err-add_key.ensures
 
 pub returns : goal.returns
 returns c = λ ts h.
@@ -35,6 +35,6 @@ returns c = λ ts h.
     let n = c.in_ok-note.note in
     let k = c.args.notes.now.ok.0 in
     let l : length c.args.notes.now.items < 1048576 = omega arith in
-    let e : c.in_ok-key.key.items ≡ flat n.note.path n.note.property.key.id = c.in_ok-key.ensures ∙ ap (λ v. flat v n.note.property.key.id) c.as_slice.ensures in
-    let P : List design.Note → Type 0 = λ v. AreNoted c.args.libs.now.libs c.args.top (ts ++ t ∷ []) v c.add.new.self in
-    subst P (sym c.in_ok-push.ensures.items) (noted_push c.args.libs.now.libs c.args.top ts c.args.notes.now.items c.args.keys.now c.add.new.self t n.note c.in_ok-key.key.items n.place h c.in_ok-note.ensures e c.in_ok-add.ensures.ok l)
+    let key : List ℕ = flat n.note.path n.note.property.key.id in
+    let P : List design.Note → Type 0 = λ v. AreNoted c.args.libs.now.libs c.args.top (ts ++ t ∷ []) v c.add_key.new.keys in
+    subst P (sym c.in_ok-push.ensures.items) (noted_push c.args.libs.now.libs c.args.top ts c.args.notes.now.items c.args.keys.now c.add_key.new.keys t n.note key n.place h c.in_ok-note.ensures refl c.in_ok-add_key.ensures l)

@@ -1,5 +1,5 @@
-use Rattle.std.proofs.Common.{◌≡◌, ◌<◌, ℕ, List, length, sym, ap, ◌∙◌, subst, arith}
-use Rattle.netlist_schema.specs.Ident.{IsIdentifier}
+use Rattle.std.proofs.Common.{◌≡◌, ◌<◌, ℕ, List, length, refl, sym, ap, ◌∙◌, subst, arith}
+use Rattle.edif_spec.specs.Design as design
 use Rattle.edif_spec.specs.Faults.{arguments}
 use Rattle.edif_spec.specs.Stands.{StepFault, PathFault}
 use Rattle.edif_tree.specs.Handles.{here}
@@ -19,27 +19,24 @@ loop-step-init c =
     let P : List (List ℕ) → Type 0 = λ v. Onward c.args.libs.now.libs c.args.top ts (left c.into_iter-step-iterator.result) c.args.top v in
     (tt, tt, subst P (sym c.new-path.ensures.items) (onward_start c.args.libs.now.libs c.args.top ts (left c.into_iter-step-iterator.result) e))
 
-pub returns-in_err-inst : goal.returns-in_err-inst
-returns-in_err-inst c =
+pub returns-in_err-id : goal.returns-in_err-id
+returns-in_err-id c =
     let t = here c.args.node in
     let u = here c.in-Some-step.step in
     let libs = c.args.libs.now.libs in
-    hand_on (ReadPath libs c.args.top t) (StepFault libs c.loop-step.id (λ _. ⊥) u) (PathFault libs c.args.top t) c.from_residual.result c.in_err-inst.field-0.0 c.from_residual.ensures.1
-    (λ f b. path_fails libs c.args.top t f (onward_fails libs c.args.top (arguments t) (left c.loop-step.step-iterator) (left c.next.new.self) c.loop-step.id _ u f c.loop-step.invariant.2 c.in-Some-step.ensures.steps b)) c.in_err-inst.ensures
+    hand_on (ReadPath libs c.args.top t) (StepFault libs c.loop-step.id (λ _. ⊥) u) (PathFault libs c.args.top t) c.from_residual.result c.in_err-id.field-0.0 c.from_residual.ensures.1
+    (λ f b. path_fails libs c.args.top t f (onward_fails libs c.args.top (arguments t) (left c.loop-step.step-iterator) (left c.next.new.self) c.loop-step.id _ u f c.loop-step.invariant.2 c.in-Some-step.ensures.steps b)) c.in_err-id.ensures
 
 pub loop-step-preserved : goal.loop-step-preserved
 loop-step-preserved c =
     let ts = arguments (here c.args.node) in
     let u = here c.in-Some-step.step in
-    let x = c.in_ok-inst.inst.now in
-    let P : List (List ℕ) → Type 0 = λ v. Onward c.args.libs.now.libs c.args.top ts (left c.next.new.self) x.of v in
-    let I : List ℕ → Type 0 = IsIdentifier in (
-      tt,
-      tt,
-      subst P (sym c.in_ok-push.ensures.items)
-          (onward_step c.args.libs.now.libs c.args.top ts (left c.loop-step.step-iterator) (left c.next.new.self) c.loop-step.id c.loop-step.path.items u x c.in_ok-name.name c.loop-step.invariant.2 c.in-Some-step.ensures.steps c.in_ok-inst.ensures c.in_ok-name.ensures.same
-          (subst I (sym c.in_ok-name.ensures.same) c.in_ok-name.ensures.typed)),
-    )
+    let libs = c.args.libs.now.libs in
+    let k = c.in_ok-id.ensures in
+    let us = left c.next.new.self in
+    let P : List (List ℕ) → Type 0 = λ v. Onward libs c.args.top ts us k.inst.of v in
+    let Q : design.CellId → Type 0 = λ v. Onward libs c.args.top ts us v c.add_step.new.path.items in
+    (tt, tt, subst Q (sym k.leads) (subst P (sym k.list) (onward_step libs c.args.top ts (left c.loop-step.step-iterator) us c.loop-step.id c.loop-step.path.items u k.inst k.inst.name.id c.loop-step.invariant.2 c.in-Some-step.ensures.steps k.means refl k.typed)))
 
 pub returns : goal.returns
 returns c =

@@ -5,7 +5,7 @@ use Rattle.edif_tree.specs.Handles.{all}
 use Rattle.edif_tree.specs.Eaches.{left}
 use Rattle.edif_build.specs.Notes.{AreNoted}
 use Rattle.edif_build.proofs.FilterSteps.{passing}
-use Rattle.edif_build.proofs.notes.read_notes.Given as goal
+use Rattle.edif_build.proofs.notes.add_notes.Given as goal
 
 abbrev pub invariant-loop-node : goal.invariant-loop-node
 invariant-loop-node l =

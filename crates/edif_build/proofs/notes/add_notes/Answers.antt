@@ -8,10 +8,10 @@ use Rattle.edif_parts.proofs.Answering.{hand_on}
 use Rattle.edif_parts.proofs.Steps.{ended, stepped}
 use Rattle.edif_build.proofs.FilterSteps.{passing, passing_kept, passing_skipped, passing_all}
 use Rattle.edif_build.proofs.NotedLemmas.{noted_end, noted_start}
-use Rattle.edif_build.proofs.notes.read_notes.Goals as goal
+use Rattle.edif_build.proofs.notes.add_notes.Goals as goal
 
 pub loop-node-init : goal.loop-node-init
-loop-node-init c = (tt, tt, ([], sym (ap left c.into_iter-node-iterator.ensures.into_iter_gives ∙ c.iter-node-items.ensures), rw (c.new-notes.ensures.items, c.new-keys.ensures) (noted_start c.args.libs.now.libs c.args.top)))
+loop-node-init c = (tt, tt, ([], sym (ap left c.into_iter-node-iterator.ensures.into_iter_gives ∙ c.iter-node-items.ensures), rw (c.new-notes.ensures.items, c.requires) (noted_start c.args.libs.now.libs c.args.top)))
 
 pub add_note-requires : goal.add_note-requires
 add_note-requires c = let e = c.is_note.ensures in cc
