@@ -1,12 +1,15 @@
 //! Keywords, and how forms fit the table.
+use crate::checks::same;
 use crate::trees::tree_of;
-use edif_grammar::{EdifFormError, Keyword, form, keyword};
+use edif_grammar::{EdifFormError, Form, Keyword, form, keyword};
+use edif_tree::Tree;
 use netlist_schema::Ident;
-use std::alloc::Global;
+use std::alloc::{AllocError, Global};
+use std::process::Abort;
 use std::test::Fail;
 
 /// A form that fits, the form that holds it, its keyword, and how many fixed arguments and followers it has.
-const FITTING: [(&str, Option<Keyword>, &str); 10] = [
+static FITTING: [(&str, Option<Keyword>, &str); 10] = [
     (
         "(EDIF e (EdifVersion 2 0 0) (ediflevel 0) (KEYWORDMAP (keywordlevel 0)) (comment \"c\") (userData x (anything 1)))",
         None,
@@ -52,7 +55,7 @@ const FITTING: [(&str, Option<Keyword>, &str); 10] = [
 ];
 
 /// A form that does not fit, the form that holds it, and why.
-const FAILING: [(&str, Option<Keyword>, &str); 16] = [
+static FAILING: [(&str, Option<Keyword>, &str); 16] = [
     (
         "(PortBundle p)",
         Some(Keyword::Interface),
@@ -95,36 +98,59 @@ const FAILING: [(&str, Option<Keyword>, &str); 16] = [
     ),
 ];
 
+/// A fault of a form, in words.
+fn told(alloc: Global, error: &EdifFormError) -> Result<String, AllocError> {
+    match error {
+        EdifFormError::NotInProfile { keyword, place } => {
+            let keyword = String::from_utf8_lossy(alloc, keyword.as_slice())?;
+            format!(in alloc; "{keyword} at {place}")
+        }
+        EdifFormError::BadForm { place } => format!(in alloc; "BadForm at {place}"),
+        EdifFormError::NoMemory => format!(in alloc; "no memory"),
+    }
+}
+
+fn counted(alloc: Global, parts: &Form) -> Result<String, AllocError> {
+    let counts = (parts.fixed.len(), parts.inner.len());
+    format!(in alloc; "{:?} {} {}", parts.keyword, counts.0, counts.1)
+}
+
+fn told_or_counted(
+    alloc: Global,
+    answer: &Result<Form, EdifFormError>,
+) -> Result<String, AllocError> {
+    match answer {
+        Ok(parts) => counted(alloc, parts),
+        Err(error) => told(alloc, error),
+    }
+}
+
+/// What is answered of the form of a tree.
+fn answer_of(alloc: Global, tree: &Tree, parent: Option<Keyword>) -> Result<String, Fail> {
+    let answer = form(alloc, tree.root(), parent);
+    Ok(told_or_counted(alloc, &answer)?)
+}
+
 /// What is answered of the form of a text.
 fn answer(alloc: Global, text: &str, parent: Option<Keyword>) -> Result<String, Fail> {
-    let tree = tree_of(alloc, text)?.ok().ok_or("no tree")?;
-    let answer = match form(alloc, tree.root(), parent) {
-        Ok(parts) => {
-            let counts = (parts.fixed.len(), parts.inner.len());
-            format!(in alloc; "{:?} {} {}", parts.keyword, counts.0, counts.1)?
-        }
-        Err(EdifFormError::NotInProfile { keyword, place }) => {
-            let keyword = String::from_utf8_lossy(alloc, keyword.as_slice())?;
-            format!(in alloc; "{keyword} at {place}")?
-        }
-        Err(EdifFormError::BadForm { place }) => format!(in alloc; "BadForm at {place}")?,
-        Err(EdifFormError::NoMemory) => format!(in alloc; "no memory")?,
-    };
-    Ok(answer)
+    let tree = tree_of(alloc, text)?;
+    answer_of(alloc, &tree, parent)
 }
 
-/// The texts whose answer is another than the one that is wanted.
-fn missed(alloc: Global) -> Result<String, Fail> {
-    let mut missed = String::new(alloc);
-    for (text, parent, want) in FITTING.iter().chain(&FAILING) {
-        if answer(alloc, text, *parent)?.as_str() != *want {
-            missed.push_str(text)?;
-        }
-    }
-    Ok(missed)
+/// Checks what is answered of a form.
+fn check(rt: &impl Abort, alloc: Global, row: &(&str, Option<Keyword>, &str)) -> Result<(), Fail> {
+    let answer = answer(alloc, row.0, row.1)?;
+    same(rt, &answer.as_str(), &row.2, row.0);
+    Ok(())
 }
 
-/// What a name spells.
+/// A name, and what it spells.
+static KEYWORDS: [(&str, Option<Keyword>); 3] = [
+    ("eDiFVERSION", Some(Keyword::EdifVersion)),
+    ("userdata", Some(Keyword::UserData)),
+    ("portBundle", None),
+];
+
 fn keyword_of(alloc: Global, name: &[u8]) -> Result<Option<Keyword>, Fail> {
     let name = Ident::of(alloc, name)?.ok_or("no identifier")?;
     Ok(keyword(&name))
@@ -132,16 +158,20 @@ fn keyword_of(alloc: Global, name: &[u8]) -> Result<Option<Keyword>, Fail> {
 
 #[test]
 fn forms_fit_or_fail(rt: HostRuntime) -> Result<(), Fail> {
-    let missed = missed(rt.alloc())?;
-    assert_eq!(rt; missed.as_str(), "");
+    for row in &FITTING {
+        check(&rt, rt.alloc(), row)?;
+    }
+    for row in &FAILING {
+        check(&rt, rt.alloc(), row)?;
+    }
     Ok(())
 }
 
 #[test]
 fn keywords_are_told_in_any_case(rt: HostRuntime) -> Result<(), Fail> {
-    let alloc = rt.alloc();
-    assert!(rt; keyword_of(alloc, b"eDiFVERSION")? == Some(Keyword::EdifVersion));
-    assert!(rt; keyword_of(alloc, b"userdata")? == Some(Keyword::UserData));
-    assert!(rt; keyword_of(alloc, b"portBundle")?.is_none());
+    for (name, want) in &KEYWORDS {
+        let keyword = keyword_of(rt.alloc(), name.as_bytes())?;
+        same(&rt, &keyword, want, name);
+    }
     Ok(())
 }

@@ -1,4 +1,5 @@
 //! Files and sinks, in memory and of the system.
+use crate::checks::same;
 use netdb_outside::host_files::read_retrying;
 use netdb_outside::{
     BufferedSink, Contents, Files, FreeGate, Gate, Got, HostFiles, HostOut, MemFiles, MemSink,
@@ -28,12 +29,23 @@ fn named(alloc: Global, name: &[u8], bytes: Vec<u8>) -> Result<NamedFile, AllocE
     })
 }
 
+/// Adds a file of so many bytes.
+fn add(
+    alloc: Global,
+    name: &[u8],
+    count: usize,
+    files: &mut Vec<NamedFile>,
+) -> Result<(), AllocError> {
+    let bytes = run_of(alloc, b'x', count)?;
+    Ok(files.push(named(alloc, name, bytes)?)?)
+}
+
 /// Three files: `short` of five bytes, `empty`, and `long` of 100,000.
 fn three_files(alloc: Global) -> Result<Vec<NamedFile>, AllocError> {
     let mut files = Vec::new(alloc);
-    files.push(named(alloc, b"short", b"hello".to_vec(alloc)?)?)?;
-    files.push(named(alloc, b"empty", Vec::new(alloc))?)?;
-    files.push(named(alloc, b"long", run_of(alloc, b'x', 100_000)?)?)?;
+    add(alloc, b"short", 5, &mut files)?;
+    add(alloc, b"empty", 0, &mut files)?;
+    add(alloc, b"long", 100_000, &mut files)?;
     Ok(files)
 }
 
@@ -49,7 +61,9 @@ fn told(contents: &Contents) -> (&'static str, usize) {
 }
 
 /// A name, a limit, the number of the call that fails, and what reading gives.
-const READINGS: [(&str, u64, u64, (&str, usize)); 14] = [
+type Reading = (&'static str, u64, u64, (&'static str, usize));
+
+static READINGS: [Reading; 14] = [
     ("short", 5, 0, ("bytes", 5)),
     ("short", u64::MAX, 0, ("bytes", 5)),
     ("short", 4, 0, ("too large", 0)),
@@ -66,53 +80,102 @@ const READINGS: [(&str, u64, u64, (&str, usize)); 14] = [
     ("long", 100_000, 3, ("failed", 0)),
 ];
 
+/// Checks what reading a file within a limit gives.
+fn reads<F: Files>(
+    rt: &impl Abort,
+    alloc: Global,
+    files: &mut F,
+    name: &str,
+    limit: u64,
+    want: (&'static str, usize),
+) {
+    let contents = read_file(alloc, files, name, limit);
+    same(rt, &told(&contents), &want, name);
+}
+
+/// Files of different names.
+fn in_memory(rt: &impl Abort, files: Vec<NamedFile>, failing: Vec<u64>) -> MemFiles {
+    assert!(rt; names_differ(&files));
+    MemFiles::new(Row::of(files), Row::of(failing))
+}
+
+/// The three files, of whose calls one fails.
+fn failing_files(rt: &impl Abort, alloc: Global, failing: u64) -> Result<MemFiles, Fail> {
+    let failing = vec![in alloc; failing]?;
+    let files = three_files(alloc)?;
+    Ok(in_memory(rt, files, failing))
+}
+
+/// Checks what reading one of the three files gives.
+fn memory_reads(rt: &impl Abort, alloc: Global, reading: &Reading) -> Result<(), Fail> {
+    let (name, limit, failing, want) = *reading;
+    let mut files = failing_files(rt, alloc, failing)?;
+    reads(rt, alloc, &mut files, name, limit, want);
+    Ok(())
+}
+
 #[test]
 fn files_in_memory_are_read_within_a_limit(rt: HostRuntime) -> Result<(), Fail> {
-    let alloc = rt.alloc();
-    for (name, limit, failing, want) in READINGS {
-        let files = three_files(alloc)?;
-        assert!(rt; names_differ(files.as_slice()));
-        let mut files = MemFiles::new(Row::of(files), Row::of(vec![in alloc; failing]?));
-        let contents = read_file(alloc, &mut files, name, limit);
-        assert_eq!(rt; told(&contents), want, "{name} {limit} {failing}");
+    for reading in &READINGS {
+        memory_reads(&rt, rt.alloc(), reading)?;
     }
     Ok(())
 }
 
-/// What a sink in memory of a length answers to a second piece, and what it holds then.
-fn second_put(rt: &impl Abort, alloc: Global, length: Option<u64>, want: (Put, &[u8])) {
-    let mut sink = MemSink::new(alloc, length);
+/// What a sink in memory answers to a second piece, and what it holds then.
+fn second_put(rt: &impl Abort, sink: &mut MemSink, want: (Put, &[u8])) {
     let first = sink.put(b"ab");
     let second = sink.put(b"cd");
-    assert_eq!(rt; (first, second), (Put::Put, want.0));
-    assert_eq!(rt; sink.written(), want.1);
+    same(rt, &(first, second), &(Put::Put, want.0), "two pieces");
+    assert!(rt; sink.written() == want.1);
 }
 
-/// What bytes in two pieces give, by way of a buffer: what was written before the end and after it, and the answer.
-fn buffered(
-    alloc: Global,
-    length: Option<u64>,
-    count: usize,
-) -> Result<(usize, usize, Result<(), WriteError>), AllocError> {
-    let mut sink = MemSink::new(alloc, length);
-    let mut buffer = BufferedSink::new(alloc);
-    buffer.put(b"ab", &mut sink);
-    buffer.put(&run_of(alloc, b'x', count)?, &mut sink);
+/// The length of a sink, what it answers to the second piece, and what it holds then.
+static PUTS: [(Option<u64>, Put, &[u8]); 3] = [
+    (None, Put::Put, b"abcd"),
+    (Some(4), Put::Put, b"abcd"),
+    (Some(3), Put::Failed, b"abc"),
+];
+
+/// The number of bytes that were written before the end of a buffer and after it, and the answer.
+type Buffered = (usize, usize, Result<(), WriteError>);
+
+/// Puts two pieces into a buffer.
+fn buffer_two(mut buffer: BufferedSink, sink: &mut MemSink, second: &[u8]) -> Buffered {
+    buffer.put(b"ab", sink);
+    buffer.put(second, sink);
     let before = sink.written().len();
-    let answer = buffer.finish(&mut sink);
-    Ok((before, sink.written().len(), answer))
+    let answer = buffer.finish(sink);
+    (before, sink.written().len(), answer)
+}
+
+/// What bytes in two pieces give, by way of a buffer, in a sink of this length.
+fn buffered(alloc: Global, length: Option<u64>, count: usize) -> Result<Buffered, AllocError> {
+    let second = run_of(alloc, b'x', count)?;
+    let mut sink = MemSink::new(alloc, length);
+    Ok(buffer_two(BufferedSink::new(alloc), &mut sink, &second))
+}
+
+/// The length of a sink, the number of bytes of the second piece, and what comes of the two in a buffer.
+static BUFFERED: [(Option<u64>, usize, Buffered); 3] = [
+    (None, 10, (0, 12, Ok(()))),
+    (None, 10_000, (10_002, 10_002, Ok(()))),
+    (Some(5), 10, (0, 5, Err(WriteError::WriteFault))),
+];
+
+#[test]
+fn a_sink_in_memory_holds_at_most_its_length(rt: HostRuntime) {
+    for (length, put, held) in &PUTS {
+        second_put(&rt, &mut MemSink::new(rt.alloc(), *length), (*put, held));
+    }
 }
 
 #[test]
-fn a_sink_in_memory_holds_at_most_its_length(rt: HostRuntime) -> Result<(), Fail> {
-    let alloc = rt.alloc();
-    second_put(&rt, alloc, None, (Put::Put, b"abcd"));
-    second_put(&rt, alloc, Some(4), (Put::Put, b"abcd"));
-    second_put(&rt, alloc, Some(3), (Put::Failed, b"abc"));
-    assert_eq!(rt; buffered(alloc, None, 10)?, (0, 12, Ok(())));
-    assert_eq!(rt; buffered(alloc, None, 10_000)?, (10_002, 10_002, Ok(())));
-    let fault = Err(WriteError::WriteFault);
-    assert_eq!(rt; buffered(alloc, Some(5), 10)?, (0, 5, fault));
+fn a_buffer_is_written_when_it_is_full_and_at_its_end(rt: HostRuntime) -> Result<(), Fail> {
+    for (length, count, want) in &BUFFERED {
+        let buffered = buffered(rt.alloc(), *length, *count)?;
+        same(&rt, &buffered, want, "two pieces");
+    }
     Ok(())
 }
 
@@ -132,28 +195,38 @@ impl Read for Interrupted {
     }
 }
 
-#[test]
-fn files_of_the_system_are_read(rt: HostRuntime) -> Result<(), Fail> {
-    let alloc = rt.alloc();
-    let name = "three_lines.txt";
-    fs::write(&rt, name, b"one\ntwo\nthree\n")?;
-    let mut files = HostFiles::new(&rt);
-    match read_file(alloc, &mut files, name, 20) {
-        Contents::Bytes(text) => assert_eq!(rt; text.as_slice(), b"one\ntwo\nthree\n".as_slice()),
-        other => panic!(rt; "{other:?}"),
+const LINES: &[u8] = b"one\ntwo\nthree\n";
+
+/// A name, a limit, and what reading gives.
+static OF_SYSTEM: [(&str, u64, (&str, usize)); 4] = [
+    ("three_lines.txt", 14, ("bytes", 14)),
+    ("three_lines.txt", 13, ("too large", 0)),
+    (".", 20, ("failed", 0)),
+    ("nowhere.txt", 20, ("missing", 0)),
+];
+
+fn are_lines(contents: &Contents) -> bool {
+    match contents {
+        Contents::Bytes(text) => text.as_slice() == LINES,
+        _ => false,
     }
-    let rows = [
-        (name, 14, ("bytes", 14)),
-        (name, 13, ("too large", 0)),
-        (".", 20, ("failed", 0)),
-        ("nowhere.txt", 20, ("missing", 0)),
-    ];
-    for (name, limit, want) in rows {
-        let contents = read_file(alloc, &mut files, name, limit);
-        assert_eq!(rt; told(&contents), want, "{name} {limit}");
+}
+
+/// Reads a file that has the lines, and others.
+fn system_reads<F: Files>(rt: &impl Abort, alloc: Global, files: &mut F) {
+    let are_lines = are_lines(&read_file(alloc, files, "three_lines.txt", 20));
+    assert!(rt; are_lines);
+    for (name, limit, want) in &OF_SYSTEM {
+        reads(rt, alloc, files, name, *limit, *want);
     }
     assert_eq!(rt; files.read(&mut [0; 4]), Got::End);
-    fs::remove_file(&rt, name)?;
+}
+
+#[test]
+fn files_of_the_system_are_read(rt: HostRuntime) -> Result<(), Fail> {
+    fs::write(&rt, "three_lines.txt", LINES)?;
+    system_reads(&rt, rt.alloc(), &mut HostFiles::new(&rt));
+    fs::remove_file(&rt, "three_lines.txt")?;
     let mut file = Interrupted { times: 3 };
     assert_eq!(rt; read_retrying(&mut file, &mut [0; 4])?, 4);
     Ok(())
@@ -193,8 +266,11 @@ fn two_puts(error: ErrorKind) -> (Put, Put) {
 #[test]
 fn the_standard_output_is_given_each_piece(rt: HostRuntime) {
     let mut out = HostOut::new(&rt);
-    assert_eq!(rt; out.put(b"one piece, and a line feed\n"), Put::Put);
-    assert_eq!(rt; two_puts(ErrorKind::BrokenPipe), (Put::Put, Put::Failed));
-    assert_eq!(rt; two_puts(ErrorKind::OutOfMemory), (Put::Put, Put::NoMemory));
+    let put = out.put(b"one piece, and a line feed\n");
+    let failed = two_puts(ErrorKind::BrokenPipe);
+    let refused = two_puts(ErrorKind::OutOfMemory);
+    same(&rt, &put, &Put::Put, "one piece");
+    same(&rt, &failed, &(Put::Put, Put::Failed), "a broken pipe");
+    same(&rt, &refused, &(Put::Put, Put::NoMemory), "no memory");
     FreeGate.reached(0, 1);
 }

@@ -1,59 +1,74 @@
 //! Files, and the designs that they mean or what is wrong with them.
-use crate::lexing::HEAD;
+use crate::checks::{holds, same};
 use crate::trees::tree_of;
 use edif_build::{EdifError, MeaningFault, read_design};
+use edif_tree::Tree;
 use edif_writer::write_design;
 use netdb_outside::MemSink;
-use netlist_schema::{Design, LibId, Shown};
+use netlist_schema::{Design, Ident, LibId, Shown};
 use std::alloc::{AllocError, Global};
+use std::process::Abort;
 use std::test::Fail;
 
+/// A keyword of no form, in words.
+fn told_keyword(alloc: Global, keyword: &Ident, place: u64) -> Result<String, AllocError> {
+    let keyword = String::from_utf8_lossy(alloc, keyword.as_slice())?;
+    format!(in alloc; "not in profile {keyword} {place};")
+}
+
 /// A fault in a few words, with the places of what is wrong, counted from `start` on.
-fn told(alloc: Global, error: &EdifError, start: u64) -> Result<String, AllocError> {
-    match error {
-        EdifError::NoMemory => String::from_str(alloc, "no memory"),
-        EdifError::Fault(MeaningFault::NotInProfile { keyword, place }) => {
-            let keyword = String::from_utf8_lossy(alloc, keyword.as_slice())?;
-            format!(in alloc; "not in profile {keyword} {};", place.wrapping_sub(start))
+fn told_fault(alloc: Global, fault: &MeaningFault, start: u64) -> Result<String, AllocError> {
+    match fault {
+        MeaningFault::NotInProfile { keyword, place } => {
+            told_keyword(alloc, keyword, place.wrapping_sub(start))
         }
-        EdifError::Fault(MeaningFault::At { kind, place }) => {
+        MeaningFault::At { kind, place } => {
             format!(in alloc; "{kind:?} {};", place.wrapping_sub(start))
         }
-        EdifError::Fault(
-            MeaningFault::Clash {
-                kind,
-                place,
-                earlier,
-            },
-        ) => {
+        MeaningFault::Clash {
+            kind,
+            place,
+            earlier,
+        } => {
             let (place, earlier) = (place.wrapping_sub(start), earlier.wrapping_sub(start));
             format!(in alloc; "{kind:?} {place} {earlier};")
         }
-        EdifError::Fault(MeaningFault::OverLimit { limit, place }) => {
+        MeaningFault::OverLimit { limit, place } => {
             format!(in alloc; "over {limit} {};", place.wrapping_sub(start))
         }
     }
 }
 
-/// The design that a text means, or what is wrong with it, its places counted from `start` on.
-fn read(alloc: Global, text: &str, start: usize) -> Result<Result<Design, String>, Fail> {
-    let tree = tree_of(alloc, text)?.ok().ok_or("no tree")?;
-    match read_design(alloc, &tree) {
-        Ok(design) => Ok(Ok(design)),
-        Err(error) => Ok(Err(told(alloc, &error, start as u64)?)),
+fn told(alloc: Global, error: &EdifError, start: u64) -> Result<String, AllocError> {
+    match error {
+        EdifError::NoMemory => String::from_str(alloc, "no memory"),
+        EdifError::Fault(fault) => told_fault(alloc, fault, start),
     }
 }
 
-/// What is written of the design that a text means, or what is wrong with it.
-fn answer(alloc: Global, text: &str, start: usize) -> Result<String, Fail> {
-    match read(alloc, text, start)? {
-        Ok(design) => {
-            let mut out = MemSink::new(alloc, None);
-            write_design(alloc, &design, &mut out)?;
-            Ok(String::from_utf8_lossy(alloc, out.written())?)
-        }
-        Err(fault) => Ok(fault),
+/// Writes a design into a sink, and gives the text.
+fn written_to(alloc: Global, design: &Design, out: &mut MemSink) -> Result<String, Fail> {
+    write_design(alloc, design, out)?;
+    Ok(String::from_utf8_lossy(alloc, out.written())?)
+}
+
+fn written(alloc: Global, design: &Design) -> Result<String, Fail> {
+    let mut out = MemSink::new(alloc, None);
+    written_to(alloc, design, &mut out)
+}
+
+/// What is written of the design that a tree means, or what is wrong with it, its places counted from `start` on.
+fn answer_of(alloc: Global, tree: &Tree, start: u64) -> Result<String, Fail> {
+    match read_design(alloc, tree) {
+        Ok(design) => written(alloc, &design),
+        Err(error) => Ok(told(alloc, &error, start)?),
     }
+}
+
+/// The same of a text.
+fn answer(alloc: Global, text: &str, start: usize) -> Result<String, Fail> {
+    let tree = tree_of(alloc, text)?;
+    answer_of(alloc, &tree, start as u64)
 }
 
 /// Whether a piece stands in a text.
@@ -65,22 +80,44 @@ fn has(text: &str, piece: &str) -> bool {
             .any(|part| part == piece.as_bytes())
 }
 
-/// The pieces for which what is wanted does not stand in the answer to the file that has them between `front` and `back`. Places
-/// are counted from the piece on.
-fn missed(alloc: Global, front: &str, back: &str, cases: &[(&str, &str)]) -> Result<String, Fail> {
-    let mut missed = String::new(alloc);
-    for (piece, want) in cases {
-        let text = format!(in alloc; "{front}{piece}{back}")?;
-        let answer = answer(alloc, &text, front.len())?;
-        if !has(&answer, want) {
-            missed.push_str(&format!(in alloc; "{piece} gives {answer}\n")?)?;
-        }
-    }
-    Ok(missed)
+/// The answer to the file that has a piece between `front` and `back`. Places are counted from the piece on.
+fn answer_between(alloc: Global, front: &str, piece: &str, back: &str) -> Result<String, Fail> {
+    let text = format!(in alloc; "{front}{piece}{back}")?;
+    answer(alloc, &text, front.len())
 }
 
-/// What follows HEAD, and what is wrong with it.
-const FAULTS: [(&str, &str); 12] = [
+/// Checks that what is wanted stands in the answer to a piece.
+fn check(
+    rt: &impl Abort,
+    alloc: Global,
+    front: &str,
+    back: &str,
+    case: &(&str, &str),
+) -> Result<(), Fail> {
+    let answer = answer_between(alloc, front, case.0, back)?;
+    holds(rt, has(&answer, case.1), case.0, &answer);
+    Ok(())
+}
+
+fn check_all(
+    rt: &impl Abort,
+    alloc: Global,
+    front: &str,
+    back: &str,
+    cases: &[(&str, &str)],
+) -> Result<(), Fail> {
+    for case in cases {
+        check(rt, alloc, front, back, case)?;
+    }
+    Ok(())
+}
+
+/// The front of a file, up to what follows its head.
+const BEHIND_HEAD: &str =
+    "(edif e (edifVersion 2 0 0) (edifLevel 0) (keywordMap (keywordLevel 0)) ";
+
+/// What follows the head of a file, and what is wrong with it.
+static FAULTS: [(&str, &str); 12] = [
     (
         "(library w (edifLevel 0) (technology) (cell c (cellType GENERIC) (view v (viewType NETLIST) (interface)))) (library w (edifLevel 0) (technology))",
         "Duplicate 116 9;",
@@ -129,7 +166,7 @@ const FAULTS: [(&str, &str); 12] = [
 ];
 
 /// Interfaces, and what is written of them or wrong with them.
-const INTERFACES: [(&str, &str); 17] = [
+static INTERFACES: [(&str, &str); 17] = [
     ("(interface)", "(interface)"),
     (
         "(interface (port a (direction INPUT)) (property p (integer 1)) (port A (direction output) (designator \"7\")) (comment \"c\"))",
@@ -168,7 +205,7 @@ const INTERFACES: [(&str, &str); 17] = [
 ];
 
 /// Properties of a view, and what is written of them or wrong with them.
-const PROPERTIES: [(&str, &str); 11] = [
+static PROPERTIES: [(&str, &str); 11] = [
     (
         "(property a (integer -5)) (comment) (PROPERTY (rename b \"B\") (string \"s\") (owner \"o\"))",
         "(property a (integer -5))\n    (property (rename b \"B\") (string \"s\") (owner \"o\"))",
@@ -201,7 +238,7 @@ const PROPERTIES: [(&str, &str); 11] = [
 ];
 
 /// Whole files, and what is wrong with them.
-const WHOLE: [(&str, &str); 5] = [
+static WHOLE: [(&str, &str); 5] = [
     (
         "(edif f (edifVersion 2 0 1) (edifLevel 0) (keywordMap (keywordLevel 0)))",
         "BadVersion 25;",
@@ -228,54 +265,83 @@ const PROPERTIES_OF_VIEW: &str =
 
 #[test]
 fn files_have_their_faults(rt: HostRuntime) -> Result<(), Fail> {
-    let alloc = rt.alloc();
-    let front = format!(in alloc; "{HEAD} ")?;
-    assert_eq!(rt; missed(alloc, &front, ")", &FAULTS)?.as_str(), "");
-    assert_eq!(rt; missed(alloc, "", "", &WHOLE)?.as_str(), "");
-    Ok(())
+    check_all(&rt, rt.alloc(), BEHIND_HEAD, ")", &FAULTS)?;
+    check_all(&rt, rt.alloc(), "", "", &WHOLE)
 }
 
 #[test]
 fn parts_of_cells_are_read(rt: HostRuntime) -> Result<(), Fail> {
-    let alloc = rt.alloc();
-    assert_eq!(rt; missed(alloc, VIEW, "))))", &INTERFACES)?.as_str(), "");
-    assert_eq!(rt;
-        missed(alloc, PROPERTIES_OF_VIEW, "))))", &PROPERTIES)?.as_str(),
-        ""
-    );
-    Ok(())
+    check_all(&rt, rt.alloc(), VIEW, "))))", &INTERFACES)?;
+    check_all(&rt, rt.alloc(), PROPERTIES_OF_VIEW, "))))", &PROPERTIES)
 }
 
-/// What is answered to a file with a port of 65,536 bits, so many times, its places counted from the first of them on.
-fn wide(alloc: Global, ports: u32) -> Result<String, Fail> {
-    let front = format!(in alloc; "{VIEW}(interface")?;
-    let mut text = front.clone()?;
+/// The front of a file, up to the ports of an interface.
+const INTERFACE: &str =
+    "(edif e (edifVersion 2 0 0) (edifLevel 0) (keywordMap (keywordLevel 0)) (library w (edifLevel 0) (technology) (cell c (cellType GENERIC) (view v (viewType NETLIST) (interface";
+
+/// Appends a port of 65,536 bits.
+fn push_port(alloc: Global, text: &mut String, port: u32) -> Result<(), AllocError> {
+    let port = format!(in alloc; " (port (array p{port:02} 65536))")?;
+    text.push_str(&port)
+}
+
+/// Appends a file with so many such ports.
+fn push_wide(alloc: Global, text: &mut String, ports: u32) -> Result<(), AllocError> {
+    text.push_str(INTERFACE)?;
     for port in 0..ports {
-        text.push_str(&format!(in alloc; " (port (array p{port:02} 65536))")?)?;
+        push_port(alloc, text, port)?;
     }
-    text.push_str(")))))")?;
-    answer(alloc, &text, front.len())
+    text.push_str(")))))")
 }
 
-/// The numbers of libraries, of cells of each and of notes in a design, and the slot of its top.
-fn counts(alloc: Global, text: &str) -> Result<(u32, u32, u32, usize, u32), Fail> {
-    let design = read(alloc, text, 0)?.ok().ok_or("no design")?;
-    let top = design.top().ok_or("no top")?;
-    let (first, second) = (design.cell_count(LibId(0)), design.cell_count(LibId(1)));
-    let notes = design.notes().as_slice().len();
-    Ok((design.lib_count(), first, second, notes, top.cell.slot))
+/// What is answered to that file, its places counted from the first port on.
+fn wide(alloc: Global, ports: u32) -> Result<String, Fail> {
+    let mut text = String::new(alloc);
+    push_wide(alloc, &mut text, ports)?;
+    answer(alloc, &text, INTERFACE.len())
 }
 
 #[test]
-fn whole_designs_are_read(rt: HostRuntime) -> Result<(), Fail> {
-    let alloc = rt.alloc();
-    let text = format!(in alloc; "{HEAD} {DESIGN})")?;
-    assert_eq!(rt; counts(alloc, &text)?, (2, 2, 0, 3, 1));
-    assert!(rt; has(&wide(alloc, 16)?, "p15"));
-    assert_eq!(rt; wide(alloc, 17)?.as_str(), "over 1048576 401;");
+fn ports_have_up_to_1048576_bits(rt: HostRuntime) -> Result<(), Fail> {
+    let answer = wide(rt.alloc(), 16)?;
+    holds(&rt, has(&answer, "p15"), "16 ports", &answer);
     Ok(())
 }
 
-/// What follows HEAD in a file with a library behind its design, and three notes.
+#[test]
+fn more_bits_are_over_the_limit(rt: HostRuntime) -> Result<(), Fail> {
+    let answer = wide(rt.alloc(), 17)?;
+    same(&rt, &answer.as_str(), &"over 1048576 401;", "17 ports");
+    Ok(())
+}
+
+/// The numbers of libraries, of cells of each and of notes in a design, and the slot of its top.
+fn counts(design: &Design) -> Option<(u32, u32, u32, usize, u32)> {
+    let top = design.top()?;
+    let (first, second) = (design.cell_count(LibId(0)), design.cell_count(LibId(1)));
+    let notes = design.notes().as_slice().len();
+    Some((design.lib_count(), first, second, notes, top.cell.slot))
+}
+
+/// The same of the design that a tree means.
+fn counts_of(alloc: Global, tree: &Tree) -> Result<Option<(u32, u32, u32, usize, u32)>, Fail> {
+    let design = read_design(alloc, tree)?;
+    Ok(counts(&design))
+}
+
+/// The same of a text.
+fn counts_in(alloc: Global, text: &str) -> Result<Option<(u32, u32, u32, usize, u32)>, Fail> {
+    let tree = tree_of(alloc, text)?;
+    counts_of(alloc, &tree)
+}
+
+/// A file with a library behind its design, and three notes.
 const DESIGN: &str =
-    "(library w (edifLevel 0) (technology) (cell c (cellType GENERIC) (view v (viewType NETLIST) (interface))) (cell t (cellType GENERIC) (view v (viewType NETLIST) (interface) (contents (instance ab (viewRef v (cellRef c))) (instance aB (viewRef v (cellRef c))))))) (design t (cellRef t (libraryRef w)) (userData netdb_note (path ab) (property k (integer 1))) (userData netdb_note (path aB) (property k (integer 1))) (userData netdb_note (path ab) (property m (integer 1)))) (library z (edifLevel 0) (technology)) (comment x)";
+    "(edif e (edifVersion 2 0 0) (edifLevel 0) (keywordMap (keywordLevel 0)) (library w (edifLevel 0) (technology) (cell c (cellType GENERIC) (view v (viewType NETLIST) (interface))) (cell t (cellType GENERIC) (view v (viewType NETLIST) (interface) (contents (instance ab (viewRef v (cellRef c))) (instance aB (viewRef v (cellRef c))))))) (design t (cellRef t (libraryRef w)) (userData netdb_note (path ab) (property k (integer 1))) (userData netdb_note (path aB) (property k (integer 1))) (userData netdb_note (path ab) (property m (integer 1)))) (library z (edifLevel 0) (technology)) (comment x))";
+
+#[test]
+fn whole_designs_are_read(rt: HostRuntime) -> Result<(), Fail> {
+    let counts = counts_in(rt.alloc(), DESIGN)?;
+    assert_eq!(rt; counts, Some((2, 2, 0, 3, 1)));
+    Ok(())
+}

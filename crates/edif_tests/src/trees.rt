@@ -1,12 +1,14 @@
 //! Texts, and the trees of their tokens.
-use crate::lexing::{HEAD, tokens_of};
+use crate::checks::same;
+use crate::lexing::{HEAD, read_two, tokens_of};
+use edif_lexer::Token;
 use edif_tree::{Shape, Tree, TreeError, TreeMaker, read_tree};
 use spelling_spec::TreeKind;
-use std::alloc::Global;
+use std::alloc::{AllocError, Global};
 use std::test::Fail;
 
 /// What follows HEAD, and the first tree fault of the two.
-const FAULTS: [(&str, TreeKind, u64); 9] = [
+static FAULTS: [(&str, TreeKind, u64); 9] = [
     ("", TreeKind::Unended, 71),
     (" (comment \"y\"", TreeKind::Unended, 84),
     (") (comment \"y\")", TreeKind::Trailing, 73),
@@ -19,7 +21,7 @@ const FAULTS: [(&str, TreeKind, u64); 9] = [
 ];
 
 /// Texts that begin otherwise, and their first tree fault.
-const BEGINNINGS: [(&str, TreeKind, u64); 7] = [
+static BEGINNINGS: [(&str, TreeKind, u64); 7] = [
     ("", TreeKind::Unended, 0),
     ("  ", TreeKind::Unended, 2),
     ("a (b)", TreeKind::NotForm, 0),
@@ -29,92 +31,129 @@ const BEGINNINGS: [(&str, TreeKind, u64); 7] = [
     ("(", TreeKind::Unended, 1),
 ];
 
-/// The tree of a text that has no lexical fault.
-pub fn tree_of(alloc: Global, text: &str) -> Result<Result<Tree, TreeError>, Fail> {
-    let (tokens, end) = tokens_of(alloc, text.as_bytes(), b"")
-        .ok()
-        .ok_or("no tokens")?;
-    Ok(read_tree(alloc, &tokens, end))
+/// The tree of a text, whose tokens are read into a list.
+fn tree_by(alloc: Global, text: &str, tokens: &mut Vec<Token>) -> Result<Tree, Fail> {
+    let end = read_two(alloc, text.as_bytes(), b"", tokens)?;
+    Ok(read_tree(alloc, tokens, end)?)
 }
 
-/// The same by a maker that is fed the tokens one at a time.
-fn made_of(alloc: Global, text: &str) -> Result<Result<Tree, TreeError>, Fail> {
-    let (tokens, end) = tokens_of(alloc, text.as_bytes(), b"")
-        .ok()
-        .ok_or("no tokens")?;
-    let mut maker = TreeMaker::new(alloc);
+/// The tree of a text. The test fails where it has none.
+pub fn tree_of(alloc: Global, text: &str) -> Result<Tree, Fail> {
+    let mut tokens = Vec::new(alloc);
+    tree_by(alloc, text, &mut tokens)
+}
+
+/// The tree fault of a text that has no lexical fault.
+fn fault_of(alloc: Global, text: &str) -> Result<Option<TreeError>, Fail> {
+    let (tokens, end) = tokens_of(alloc, text.as_bytes())?;
+    Ok(read_tree(alloc, &tokens, end).err())
+}
+
+/// Feeds a maker one token. `false` where that has a fault.
+fn feed(alloc: Global, maker: &mut TreeMaker, token: Token) -> Result<bool, AllocError> {
+    let mut piece = Vec::new(alloc);
+    piece.push(token)?;
+    Ok(maker.feed(piece).is_ok())
+}
+
+/// Feeds a maker tokens one at a time, up to the first that has a fault.
+fn feed_all(alloc: Global, maker: &mut TreeMaker, tokens: Vec<Token>) -> Result<(), AllocError> {
     for token in tokens {
-        let mut piece = Vec::new(alloc);
-        piece.push(token)?;
-        if maker.feed(piece).is_err() {
+        if !feed(alloc, maker, token)? {
             break;
         }
     }
+    Ok(())
+}
+
+/// The tree or the tree fault of a text, by a maker that is fed the tokens one at a time.
+fn made_of(alloc: Global, text: &str) -> Result<Result<Tree, TreeError>, Fail> {
+    let (tokens, end) = tokens_of(alloc, text.as_bytes())?;
+    let mut maker = TreeMaker::new(alloc);
+    feed_all(alloc, &mut maker, tokens)?;
     Ok(maker.finish(end))
 }
 
-/// Whether this is the first tree fault of a text, however its tokens come.
-fn has_fault(alloc: Global, text: &str, kind: TreeKind, place: u64) -> Result<bool, Fail> {
-    let fault = Some(TreeError::At { kind, place });
-    Ok(tree_of(alloc, text)?.err() == fault && made_of(alloc, text)?.err() == fault)
+/// The tree faults of a text, of its tokens at once and one at a time.
+fn faults_of(alloc: Global, text: &str) -> Result<[Option<TreeError>; 2], Fail> {
+    let made = made_of(alloc, text)?.err();
+    Ok([fault_of(alloc, text)?, made])
 }
 
-/// The texts that do not have the fault that is wanted.
-fn missed(alloc: Global) -> Result<String, Fail> {
-    let mut missed = String::new(alloc);
-    for (rest, kind, place) in FAULTS {
-        let text = format!(in alloc; "{HEAD}{rest}")?;
-        if !has_fault(alloc, &text, kind, place)? {
-            missed.push_str(rest)?;
-        }
-    }
-    for (text, kind, place) in BEGINNINGS {
-        if !has_fault(alloc, text, kind, place)? {
-            missed.push_str(text)?;
-        }
-    }
-    Ok(missed)
+/// The same of HEAD and what follows it.
+fn faults_behind(alloc: Global, rest: &str) -> Result<[Option<TreeError>; 2], Fail> {
+    let text = format!(in alloc; "{HEAD}{rest}")?;
+    faults_of(alloc, &text)
 }
 
-/// HEAD, a form, so many forms one in another, and what closes them all.
-fn nested(alloc: Global, levels: usize) -> Result<String, Fail> {
-    let mut text = format!(in alloc; "{HEAD} (userData x ")?;
-    for _ in 0..levels {
-        text.push_str("(a ")?;
+fn push_times(text: &mut String, piece: &str, times: u32) -> Result<(), AllocError> {
+    for _ in 0..times {
+        text.push_str(piece)?;
     }
-    for _ in 0..levels {
-        text.push_str(")")?;
-    }
-    text.push_str("))")?;
-    Ok(text)
+    Ok(())
 }
 
-/// The place of the root of a text's tree, and the number of its arguments.
-fn root_of(alloc: Global, text: &str) -> Result<(u64, usize), Fail> {
-    let tree = made_of(alloc, text)?.ok().ok_or("no tree")?;
-    let root = tree.root();
-    match root.shape() {
-        Shape::Form(arguments) => Ok((root.place(), arguments.len())),
-        _ => Err("no form".into()),
-    }
+/// Appends HEAD, a form, so many forms one in another, and what closes them all.
+fn push_nested(text: &mut String, levels: u32) -> Result<(), AllocError> {
+    text.push_str(HEAD)?;
+    text.push_str(" (userData x ")?;
+    push_times(text, "(a ", levels)?;
+    push_times(text, ")", levels)?;
+    text.push_str("))")
+}
+
+/// The tree fault of so many forms one in another.
+fn nested_fault(alloc: Global, levels: u32) -> Result<Option<TreeError>, Fail> {
+    let mut text = String::new(alloc);
+    push_nested(&mut text, levels)?;
+    fault_of(alloc, &text)
 }
 
 #[test]
 fn texts_have_their_first_tree_fault(rt: HostRuntime) -> Result<(), Fail> {
     let alloc = rt.alloc();
-    let missed = missed(alloc)?;
-    assert_eq!(rt; missed.as_str(), "");
-    let deepest = tree_of(alloc, &nested(alloc, 254)?)?.err();
-    assert_eq!(rt; deepest, None);
-    let deeper = tree_of(alloc, &nested(alloc, 255)?)?.err();
-    let kind = TreeKind::TooDeep;
-    assert_eq!(rt; deeper, Some(TreeError::At { kind, place: 846 }));
+    for (rest, kind, place) in &FAULTS {
+        let (kind, place) = (*kind, *place);
+        let wanted = [Some(TreeError::At { kind, place }); 2];
+        let faults = faults_behind(alloc, rest)?;
+        same(&rt, &faults, &wanted, rest);
+    }
+    for (text, kind, place) in &BEGINNINGS {
+        let (kind, place) = (*kind, *place);
+        let wanted = [Some(TreeError::At { kind, place }); 2];
+        let faults = faults_of(alloc, text)?;
+        same(&rt, &faults, &wanted, text);
+    }
     Ok(())
 }
 
 #[test]
+fn forms_nest_up_to_a_limit(rt: HostRuntime) -> Result<(), Fail> {
+    let kind = TreeKind::TooDeep;
+    assert_eq!(rt; nested_fault(rt.alloc(), 254)?, None);
+    let deeper = nested_fault(rt.alloc(), 255)?;
+    assert_eq!(rt; deeper, Some(TreeError::At { kind, place: 846 }));
+    Ok(())
+}
+
+/// The place of a tree's root, and the number of its arguments.
+fn root_of(tree: &Tree) -> Option<(u64, usize)> {
+    let root = tree.root();
+    match root.shape() {
+        Shape::Form(arguments) => Some((root.place(), arguments.len())),
+        _ => None,
+    }
+}
+
+/// The same of the tree of a text.
+fn root_in(alloc: Global, text: &str) -> Result<Option<(u64, usize)>, Fail> {
+    let tree = made_of(alloc, text)??;
+    Ok(root_of(&tree))
+}
+
+#[test]
 fn a_text_has_a_tree(rt: HostRuntime) -> Result<(), Fail> {
-    let root = root_of(rt.alloc(), " (a () (b 5 \"st\") c_1)")?;
-    assert_eq!(rt; root, (1, 4));
+    let root = root_in(rt.alloc(), " (a () (b 5 \"st\") c_1)")?;
+    assert_eq!(rt; root, Some((1, 4)));
     Ok(())
 }
