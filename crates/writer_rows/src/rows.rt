@@ -5,6 +5,7 @@ use edif_writer::{WriteError, write_design};
 use netdb_outside::MemSink;
 use netlist_schema::{Design, LibId};
 use std::alloc::Global;
+use std::process::Abort;
 use std::test::Fail;
 
 const OUT_OF_ORDER: &str = "(edif e
@@ -37,27 +38,35 @@ const OUT_OF_ORDER: &str = "(edif e
   (userData netdb_note (path u1 u2) (property INIT (string \"1\")))))
 ";
 
-/// What is answered when a design is written into a sink of a length, and what was written.
-fn written(
+/// Whether the cells of the library are written in this order.
+fn has_order(alloc: Global, design: &Design, want: &[u32]) -> Result<bool, Fail> {
+    let order = cell_order(alloc, design, LibId(0))?;
+    Ok(order.as_slice() == want)
+}
+
+/// Whether this is answered when a design is written into a sink of a length, and this is written.
+fn is_written(
     alloc: Global,
     design: &Design,
     length: Option<u64>,
-) -> Result<(Result<(), WriteError>, String), Fail> {
+    want: Result<(), WriteError>,
+    text: &str,
+) -> bool {
     let mut out = MemSink::new(alloc, length);
-    let answer = write_design(alloc, design, &mut out);
-    let text = String::from_utf8_lossy(alloc, out.written())?;
-    Ok((answer, text))
+    write_design(alloc, design, &mut out) == want && out.written() == text.as_bytes()
+}
+
+/// Checks the order of the cells, and what is written.
+fn check(rt: &impl Abort, alloc: Global, design: &Design) -> Result<(), Fail> {
+    assert!(rt; has_order(alloc, design, &[0, 1, 3, 2])?);
+    assert!(rt; is_written(alloc, design, None, Ok(()), OUT_OF_ORDER));
+    let fault = Err(WriteError::WriteFault);
+    assert!(rt; is_written(alloc, design, Some(10), fault, "(edif e\n ("));
+    Ok(())
 }
 
 #[test]
 fn a_design_out_of_order_is_written_in_order(rt: HostRuntime) -> Result<(), Fail> {
-    let alloc = rt.alloc();
-    let design = out_of_order(alloc)?;
-    let order = cell_order(alloc, &design, LibId(0))?;
-    assert_eq!(rt; order.as_slice(), [0, 1, 3, 2].as_slice());
-    let (answer, text) = written(alloc, &design, None)?;
-    assert!(rt; answer == Ok(()) && text.as_str() == OUT_OF_ORDER);
-    let (answer, text) = written(alloc, &design, Some(10))?;
-    assert!(rt; answer == Err(WriteError::WriteFault) && text.as_str() == "(edif e\n (");
-    Ok(())
+    let design = out_of_order(rt.alloc())?;
+    check(&rt, rt.alloc(), &design)
 }
