@@ -4,17 +4,26 @@ use netlist_schema::{CellId, Copied, LibId, NoMemory, Row};
 use std::alloc::Global;
 use std::test::Fail;
 
-/// Whether the path of these steps, and its copy, lend them.
-fn path_keeps(alloc: Global, steps: &[u32]) -> Result<bool, NoMemory> {
-    let path = Path::of(alloc, steps)?;
+/// Whether a path and its copy lend these steps.
+fn lends(alloc: Global, path: &Path, steps: &[u32]) -> Result<bool, NoMemory> {
     let copy = path.copy(alloc)?;
     Ok(path.as_slice() == steps && copy.as_slice() == steps)
 }
 
+/// Whether the path of these steps, and its copy, lend them.
+fn path_keeps(alloc: Global, steps: &[u32]) -> Result<bool, NoMemory> {
+    let path = Path::of(alloc, steps)?;
+    lends(alloc, &path, steps)
+}
+
 /// Whether the item is equal to its copy.
-fn is_copied(alloc: Global, item: &Item) -> Result<bool, NoMemory> {
+fn equals_copy(alloc: Global, item: &Item) -> Result<bool, NoMemory> {
     let copy = item.copy(alloc)?;
     Ok(copy == *item)
+}
+
+fn is_copied(alloc: Global, item: Item) -> Result<bool, NoMemory> {
+    equals_copy(alloc, &item)
 }
 
 fn enter(alloc: Global) -> Result<Item, NoMemory> {
@@ -41,13 +50,14 @@ fn pin(alloc: Global) -> Result<Item, NoMemory> {
     })
 }
 
+static STEPS: [u32; 12] = [0, 1, 2, 3, 4, 5, 6, 7, 8, 9, 10, u32::MAX];
+
 #[test]
 fn paths_and_items_are_copied(rt: HostRuntime) -> Result<(), Fail> {
     let alloc = rt.alloc();
-    let long = [0, 1, 2, 3, 4, 5, 6, 7, 8, 9, 10, u32::MAX];
-    let short = path_keeps(alloc, &[])? && path_keeps(alloc, &long[1..4])?;
-    assert!(rt; short && path_keeps(alloc, &long)?);
-    assert!(rt; is_copied(alloc, &enter(alloc)?)?);
-    assert!(rt; is_copied(alloc, &pin(alloc)?)?);
+    let short = path_keeps(alloc, &[])? && path_keeps(alloc, &STEPS[1..4])?;
+    assert!(rt; short && path_keeps(alloc, &STEPS)?);
+    let copied = is_copied(alloc, enter(alloc)?)? && is_copied(alloc, pin(alloc)?)?;
+    assert!(rt; copied);
     Ok(())
 }
