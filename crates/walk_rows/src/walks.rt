@@ -2,10 +2,11 @@
 use crate::designs::{bare, board};
 use cell_lookup::cell_along;
 use flat_report::item_text;
-use flat_spec::Path;
+use flat_spec::{Item, Path};
 use netlist_schema::{Design, Shown};
 use occ_walk::{Walk, WalkError};
 use std::alloc::Global;
+use std::process::Abort;
 use std::test::Fail;
 
 /// The items of the board.
@@ -35,64 +36,87 @@ const LAMP: &str = "inst /v/l w P
 pin /v/l a 0 / X
 ";
 
-/// The lines of the items that a walk goes on to give, and whether it then stays at its end.
-fn rest(alloc: Global, design: &Design, walk: &mut Walk<&Design>) -> Result<(Vec<u8>, bool), Fail> {
-    let mut text = Vec::new(alloc);
+/// Paths of the board, and the items at and below each.
+const BELOW: [(&[u32], &str); 4] = [
+    (&[], ITEMS),
+    (&[0], THROUGH),
+    (&[1], SOCKET),
+    (&[1, 0], LAMP),
+];
+
+/// Adds the line of an item.
+fn add_line(rt: &impl Abort, alloc: Global, design: &Design, item: Item, lines: &mut Vec<u8>) {
+    item_text(alloc, design, &item, lines).expect(rt, "memory for a line");
+}
+
+/// The lines of the items that a walk goes on to give.
+fn lines_left(
+    rt: &impl Abort,
+    alloc: Global,
+    design: &Design,
+    walk: &mut Walk<&Design>,
+) -> Vec<u8> {
+    let mut lines = Vec::new(alloc);
     for _ in 0..100u32 {
-        let Some(item) = walk.next()? else {
-            return Ok((text, walk.next()?.is_none()));
-        };
-        item_text(alloc, design, &item, &mut text)?;
+        match walk.next().expect(rt, "memory for an item") {
+            Some(item) => add_line(rt, alloc, design, item, &mut lines),
+            None => break,
+        }
     }
-    Ok((text, false))
+    lines
 }
 
-/// Whether a walk that begins at a path of the design gives these lines, and then stays at its end.
-fn gives(alloc: Global, design: &Design, path: &[u32], lines: &str) -> Result<bool, Fail> {
-    let top = design.top().ok_or("no top")?.cell;
-    let _there = cell_along(design, top, path).ok_or("no path")?;
-    let path = Path::of(alloc, path)?;
-    let mut walk = Walk::at(alloc, design, &path)?;
-    let (given, ended) = rest(alloc, design, &mut walk)?;
-    Ok(ended && given.as_slice() == lines.as_bytes())
+/// A walk is at its end.
+fn is_over(rt: &impl Abort, walk: &mut Walk<&Design>) -> bool {
+    walk.next().expect(rt, "memory for an item").is_none()
+}
+
+/// A walk gives these lines, and then stays at its end.
+fn gives(rt: &impl Abort, alloc: Global, design: &Design, mut walk: Walk<&Design>, wanted: &str) {
+    let lines = lines_left(rt, alloc, design, &mut walk);
+    assert!(rt;
+        lines.as_slice() == wanted.as_bytes(),
+        "other items than\n{wanted}"
+    );
+    assert!(rt; is_over(rt, &mut walk), "more items than\n{wanted}");
+}
+
+/// A walk that begins at a path gives these lines, and then stays at its end.
+fn gives_at(rt: &impl Abort, alloc: Global, design: &Design, path: &[u32], wanted: &str) {
+    let top = design.top().expect(rt, "a top").cell;
+    let _there = cell_along(design, top, path).expect(rt, "a path");
+    let path = Path::of(alloc, path).expect(rt, "memory for a path");
+    let walk = Walk::at(alloc, design, &path).expect(rt, "a walk");
+    gives(rt, alloc, design, walk, wanted);
+}
+
+/// A walk from the top gives these lines, and then stays at its end.
+fn gives_whole(rt: &impl Abort, alloc: Global, design: &Design, wanted: &str) {
+    let walk = Walk::new(alloc, design).expect(rt, "a walk");
+    gives(rt, alloc, design, walk, wanted);
 }
 
 #[test]
-fn a_walk_begins_at_a_path_and_stays_at_its_end(rt: HostRuntime) -> Result<(), Fail> {
+fn a_walk_begins_at_a_path_or_the_top_and_stays_at_its_end(rt: HostRuntime) -> Result<(), Fail> {
     let alloc = rt.alloc();
     let board = board(alloc)?;
-    let cases: [(&[u32], &str); 4] = [
-        (&[], ITEMS),
-        (&[0], THROUGH),
-        (&[1], SOCKET),
-        (&[1, 0], LAMP),
-    ];
-    for (path, lines) in cases {
-        assert!(rt; gives(alloc, &board, path, lines)?, "at {path:?}");
+    for (path, wanted) in &BELOW {
+        gives_at(&rt, alloc, &board, path, wanted);
     }
+    gives_whole(&rt, alloc, &board, ITEMS);
     Ok(())
 }
 
-#[test]
-fn a_walk_begins_at_the_top(rt: HostRuntime) -> Result<(), Fail> {
-    let alloc = rt.alloc();
-    let board = board(alloc)?;
-    let mut walk = Walk::new(alloc, &board)?;
-    let (lines, ended) = rest(alloc, &board, &mut walk)?;
-    assert_eq!(rt; (lines.as_slice(), ended), (ITEMS.as_bytes(), true));
-    Ok(())
+/// There is no walk over the design, from its top and at the path with no step.
+fn has_no_walk(rt: &impl Abort, alloc: Global, design: &Design) {
+    let top = Path::of(alloc, &[]).expect(rt, "memory for a path");
+    assert!(rt; Walk::new(alloc, design).err() == Some(WalkError::NoTop));
+    assert!(rt; Walk::at(alloc, design, &top).err() == Some(WalkError::NoTop));
 }
 
 #[test]
 fn there_is_no_walk_without_a_top(rt: HostRuntime) -> Result<(), Fail> {
-    let alloc = rt.alloc();
-    let bare = bare(alloc)?;
-    let top = Path::of(alloc, &[])?;
-    let whole = Walk::new(alloc, &bare).err();
-    let below = Walk::at(alloc, &bare, &top).err();
-    assert_eq!(rt;
-        (whole, below),
-        (Some(WalkError::NoTop), Some(WalkError::NoTop))
-    );
+    let bare = bare(rt.alloc())?;
+    has_no_walk(&rt, rt.alloc(), &bare);
     Ok(())
 }
