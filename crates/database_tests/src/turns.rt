@@ -11,7 +11,7 @@ use std::thread::Threads;
 use turn_cell::{Logged, Turn, TurnSeat};
 
 /// Which seat wrote it, and in which of its turns.
-#[derive(Clone, Copy, Debug, PartialEq, Eq)]
+#[derive(Clone, Copy)]
 struct Line {
     by: u32,
     round: u32,
@@ -104,28 +104,52 @@ fn diary_of<R: Threads + Wait + Sync>(
     Ok(turn.close(seats))
 }
 
-/// Each seat wrote in each of its rounds once, in their order, and nobody else wrote.
-fn is_whole(diary: &Diary, threads: u32, rounds: u32) -> bool {
-    let mut left = diary.lines.len();
-    for by in 0..threads {
-        let mut lines = diary.lines.iter().filter(|line| line.by == by);
-        for round in (0..rounds).filter(|round| is_written(*round)) {
-            if lines.next() != Some(&Line { by, round }) || left == 0 {
+/// Whether a seat wrote in each of its rounds once, in their order.
+fn has_each_round(lines: &[Line], by: u32, rounds: u32) -> bool {
+    let mut next = 0;
+    for line in lines {
+        if line.by == by {
+            if line.round != next || next >= rounds {
                 return false;
             }
-            left -= 1;
+            next += 1;
+            if !is_written(next) {
+                next = next.saturating_add(1);
+            }
         }
     }
-    left == 0
+    next >= rounds
+}
+
+/// Each seat wrote in each of its rounds once, in their order, and nobody else wrote.
+fn is_whole(lines: &[Line], threads: u32, rounds: u32) -> bool {
+    for line in lines {
+        if line.by >= threads {
+            return false;
+        }
+    }
+    for by in 0..threads {
+        if !has_each_round(lines, by, rounds) {
+            return false;
+        }
+    }
+    true
+}
+
+/// Whether so many threads keep a whole diary.
+fn keep_whole<R: Threads + Wait + Sync>(rt: &R, alloc: Global, threads: u32, rounds: u32) -> bool
+    requires { (1 ≤ threads) × (threads ≤ 64) }
+{
+    match diary_of(rt, alloc, threads, rounds) {
+        Ok(diary) => is_whole(diary.lines.as_slice(), threads, rounds),
+        Err(_) => false,
+    }
 }
 
 #[test]
-fn each_entry_of_2_8_and_64_threads_stands_once(rt: HostRuntime) -> Result<(), Fail> {
-    let two = diary_of(&rt, rt.alloc(), 2, 400).ok().ok_or("memory")?;
-    assert!(rt; is_whole(&two, 2, 400), "2 threads");
-    let eight = diary_of(&rt, rt.alloc(), 8, 300).ok().ok_or("memory")?;
-    assert!(rt; is_whole(&eight, 8, 300), "8 threads");
-    let many = diary_of(&rt, rt.alloc(), 64, 200).ok().ok_or("memory")?;
-    assert!(rt; is_whole(&many, 64, 200), "64 threads");
-    Ok(())
+fn each_entry_of_2_8_and_64_threads_stands_once(rt: HostRuntime) {
+    let alloc = rt.alloc();
+    assert!(rt; keep_whole(&rt, alloc, 2, 400), "2 threads");
+    assert!(rt; keep_whole(&rt, alloc, 8, 300), "8 threads");
+    assert!(rt; keep_whole(&rt, alloc, 64, 200), "64 threads");
 }
