@@ -1,5 +1,5 @@
 -- Pins over each call.
-use Rattle.std.proofs.Common.{◌≡◌, ◌≢◌, ℕ, Result, Ok, Err, IfErr, IfOk, sym, ◌∙◌, subst}
+use Rattle.std.proofs.Common.{◌≡◌, ◌≢◌, ℕ, Result, Ok, Err, IfOk, sym, ◌∙◌, subst}
 use Rattle.edit_tx.specs.Facts.{PinFacts, TxFacts}
 use Rattle.history_spec.specs.declared.event.Answer.{Answer}
 use Rattle.history_spec.specs.declared.event.Answer.TheVariants.{Released}
@@ -14,7 +14,7 @@ use Rattle.db_core.specs.declared.errors.CollectError.TheVariants.{LogFull as Co
 use Rattle.db_core.specs.declared.errors.CommitError.{CommitError}
 use Rattle.db_core.specs.declared.errors.CommitError.TheVariants.{LogFull as CommitFull, Conflict, NoMemory as CommitNoMemory}
 use Rattle.db_core.specs.Story.{Story, IsHistory}
-use Rattle.db_core.specs.Calls.{Adds, Collects, Commits, IsRefused, PinsAt, PinsLast, Releases, commit_of, event_of}
+use Rattle.db_core.specs.Calls.{Accepts, Adds, Collects, Commits, IsRefused, PinsAt, PinsLast, Releases, commit_of, event_of}
 use Rattle.db_core.proofs.Staying.{pin_stays_on}
 use Rattle.core_rows.specs.Keeps.{IsPinBy, KeepsOthers, KeepsPins}
 
@@ -63,23 +63,20 @@ module _ (old new : Story) (history : IsHistory old) where
     caller_is = is.caller_is;
   }
 
-  pub is_pinned : (by : ℕ) (r : Result PinFacts PinError) → PinsLast old new by r → IfOk r (IsPinBy new by)
-  is_pinned by (Ok made) is = record { is_pin = is.is_pin; caller_is = is.caller_is }
-  is_pinned by (Err error) is = tt
-
   pub is_pinned_at : (by wanted : ℕ) (r : Result PinFacts PinAtError) → PinsAt old new by wanted r → IfOk r (IsPinBy new by)
   is_pinned_at by wanted (Ok made) is = record { is_pin = is.is_pin; caller_is = is.caller_is }
   is_pinned_at by wanted (Err error) is = tt
 
-  pub is_committed : (by : ℕ) (tx : TxFacts) (r : Result (ℕ × PinFacts) (CommitError × TxFacts)) → IsPinBy old by tx.pin → Commits old new tx r → IfOk r (λ done. IsPinBy new by done.1)
-  is_committed by tx (Ok done) mine is = subst (λ (pin : PinFacts). IsPinBy new by pin) (sym is.pin_is) (keeps_commit tx (Ok done) is by tx.pin mine)
-  is_committed by tx (Err refused) mine is = tt
+  pub keeps_accepted : (tx : TxFacts) (version : ℕ) (pin : PinFacts) → Accepts old new tx version pin → KeepsPins old new
+  keeps_accepted tx version pin is = keeps_commit tx (Ok (version, pin)) is
 
-  pub is_back : (by : ℕ) (tx : TxFacts) (r : Result (ℕ × PinFacts) (CommitError × TxFacts)) → IsPinBy old by tx.pin → Commits old new tx r → IfErr r (λ refused. IsPinBy new by refused.1.pin)
-  is_back by tx (Ok done) mine is = tt
-  is_back by tx (Err refused) mine is = subst (λ (t : TxFacts). IsPinBy new by t.pin) (sym is.0) (keeps_commit tx (Err refused) is by tx.pin mine)
+  pub keeps_back : (tx : TxFacts) (error : CommitError) (back : TxFacts) → (back ≡ tx) × IsRefused old new tx error → KeepsPins old new
+  keeps_back tx error back is = keeps_commit tx (Err (error, back)) is
 
--- a transaction has the pin that it was begun with
-pub tried_pin : {E : Type 0} (core : Story) (by : ℕ) (pin : PinFacts) (r : Result TxFacts E) → IfOk r (λ tx. tx.pin ≡ pin) → IsPinBy core by pin → IfOk r (λ tx. IsPinBy core by tx.pin)
-tried_pin core by pin (Ok tx) same is = subst (IsPinBy core by) (sym same) is
-tried_pin core by pin (Err fail) same is = tt
+  -- an accepted transaction gives its pin back
+  pub is_accepted : (by : ℕ) (tx : TxFacts) (version : ℕ) (pin : PinFacts) → IsPinBy old by tx.pin → Accepts old new tx version pin → IsPinBy new by pin
+  is_accepted by tx version pin mine is = subst (λ (p : PinFacts). IsPinBy new by p) (sym is.pin_is) (keeps_commit tx (Ok (version, pin)) is by tx.pin mine)
+
+  -- a refused one comes back with its pin
+  pub is_back : (by : ℕ) (tx : TxFacts) (error : CommitError) (back : TxFacts) → IsPinBy old by tx.pin → (back ≡ tx) × IsRefused old new tx error → IsPinBy new by back.pin
+  is_back by tx error back mine is = subst (λ (t : TxFacts). IsPinBy new by t.pin) (sym is.0) (keeps_commit tx (Err (error, back)) is by tx.pin mine)

@@ -1,21 +1,30 @@
-//! Calls of a database by two callers, with what they leave of the pins made before.
-ghost use Rattle.std.specs.Prelude.{◌≡◌, IfErr, IfOk};
+//! Calls of a database by two callers, with what they leave of the pins made before. A call that is not answered as it should be ends the
+//! test.
+ghost use Rattle.std.specs.Prelude.{◌≡◌, IfOk};
 ghost use Rattle.core_rows.specs.Keeps.{IsPinBy, KeepsOthers, KeepsPins};
 
 use crate::designs::{Edit, op_of};
-use db_core::{CollectError, CommitError, Core, Pin, PinAtError, PinError, Tx};
-use edit_spec::{Op, Reply};
-use netlist_schema::Object;
+use db_core::{CollectError, CommitError, Core, Pin, PinAtError, Tx};
+use edit_spec::Reply;
+use netlist_schema::{Design, Object};
 use std::alloc::Global;
-use std::test::Fail;
+use std::process::Abort;
+
+/// A database of this design.
+pub fn opened(rt: &impl Abort, alloc: Global, design: Design) -> Core {
+    Core::new(alloc, design).expect(rt, "a database")
+}
 
 /// Pins the last version.
-pub fn pin_last(core: &mut Core, caller: u32) -> Result<Pin, PinError>
+pub fn pin_last(rt: &impl Abort, core: &mut Core, caller: u32) -> Pin
     ensures keeps { KeepsPins core.old core.new }
-    ensures pin { IfOk result (IsPinBy core.new caller) }
+    ensures pin { IsPinBy core.new caller result }
 {
     let _history = core.log();
-    core.pin(caller)
+    match core.pin(caller) {
+        Ok(pin) => pin,
+        Err(_) => rt.panic("no pin"),
+    }
 }
 
 /// Pins a version.
@@ -54,102 +63,86 @@ pub fn collect(core: &mut Core, caller: u32) -> Result<u32, CollectError>
     core.collect(caller)
 }
 
-/// Commits a transaction.
-fn commit(core: &mut Core, caller: u32, tx: Tx) -> Result<(u64, Pin), (CommitError, Tx)>
+fn is_version(rt: &impl Abort, version: u64, wanted: u64) {
+    assert!(rt; version == wanted);
+}
+
+/// Commits a transaction that is accepted as this version, and gives the pin.
+pub fn accepted(rt: &impl Abort, core: &mut Core, caller: u32, tx: Tx, wanted: u64) -> Pin
     requires { IsPinBy core.old caller tx.pin }
     ensures keeps { KeepsPins core.old core.new }
-    ensures pin { IfOk result (λ done. IsPinBy core.new caller done.1) }
-    ensures back { IfErr result (λ refused. IsPinBy core.new caller refused.1.pin) }
+    ensures pin { IsPinBy core.new caller result }
 {
     let _history = core.log();
-    core.commit(tx)
-}
-
-/// Whether a reply is the one that is wanted.
-fn is_reply(reply: &Reply, wanted: &Reply) -> Result<(), Fail> {
-    if *reply != *wanted {
-        return Err(Fail::from("another reply"));
+    match core.commit(tx) {
+        Ok((version, pin)) => {
+            is_version(rt, version, wanted);
+            pin
+        }
+        Err(_) => rt.panic("refused"),
     }
-    Ok(())
 }
 
-/// Runs an operation, whose reply is this one.
-fn run(tx: &mut Tx, op: Op, reply: &Reply) -> Result<(), Fail>
+/// A refused commit clashes with this object, which this commit wrote last.
+fn is_clash(rt: &impl Abort, error: CommitError, wanted: (Object, u64)) {
+    let (object, version) = wanted;
+    assert!(rt; error == CommitError::Conflict { object, version });
+}
+
+/// Commits a transaction that clashes with this object, which this commit wrote last, and gives the transaction.
+pub fn refused(rt: &impl Abort, core: &mut Core, caller: u32, tx: Tx, wanted: (Object, u64)) -> Tx
+    requires { IsPinBy core.old caller tx.pin }
+    ensures keeps { KeepsPins core.old core.new }
+    ensures back { IsPinBy core.new caller result.pin }
+{
+    let _history = core.log();
+    match core.commit(tx) {
+        Ok(_) => rt.panic("no conflict"),
+        Err((error, back)) => {
+            is_clash(rt, error, wanted);
+            back
+        }
+    }
+}
+
+fn is_reply(rt: &impl Abort, reply: &Reply, wanted: &Reply) {
+    assert!(rt; *reply == *wanted);
+}
+
+/// Runs an edit, whose reply is this one.
+fn run(rt: &impl Abort, alloc: Global, tx: &mut Tx, edit: Edit, reply: &Reply)
     ensures { tx.new.pin ≡ tx.old.pin }
 {
-    match tx.run(op) {
-        Ok(given) => is_reply(given, reply),
-        Err(_) => Err(Fail::from("no memory")),
+    match tx.run(op_of(rt, alloc, edit)) {
+        Ok(given) => is_reply(rt, given, reply),
+        Err(_) => rt.panic("no memory"),
     }
 }
 
 /// A transaction on a pin, of which nothing was run.
-fn started(alloc: Global, pin: Pin) -> Result<Tx, Fail>
-    ensures { IfOk result (λ tx. tx.pin ≡ pin) }
+fn started(rt: &impl Abort, alloc: Global, pin: Pin) -> Tx
+    ensures { result.pin ≡ pin }
 {
     match Tx::start(alloc, pin) {
-        Ok(tx) => Ok(tx),
-        Err(_) => Err(Fail::from("no memory")),
+        Ok(tx) => tx,
+        Err(_) => rt.panic("no memory"),
     }
-}
-
-/// A transaction of one edit, whose reply is this one.
-fn tried(alloc: Global, pin: Pin, edit: Edit, reply: &Reply) -> Result<Tx, Fail>
-    ensures { IfOk result (λ tx. tx.pin ≡ pin) }
-{
-    let mut tx = started(alloc, pin)?;
-    run(&mut tx, op_of(alloc, edit)?, reply)?;
-    Ok(tx)
 }
 
 /// Pins the last version and tries an edit there, whose reply is this one.
 pub fn try_last(
+    rt: &impl Abort,
     alloc: Global,
     core: &mut Core,
     caller: u32,
     edit: Edit,
     reply: &Reply,
-) -> Result<Tx, Fail>
+) -> Tx
     ensures keeps { KeepsPins core.old core.new }
-    ensures pin { IfOk result (λ tx. IsPinBy core.new caller tx.pin) }
+    ensures pin { IsPinBy core.new caller result.pin }
 {
-    match pin_last(core, caller) {
-        Ok(pin) => tried(alloc, pin, edit, reply),
-        Err(_) => Err(Fail::from("no pin")),
-    }
-}
-
-/// Commits a transaction that is accepted, and gives the version and the pin.
-pub fn accepted(core: &mut Core, caller: u32, tx: Tx) -> Result<(u64, Pin), Fail>
-    requires { IsPinBy core.old caller tx.pin }
-    ensures keeps { KeepsPins core.old core.new }
-    ensures pin { IfOk result (λ done. IsPinBy core.new caller done.1) }
-{
-    match commit(core, caller, tx) {
-        Ok(done) => Ok(done),
-        Err(_) => Err(Fail::from("refused")),
-    }
-}
-
-/// What a refused commit clashes with, and the transaction that came back.
-fn clash_of(refused: (CommitError, Tx)) -> Result<((Object, u64), Tx), Fail>
-    ensures { IfOk result (λ clash. clash.1 ≡ refused.1) }
-{
-    let (error, back) = refused;
-    match error {
-        CommitError::Conflict { object, version } => Ok(((object, version), back)),
-        _ => Err(Fail::from("no conflict")),
-    }
-}
-
-/// Commits a transaction that clashes, and gives the object, the commit that wrote it last, and the transaction.
-pub fn refused(core: &mut Core, caller: u32, tx: Tx) -> Result<((Object, u64), Tx), Fail>
-    requires { IsPinBy core.old caller tx.pin }
-    ensures keeps { KeepsPins core.old core.new }
-    ensures back { IfOk result (λ refused. IsPinBy core.new caller refused.1.pin) }
-{
-    match commit(core, caller, tx) {
-        Ok(_) => Err(Fail::from("no conflict")),
-        Err(refused) => clash_of(refused),
-    }
+    let pin = pin_last(rt, core, caller);
+    let mut tx = started(rt, alloc, pin);
+    run(rt, alloc, &mut tx, edit, reply);
+    tx
 }

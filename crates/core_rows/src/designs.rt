@@ -3,6 +3,7 @@ use edit_spec::{CellName, EndName, Op, Target};
 use hand_designs::{CellPlan, Inside, Plan, design};
 use netlist_schema::{CellId, Design, Direction, Ident, LibId, Name, Property, Value};
 use std::alloc::Global;
+use std::process::Abort;
 use std::test::Fail;
 
 const EMPTY: Option<Inside<'static>> = Some(Inside {
@@ -91,63 +92,61 @@ pub const FIRST: CellId = CellId {
     slot: 0,
 };
 
-fn ident(alloc: Global, text: &str) -> Result<Ident, Fail> {
-    let id = Ident::of(alloc, text.as_bytes())?.ok_or("no name")?;
-    Ok(id)
+fn ident(rt: &impl Abort, alloc: Global, text: &str) -> Ident {
+    let id = Ident::of(alloc, text.as_bytes()).expect(rt, "memory for a name");
+    id.expect(rt, "a name")
 }
 
 /// A cell of the library.
-fn cell(alloc: Global, name: &str) -> Result<CellName, Fail> {
-    let lib = ident(alloc, "w")?;
-    let cell = ident(alloc, name)?;
-    Ok(CellName { lib, cell })
+fn cell(rt: &impl Abort, alloc: Global, name: &str) -> CellName {
+    CellName {
+        lib: ident(rt, alloc, "w"),
+        cell: ident(rt, alloc, name),
+    }
 }
 
-fn add_net(alloc: Global, name: &str, net: &str) -> Result<Op, Fail> {
-    let cell = cell(alloc, name)?;
-    let net = ident(alloc, net)?;
-    Ok(Op::AddNet { cell, net })
-}
-
-fn add_inst(alloc: Global, name: &str, inst: &str, of: &str) -> Result<Op, Fail> {
-    let inst = ident(alloc, inst)?;
-    let of = cell(alloc, of)?;
-    let cell = cell(alloc, name)?;
-    Ok(Op::AddInst { cell, inst, of })
-}
-
-fn join(alloc: Global, name: &str, net: &str, inst: &str, port: &str) -> Result<Op, Fail> {
-    let inst = Some(ident(alloc, inst)?);
-    let port = ident(alloc, port)?;
-    let cell = cell(alloc, name)?;
-    let net = ident(alloc, net)?;
-    Ok(Op::Join {
-        cell,
-        net,
-        end: EndName { inst, port, bit: 0 },
-    })
-}
-
-fn set_own(alloc: Global, name: &str, key: &str) -> Result<Op, Fail> {
-    let cell = cell(alloc, name)?;
-    let id = ident(alloc, key)?;
-    Ok(Op::SetProp {
-        cell,
-        target: Target::Whole,
-        property: Property {
-            key: Name { id, shown: None },
-            value: Value::Integer(1),
-            owner: None,
+/// A property with a number.
+fn property(rt: &impl Abort, alloc: Global, key: &str) -> Property {
+    Property {
+        key: Name {
+            id: ident(rt, alloc, key),
+            shown: None,
         },
-    })
+        value: Value::Integer(1),
+        owner: None,
+    }
+}
+
+/// The first bit of the port of an instance.
+fn end(rt: &impl Abort, alloc: Global, inst: &str, port: &str) -> EndName {
+    EndName {
+        inst: Some(ident(rt, alloc, inst)),
+        port: ident(rt, alloc, port),
+        bit: 0,
+    }
 }
 
 /// The operation of an edit.
-pub fn op_of(alloc: Global, edit: Edit) -> Result<Op, Fail> {
+pub fn op_of(rt: &impl Abort, alloc: Global, edit: Edit) -> Op {
     match edit {
-        Edit::Net(name, net) => add_net(alloc, name, net),
-        Edit::Inst(name, inst, of) => add_inst(alloc, name, inst, of),
-        Edit::Join(name, net, inst, port) => join(alloc, name, net, inst, port),
-        Edit::Own(name, key) => set_own(alloc, name, key),
+        Edit::Net(name, net) => Op::AddNet {
+            cell: cell(rt, alloc, name),
+            net: ident(rt, alloc, net),
+        },
+        Edit::Inst(name, inst, of) => Op::AddInst {
+            cell: cell(rt, alloc, name),
+            inst: ident(rt, alloc, inst),
+            of: cell(rt, alloc, of),
+        },
+        Edit::Join(name, net, inst, port) => Op::Join {
+            cell: cell(rt, alloc, name),
+            net: ident(rt, alloc, net),
+            end: end(rt, alloc, inst, port),
+        },
+        Edit::Own(name, key) => Op::SetProp {
+            cell: cell(rt, alloc, name),
+            target: Target::Whole,
+            property: property(rt, alloc, key),
+        },
     }
 }

@@ -1,5 +1,6 @@
-use Rattle.core_rows.proofs.Keeping.{tried_pin}
+use Rattle.std.proofs.Common.{◌∙◌, subst, sym}
+use Rattle.core_rows.specs.Keeps.{IsPinBy}
 use Rattle.core_rows.proofs.calls.try_last.Goals as goal
 
-pub returns-in-Ok-clause-pin : goal.returns-in-Ok-clause-pin
-returns-in-Ok-clause-pin c = tried_pin c.pin_last.new.core c.args.caller c.in-Ok.pin c.tried.result c.tried.ensures c.in-Ok.ensures.pin
+pub returns-clause-pin : goal.returns-clause-pin
+returns-clause-pin g c = subst (IsPinBy _ c.args.caller) (sym (c.run.ensures ∙ c.started-tx.ensures)) c.pin_last-pin.ensures.pin

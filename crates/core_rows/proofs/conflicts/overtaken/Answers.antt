@@ -1,7 +1,7 @@
 use Rattle.core_rows.proofs.conflicts.overtaken.Goals as goal
 
-pub accepted-requires : goal.accepted-requires
-accepted-requires c = c.try_last-2.ensures.keeps 0 c.in_ok-first.first.pin c.in_ok-first.ensures.pin
+pub accepted-pin-requires : goal.accepted-pin-requires
+accepted-pin-requires g c = c.try_last-tx.ensures.keeps 0 c.try_last-before.result.pin c.try_last-before.ensures.pin
 
 pub returns-clause-second : goal.returns-clause-second
-returns-clause-second c = c.accepted.ensures.keeps 1 c.in_ok-second.second.pin c.in_ok-second.ensures.pin
+returns-clause-second g c = c.accepted-pin.ensures.keeps 1 c.try_last-tx.result.pin c.try_last-tx.ensures.pin
