@@ -3,6 +3,7 @@ use edit_spec::{CellName, Op};
 use hand_designs::{CellPlan, Inside, Plan, design};
 use netlist_schema::{Design, Ident};
 use std::alloc::Global;
+use std::process::Abort;
 use std::test::Fail;
 
 const EMPTY: Inside = Inside {
@@ -40,18 +41,19 @@ pub fn blocks(alloc: Global) -> Result<Design, Fail> {
     design(alloc, &BLOCKS)
 }
 
-fn ident(alloc: Global, text: &[u8]) -> Result<Ident, Fail> {
-    let id = Ident::of(alloc, text)?.ok_or("no identifier")?;
-    Ok(id)
+fn ident(rt: &impl Abort, alloc: Global, text: &[u8]) -> Ident {
+    let id = Ident::of(alloc, text).expect(rt, "memory for a name");
+    id.expect(rt, "a name")
 }
 
 /// Adds a net to the second block.
-pub fn add_net(alloc: Global) -> Result<Op, Fail> {
-    let lib = ident(alloc, b"w")?;
-    let cell = ident(alloc, b"B")?;
-    let net = ident(alloc, b"m")?;
-    Ok(Op::AddNet {
-        cell: CellName { lib, cell },
-        net,
-    })
+pub fn add_net(rt: &impl Abort, alloc: Global) -> Op {
+    let cell = CellName {
+        lib: ident(rt, alloc, b"w"),
+        cell: ident(rt, alloc, b"B"),
+    };
+    Op::AddNet {
+        cell,
+        net: ident(rt, alloc, b"m"),
+    }
 }

@@ -1,70 +1,69 @@
-//! Calls of the second of two callers, which leave the pin of the first.
-ghost use Rattle.std.specs.Prelude.{◌≡◌, IfOk, OnOk};
+//! Calls of the second of two callers, which leave the pin of the first. A call that is not answered as it should be ends the test.
+ghost use Rattle.std.specs.Prelude.{◌≡◌};
 ghost use Rattle.pinned_walk_rows.specs.Pins.{IsPinBy};
 
 use crate::designs::add_net;
 use db_core::{Core, Pin, Tx};
 use edit_spec::Op;
 use std::alloc::Global;
-use std::test::Fail;
+use std::process::Abort;
 
 /// Runs an operation.
-fn run(tx: &mut Tx, op: Op) -> Result<(), Fail>
+fn run(rt: &impl Abort, tx: &mut Tx, op: Op)
     ensures { tx.new.pin ≡ tx.old.pin }
 {
     match tx.run(op) {
-        Ok(_) => Ok(()),
-        Err(_) => Err(Fail::from("no memory")),
+        Ok(_) => (),
+        Err(_) => rt.panic("no memory"),
     }
 }
 
-/// The transaction of the edit.
-fn edited(alloc: Global, pin: Pin) -> Result<Tx, Fail>
-    ensures { IfOk result (λ tx. tx.pin ≡ pin) }
+/// A transaction on a pin, of which nothing was run.
+fn started(rt: &impl Abort, alloc: Global, pin: Pin) -> Tx
+    ensures { result.pin ≡ pin }
 {
-    let Ok(mut tx) = Tx::start(alloc, pin) else {
-        return Err(Fail::from("no memory"));
-    };
-    run(&mut tx, add_net(alloc)?)?;
-    Ok(tx)
+    match Tx::start(alloc, pin) {
+        Ok(tx) => tx,
+        Err(_) => rt.panic("no memory"),
+    }
 }
 
 /// Pins the last version.
-fn pin_last(core: &mut Core, held: &Pin) -> Result<Pin, Fail>
+fn pin_last(rt: &impl Abort, core: &mut Core, held: &Pin) -> Pin
     requires { IsPinBy core.old 0 held.now }
-    ensures held { OnOk result (IsPinBy core.new 0 held.now) }
-    ensures pin { IfOk result (IsPinBy core.new 1) }
+    ensures held { IsPinBy core.new 0 held.now }
+    ensures pin { IsPinBy core.new 1 result }
 {
     let _history = core.log();
     match core.pin(1) {
-        Ok(pin) => Ok(pin),
-        Err(_) => Err(Fail::from("no pin")),
+        Ok(pin) => pin,
+        Err(_) => rt.panic("no pin"),
     }
 }
 
 /// Commits a transaction, and gives its pin back.
-fn commit(core: &mut Core, tx: Tx, held: &Pin) -> Result<Pin, Fail>
+fn commit(rt: &impl Abort, core: &mut Core, tx: Tx, held: &Pin) -> Pin
     requires held { IsPinBy core.old 0 held.now }
     requires pin { IsPinBy core.old 1 tx.pin }
-    ensures held { OnOk result (IsPinBy core.new 0 held.now) }
-    ensures pin { IfOk result (IsPinBy core.new 1) }
+    ensures held { IsPinBy core.new 0 held.now }
+    ensures pin { IsPinBy core.new 1 result }
 {
     let _history = core.log();
     match core.commit(tx) {
-        Ok((_, pin)) => Ok(pin),
-        Err(_) => Err(Fail::from("refused")),
+        Ok((_, pin)) => pin,
+        Err(_) => rt.panic("refused"),
     }
 }
 
 /// Pins the last version, commits the edit on it, and ends the pin.
-pub fn commit_net(alloc: Global, core: &mut Core, held: &Pin) -> Result<(), Fail>
+pub fn commit_net(rt: &impl Abort, alloc: Global, core: &mut Core, held: &Pin)
     requires { IsPinBy core.old 0 held.now }
-    ensures { OnOk result (IsPinBy core.new 0 held.now) }
+    ensures { IsPinBy core.new 0 held.now }
 {
-    let own = pin_last(core, held)?;
-    let tx = edited(alloc, own)?;
-    let own = commit(core, tx, held)?;
+    let own = pin_last(rt, core, held);
+    let mut tx = started(rt, alloc, own);
+    run(rt, &mut tx, add_net(rt, alloc));
+    let own = commit(rt, core, tx, held);
     let _history = core.log();
     core.release(own);
-    Ok(())
 }

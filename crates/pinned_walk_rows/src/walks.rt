@@ -5,102 +5,114 @@ use crate::designs::blocks;
 use crate::pins::commit_net;
 use db_core::{Core, Pin, Snapshot};
 use flat_report::item_text;
+use flat_spec::Item;
 use occ_walk::Walk;
 use std::alloc::Global;
+use std::process::Abort;
 use std::test::Fail;
 
+/// The items of the first version, in two parts, and those of the second one.
+const FIRST_TWO: &str = "inst / w T
+inst /a w A
+";
+
+const THIRD: &str = "inst /b w B
+";
+
+const ALL_LATER: &str = "inst / w T
+inst /a w A
+inst /b w B
+net /b m /b m
+";
+
+/// Adds the line of an item.
+fn add_line(rt: &impl Abort, alloc: Global, shown: &Snapshot, item: Item, lines: &mut Vec<u8>) {
+    item_text(alloc, shown, &item, lines).expect(rt, "memory for a line");
+}
+
 /// The lines of the items that a walk goes on to give, so many at most.
-fn lines(
+fn next_lines(
+    rt: &impl Abort,
     alloc: Global,
     shown: &Snapshot,
     walk: &mut Walk<Snapshot>,
     most: u32,
-) -> Result<Vec<u8>, Fail> {
-    let mut text = Vec::new(alloc);
+) -> Vec<u8> {
+    let mut lines = Vec::new(alloc);
     for _ in 0..most {
-        let Some(item) = walk.next()? else {
-            return Ok(text);
-        };
-        item_text(alloc, shown, &item, &mut text)?;
+        match walk.next().expect(rt, "memory for an item") {
+            Some(item) => add_line(rt, alloc, shown, item, &mut lines),
+            None => break,
+        }
     }
-    Ok(text)
+    lines
 }
 
-/// Whether a walk goes on to give these lines, of so many items at most.
+/// A walk goes on to give these lines, of so many items at most.
 fn gives(
+    rt: &impl Abort,
     alloc: Global,
     shown: &Snapshot,
     walk: &mut Walk<Snapshot>,
     most: u32,
     wanted: &str,
-) -> Result<bool, Fail> {
-    let text = lines(alloc, shown, walk, most)?;
-    Ok(text.as_slice() == wanted.as_bytes())
+) {
+    let lines = next_lines(rt, alloc, shown, walk, most);
+    assert!(rt; lines.as_slice() == wanted.as_bytes());
 }
 
-/// Whether these are the lines of all items of a version.
-fn has_items(alloc: Global, version: &Snapshot, wanted: &str) -> Result<bool, Fail> {
-    let mut walk = Walk::new(alloc, version.share()?)?;
-    gives(alloc, version, &mut walk, 100, wanted)
+/// A walk over a version.
+fn walk_over(rt: &impl Abort, alloc: Global, version: Snapshot) -> Walk<Snapshot> {
+    Walk::new(alloc, version).expect(rt, "a walk")
 }
 
-/// A walk over a version, and the version.
-#[derive(Drop)]
-struct OpenWalk {
-    shown: Snapshot,
-    walk: Walk<Snapshot>,
+/// The version of a pin.
+fn version_of(rt: &impl Abort, held: &Pin) -> Snapshot {
+    held.snapshot().expect(rt, "memory for a version")
 }
 
-/// A walk over the version of a pin.
-fn opened(alloc: Global, held: &Pin) -> Result<OpenWalk, Fail> {
-    let walk = Walk::new(alloc, held.snapshot()?)?;
-    let shown = held.snapshot()?;
-    Ok(OpenWalk { shown, walk })
+/// Pins the last version, for the first caller.
+fn pin_first(rt: &impl Abort, core: &mut Core) -> Pin
+    ensures { IsPinBy core.new 0 result }
+{
+    match core.pin(0) {
+        Ok(pin) => pin,
+        Err(_) => rt.panic("no pin"),
+    }
 }
 
-/// Whether the walk goes on to give these lines, of so many items at most.
-fn goes_on(alloc: Global, open: &mut OpenWalk, most: u32, wanted: &str) -> Result<bool, Fail> {
-    gives(alloc, &open.shown, &mut open.walk, most, wanted)
-}
-
-/// Another version is made, the pin of the first ends, and the first is dropped: how many versions were.
-fn overtaken(alloc: Global, core: &mut Core, held: Pin) -> Result<u32, Fail>
+/// Another version is made, the pin of the first ends, and the first is dropped, and no other.
+fn overtake(rt: &impl Abort, alloc: Global, core: &mut Core, held: Pin)
     requires { IsPinBy core.old 0 held }
 {
-    commit_net(alloc, core, &held)?;
+    commit_net(rt, alloc, core, &held);
     core.release(held);
-    Ok(core.collect(1)?)
+    assert_eq!(rt; core.collect(1), Ok(1));
 }
 
-/// Whether the first two items of a walk, and those behind them, are as they should be, and how many versions are dropped between
-/// the two, that of the walk among them.
-fn walked_across(alloc: Global, core: &mut Core, held: Pin) -> Result<(bool, u32, bool), Fail>
-    requires { IsPinBy core.old 0 held }
-{
-    let mut open = opened(alloc, &held)?;
-    let first = goes_on(alloc, &mut open, 2, "inst / w T\ninst /a w A\n")?;
-    let dropped = overtaken(alloc, core, held)?;
-    let rest = goes_on(alloc, &mut open, 100, "inst /b w B\n")?;
-    Ok((first, dropped, rest))
+/// A walk over a version that is pinned goes on when its pin has ended and it was dropped.
+fn walk_across(rt: &impl Abort, alloc: Global, core: &mut Core) {
+    let held = pin_first(rt, core);
+    let shown = version_of(rt, &held);
+    let mut walk = walk_over(rt, alloc, version_of(rt, &held));
+    gives(rt, alloc, &shown, &mut walk, 2, FIRST_TWO);
+    overtake(rt, alloc, core, held);
+    gives(rt, alloc, &shown, &mut walk, 100, THIRD);
 }
 
-/// Whether the items of the last version are as they should be.
-fn has_last_items(alloc: Global, core: &mut Core) -> Result<bool, Fail> {
-    let wanted = "inst / w T\ninst /a w A\ninst /b w B\nnet /b m /b m\n";
-    has_items(alloc, core.head(), wanted)
-}
-
-/// A walk over a version that is pinned, which goes on when its pin has ended and it was dropped.
-fn walked(alloc: Global) -> Result<((bool, u32, bool), bool), Fail> {
-    let mut core = Core::new(alloc, blocks(alloc)?)?;
-    let held = core.pin(0)?;
-    let across = walked_across(alloc, &mut core, held)?;
-    let last = has_last_items(alloc, &mut core)?;
-    Ok((across, last))
+/// The last version has these items.
+fn walk_later(rt: &impl Abort, alloc: Global, version: &Snapshot) {
+    let shown = version.share().expect(rt, "memory for a version");
+    let mut walk = walk_over(rt, alloc, shown);
+    gives(rt, alloc, version, &mut walk, 100, ALL_LATER);
 }
 
 #[test]
 fn a_walk_goes_on_after_its_pin_ends(rt: HostRuntime) -> Result<(), Fail> {
-    assert_eq!(rt; walked(rt.alloc())?, ((true, 1, true), true));
+    let alloc = rt.alloc();
+    let design = blocks(alloc)?;
+    let mut core = Core::new(alloc, design).expect(&rt, "a database");
+    walk_across(&rt, alloc, &mut core);
+    walk_later(&rt, alloc, core.head());
     Ok(())
 }

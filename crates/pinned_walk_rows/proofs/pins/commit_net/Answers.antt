@@ -1,8 +1,10 @@
-use Rattle.std.proofs.Common.{subst, sym}
-use Rattle.edit_tx.specs.Facts.{PinFacts}
+use Rattle.std.proofs.Common.{◌∙◌, subst, sym}
 use Rattle.pinned_walk_rows.specs.Pins.{IsPinBy}
 use Rattle.pinned_walk_rows.proofs.PinLemmas.{over_release}
 use Rattle.pinned_walk_rows.proofs.pins.commit_net.Goals as goal
 
+pub commit-own-requires-clause-pin : goal.commit-own-requires-clause-pin
+commit-own-requires-clause-pin g c = subst (IsPinBy _ 1) (sym (c.run.ensures ∙ c.started-tx.ensures)) c.pin_last-own.ensures.pin
+
 pub returns : goal.returns
-returns c = over_release c.commit.new.core c.release.new.self c.log-history.ensures.history c.args.held.now c.in_ok-own-2.own c.in_ok-own-2.ensures.held c.in_ok-own-2.ensures.pin c.release.ensures
+returns g c = over_release c.commit-own.new.core c.release.new.self c.log-history.ensures.history c.args.held.now c.commit-own.result c.commit-own.ensures.held c.commit-own.ensures.pin c.release.ensures
