@@ -9,8 +9,6 @@ mod forms;
 #[cfg(test)]
 mod lexing;
 #[cfg(test)]
-mod outside;
-#[cfg(test)]
 mod reading;
 #[cfg(test)]
 mod trees;

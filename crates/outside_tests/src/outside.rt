@@ -1,5 +1,4 @@
 //! Files and sinks, in memory and of the system.
-use crate::checks::same;
 use netdb_outside::host_files::read_retrying;
 use netdb_outside::{
     BufferedSink, Contents, Files, FreeGate, Gate, Got, HostFiles, HostOut, MemFiles, MemSink,
@@ -7,11 +6,16 @@ use netdb_outside::{
 };
 use netlist_schema::{Row, Text};
 use std::alloc::{AllocError, Global};
-use std::fmt::Display;
+use std::fmt::{Debug, Display};
 use std::io::{ErrorKind, Read};
 use std::process::Abort;
 use std::test::Fail;
 use std::{fs, io};
+
+/// An answer is the one that is wanted.
+fn same<T: PartialEq + Debug>(rt: &impl Abort, answer: &T, want: &T, row: &str) {
+    assert_eq!(rt; answer, want, "{row}");
+}
 
 /// So many bytes of one kind.
 fn run_of(alloc: Global, byte: u8, count: usize) -> Result<Vec<u8>, AllocError> {

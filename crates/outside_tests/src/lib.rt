@@ -1,0 +1,5 @@
+//! Tests of files and sinks, in memory and of the system.
+#![tactic(auto)]
+
+#[cfg(test)]
+mod outside;
