@@ -1,13 +1,12 @@
 //! Scripts that edit a design, and what is reported of them.
+use crate::calls::{OK, WRITE_F, Writes, check_file, check_run};
 use crate::eco_texts::{
     BOARD, BOARD_DISSOLVED, BOARD_DISSOLVED_TEXT, BOARD_EDITED, BOARD_EDITED_TEXT, NOTED_COPIED,
     NOTED_COPIED_TEXT, NOTED_DISSOLVED, NOTED_DISSOLVED_TEXT, OPERATIONS, REFUSED, THRICE,
     THRICE_COPIED, THRICE_COPIED_TEXT, TOPLESS, TOPLESS_REFUSED, TOPLESS_TEXT, UNGROUP_BOARD,
     UNGROUP_NOTED, UNIQUIFY,
 };
-use crate::runs::free_run;
 use crate::texts::NOTED;
-use netdb_cli::Status;
 use std::alloc::Global;
 use std::process::Abort;
 use std::sync::Wait;
@@ -17,59 +16,50 @@ use std::thread::Threads;
 /// A design, a script that is run on it, the history and the transcript, and the last version as it is written.
 type Edited<'a> = (&'a str, &'a str, &'a str, &'a str);
 
-/// Runs the script, and compares the report.
-fn report<R: Abort + Threads + Wait + Sync>(
+/// Checks the report of a script.
+fn is_reported<R: Abort + Threads + Wait + Sync>(
     rt: &R,
     alloc: Global,
     edited: &Edited,
 ) -> Result<(), Fail> {
-    let (design, script, told, after) = edited;
-    let wanted = format!(in alloc; "{told}design\n{after}")?;
-    let files = [("F", *design), ("S", *script)];
-    let (status, out) = free_run(rt, alloc, &files, &["run", "F", "S"])?;
-    assert!(rt; status == Status::Ok, "the status of {script:?}");
-    assert_eq!(rt;
-        out.written(),
-        wanted.as_bytes(),
-        "the report of {script:?}"
-    );
-    Ok(())
+    let (design, script, told, after) = *edited;
+    let report = [told, "design\n", after];
+    check_run(rt, alloc, &[design], &[script], OK, Writes::All(&report))
 }
 
-/// Reads a version that was reported, and writes it again: it is as it was.
-fn again<R: Abort + Threads + Wait + Sync>(rt: &R, alloc: Global, after: &str) -> Result<(), Fail> {
-    let (status, out) = free_run(rt, alloc, &[("F", after)], &["write", "F"])?;
-    assert!(rt; status == Status::Ok, "the status of {after:?}");
-    assert_eq!(rt; out.written(), after.as_bytes());
-    Ok(())
+/// Checks that a version which was reported is read, and written as it was.
+fn is_written_again<R: Abort + Threads + Wait + Sync>(
+    rt: &R,
+    alloc: Global,
+    after: &str,
+) -> Result<(), Fail> {
+    let text = [after];
+    check_file(rt, alloc, &text, &WRITE_F, OK, Writes::All(&text))
 }
 
-/// Occurrences of blocks get cells of their own, where there is a top.
+/// Each with its history, its transcript and its last version. In the first three, occurrences of blocks get cells of their own, where
+/// there is a top. In the others an instance is dissolved into the cell that holds it, alone and behind each other operation.
+static EDITED: [Edited; 6] = [
+    (NOTED, UNIQUIFY, NOTED_COPIED, NOTED_COPIED_TEXT),
+    (THRICE, UNIQUIFY, THRICE_COPIED, THRICE_COPIED_TEXT),
+    (TOPLESS, REFUSED, TOPLESS_REFUSED, TOPLESS_TEXT),
+    (NOTED, UNGROUP_NOTED, NOTED_DISSOLVED, NOTED_DISSOLVED_TEXT),
+    (BOARD, UNGROUP_BOARD, BOARD_DISSOLVED, BOARD_DISSOLVED_TEXT),
+    (BOARD, OPERATIONS, BOARD_EDITED, BOARD_EDITED_TEXT),
+];
+
 #[test]
-fn each_place_of_a_block_gets_a_cell(rt: HostRuntime) -> Result<(), Fail> {
-    let cases: [Edited; 3] = [
-        (NOTED, UNIQUIFY, NOTED_COPIED, NOTED_COPIED_TEXT),
-        (THRICE, UNIQUIFY, THRICE_COPIED, THRICE_COPIED_TEXT),
-        (TOPLESS, REFUSED, TOPLESS_REFUSED, TOPLESS_TEXT),
-    ];
-    for edited in &cases {
-        report(&rt, rt.alloc(), edited)?;
-        again(&rt, rt.alloc(), edited.3)?;
+fn edits_are_reported(rt: HostRuntime) -> Result<(), Fail> {
+    for edited in &EDITED {
+        is_reported(&rt, rt.alloc(), edited)?;
     }
     Ok(())
 }
 
-/// An instance is dissolved into the cell that holds it, alone and behind each other operation.
 #[test]
-fn an_instance_is_dissolved(rt: HostRuntime) -> Result<(), Fail> {
-    let cases: [Edited; 3] = [
-        (NOTED, UNGROUP_NOTED, NOTED_DISSOLVED, NOTED_DISSOLVED_TEXT),
-        (BOARD, UNGROUP_BOARD, BOARD_DISSOLVED, BOARD_DISSOLVED_TEXT),
-        (BOARD, OPERATIONS, BOARD_EDITED, BOARD_EDITED_TEXT),
-    ];
-    for edited in &cases {
-        report(&rt, rt.alloc(), edited)?;
-        again(&rt, rt.alloc(), edited.3)?;
+fn edited_designs_are_written_again(rt: HostRuntime) -> Result<(), Fail> {
+    for edited in &EDITED {
+        is_written_again(&rt, rt.alloc(), edited.3)?;
     }
     Ok(())
 }

@@ -4,13 +4,13 @@
 #[cfg(test)]
 mod arrays;
 #[cfg(test)]
+mod calls;
+#[cfg(test)]
 mod eco;
 #[cfg(test)]
 mod eco_texts;
 #[cfg(test)]
 mod generated;
-#[cfg(test)]
-mod given;
 #[cfg(test)]
 mod rows;
 #[cfg(test)]

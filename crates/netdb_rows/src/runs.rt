@@ -1,8 +1,11 @@
 //! Runs of scripts, and what comes of them.
-use crate::given::{text, words};
+use crate::calls::{
+    ANYTHING, Case, File, NO_TOP, NOTHING, OK, RUN, USAGE, WRITE, Writes, check, check_at,
+    check_files, check_run,
+};
 use crate::texts::{COUNTER, COUNTER_TEXT, EMPTY, HEAD, JOINT_REPORT, PAIR, RETRIED_REPORT};
-use netdb_cli::{Status, run_netdb, status_text};
-use netdb_outside::{FreeGate, Gate, Hold, HoldGate, MemFiles, MemSink, NamedFile, names_differ};
+use netdb_cli::{Status, status_text};
+use netdb_outside::{Hold, HoldGate};
 use netlist_schema::Row;
 use std::alloc::{AllocError, Global};
 use std::process::Abort;
@@ -10,294 +13,350 @@ use std::sync::Wait;
 use std::test::Fail;
 use std::thread::Threads;
 
-/// A file's name and its bytes.
-pub type Named<'a> = (&'a str, &'a str);
-
-/// The files, by name.
-fn named(alloc: Global, files: &[Named]) -> Result<Vec<NamedFile>, AllocError> {
-    let mut made = Vec::new(alloc);
-    for (name, bytes) in files {
-        made.push(NamedFile {
-            name: text(alloc, name)?,
-            bytes: text(alloc, bytes)?,
-        })?;
-    }
-    Ok(made)
-}
-
-/// Runs a command on files, of which these calls fail, with a gate.
-fn run<R: Abort + Threads + Wait + Sync, G: Gate + Sync>(
-    rt: &R,
-    alloc: Global,
-    files: &[Named],
-    failing: &[u64],
-    given: &[&str],
-    gate: &G,
-) -> Result<(Status, MemSink), Fail> {
-    let files = named(alloc, files)?;
-    assert!(rt; names_differ(&files));
-    let mut files = MemFiles::new(Row::of(files), Row::of(failing.to_vec(alloc)?));
-    let mut out = MemSink::new(alloc, None);
-    let given = words(alloc, given)?;
-    let status = run_netdb(rt, alloc, &given, &mut files, &mut out, gate);
-    Ok((status, out))
-}
-
-/// Runs a command on files, none of whose calls fails.
-pub fn free_run<R: Abort + Threads + Wait + Sync>(
-    rt: &R,
-    alloc: Global,
-    files: &[Named],
-    given: &[&str],
-) -> Result<(Status, MemSink), Fail> {
-    run(rt, alloc, files, &[], given, &FreeGate)
-}
-
 const FIRST: &str = "begin\nadd-net w A n\ncommit\n";
 
 const SECOND: &str = "begin\nadd-net w B m\ncommit\n";
 
 const WALKING: &str = "pin\nwalk\nrelease\n";
 
-/// A caller at a line is held until another one is at a line.
-fn hold(caller: u32, line: u32, until_caller: u32, until_line: u32) -> Hold {
-    Hold {
-        caller,
-        line,
-        until_caller,
-        until_line,
-    }
+/// Checks a call at a gate, none of whose holds gives up.
+fn passes<R: Abort + Threads + Wait + Sync>(
+    rt: &R,
+    alloc: Global,
+    gate: &HoldGate,
+    case: &Case,
+) -> Result<(), Fail> {
+    check_at(rt, alloc, gate, case)?;
+    assert!(rt; !gate.failed());
+    Ok(())
 }
+
+/// Checks a call whose callers are held.
+fn check_held<R: Abort + Threads + Wait + Sync>(
+    rt: &R,
+    alloc: Global,
+    holds: &[Hold],
+    case: &Case,
+) -> Result<(), Fail> {
+    let gate = HoldGate::new(alloc, Row::of(holds.to_vec(alloc)?))?;
+    passes(rt, alloc, &gate, case)
+}
+
+/// A caller at a line is held until another one is at a line.
+static THREE_HOLDS: [Hold; 4] = [
+    Hold {
+        caller: 0,
+        line: 1,
+        until_caller: 2,
+        until_line: 2,
+    },
+    Hold {
+        caller: 1,
+        line: 1,
+        until_caller: 0,
+        until_line: 2,
+    },
+    Hold {
+        caller: 0,
+        line: 3,
+        until_caller: 1,
+        until_line: 4,
+    },
+    Hold {
+        caller: 2,
+        line: 2,
+        until_caller: 0,
+        until_line: 4,
+    },
+];
 
 /// Three scripts at once: none passes its holds unless the others run meanwhile.
+static THREE: Case<'static> = Case {
+    files: &[
+        ("F", &[PAIR]),
+        ("0", &[FIRST]),
+        ("1", &[SECOND]),
+        ("2", &[WALKING]),
+    ],
+    words: &["run", "F", "0", "1", "2"],
+    writes: Writes::All(&[JOINT_REPORT]),
+    ..WRITE
+};
+
 #[test]
 fn scripts_run_beside_each_other(rt: HostRuntime) -> Result<(), Fail> {
-    let alloc = rt.alloc();
-    let holds = vec![in alloc;
-        hold(0, 1, 2, 2),
-        hold(1, 1, 0, 2),
-        hold(0, 3, 1, 4),
-        hold(2, 2, 0, 4),
-    ]?;
-    let gate = HoldGate::new(alloc, Row::of(holds))?;
-    let files = [("F", PAIR), ("0", FIRST), ("1", SECOND), ("2", WALKING)];
-    let (status, out) = run(&rt, alloc, &files, &[], &["run", "F", "0", "1", "2"], &gate)?;
-    assert!(rt; !gate.failed());
-    assert!(rt; status == Status::Ok);
-    assert_eq!(rt; out.written(), JOINT_REPORT.as_bytes());
-    Ok(())
+    check_held(&rt, rt.alloc(), &THREE_HOLDS, &THREE)
 }
+
+static TWO_HOLDS: [Hold; 2] = [
+    Hold {
+        caller: 1,
+        line: 1,
+        until_caller: 0,
+        until_line: 2,
+    },
+    Hold {
+        caller: 0,
+        line: 3,
+        until_caller: 1,
+        until_line: 4,
+    },
+];
 
 /// The second to commit meets a conflict, and its block is run again.
+static RETRIED: Case<'static> = Case {
+    files: &[
+        ("F", &[PAIR]),
+        ("0", &["begin retry 1\nset-prop w A cell K int 1\ncommit\n"]),
+        ("1", &["begin retry 1\nset-prop w A cell K int 2\ncommit\n"]),
+    ],
+    words: &["run", "F", "0", "1"],
+    writes: Writes::All(&[RETRIED_REPORT]),
+    ..WRITE
+};
+
 #[test]
 fn a_block_is_run_again(rt: HostRuntime) -> Result<(), Fail> {
-    let alloc = rt.alloc();
-    let holds = vec![in alloc; hold(1, 1, 0, 2), hold(0, 3, 1, 4)]?;
-    let gate = HoldGate::new(alloc, Row::of(holds))?;
-    let files = [
-        ("F", PAIR),
-        ("0", "begin retry 1\nset-prop w A cell K int 1\ncommit\n"),
-        ("1", "begin retry 1\nset-prop w A cell K int 2\ncommit\n"),
-    ];
-    let (status, out) = run(&rt, alloc, &files, &[], &["run", "F", "0", "1"], &gate)?;
-    assert!(rt; !gate.failed());
-    assert!(rt; status == Status::Ok);
-    assert_eq!(rt; out.written(), RETRIED_REPORT.as_bytes());
-    Ok(())
+    check_held(&rt, rt.alloc(), &TWO_HOLDS, &RETRIED)
 }
 
-/// A script, and the status that is wanted of a run of it.
-type Refused<'a> = (&'a str, Status);
+const BAD_LINE_1: &[&str] = &["7 BadScript { word: 2, line: 1 }"];
+
+const BAD_LINE_2: &[&str] = &["7 BadScript { word: 2, line: 2 }"];
+
+/// A script, and how a run of it on the pair ends.
+static FIRST_BAD_LINES: [(&str, &[&str]); 4] = [
+    ("begin\nfrob", BAD_LINE_2),
+    ("commit", BAD_LINE_1),
+    ("begin retry 17", BAD_LINE_1),
+    ("# nothing\n\n", OK),
+];
+
+/// Checks how a run of a script on the pair ends.
+fn ends<R: Abort + Threads + Wait + Sync>(
+    rt: &R,
+    alloc: Global,
+    script: &[&str],
+    ends: &[&str],
+) -> Result<(), Fail> {
+    check_run(rt, alloc, &[PAIR], script, ends, ANYTHING)
+}
 
 #[test]
 fn the_first_bad_line_is_told(rt: HostRuntime) -> Result<(), Fail> {
-    let alloc = rt.alloc();
-    let cases: [Refused; 4] = [
-        ("begin\nfrob", Status::BadScript { word: 2, line: 2 }),
-        ("commit", Status::BadScript { word: 2, line: 1 }),
-        ("begin retry 17", Status::BadScript { word: 2, line: 1 }),
-        ("# nothing\n\n", Status::Ok),
-    ];
-    for (script, want) in &cases {
-        let (status, _) = free_run(
-            &rt,
-            alloc,
-            &[("F", PAIR), ("S", script)],
-            &["run", "F", "S"],
-        )?;
-        assert!(rt; status == *want, "the status of {script:?}");
+    for (script, status) in &FIRST_BAD_LINES {
+        ends(&rt, rt.alloc(), &[*script], *status)?;
     }
     Ok(())
 }
 
-/// Words, and the status that is wanted.
-type Words<'a> = (&'a [&'a str], Status);
+/// Words about a file F without a top, a script S and a bad script B, and how the call ends.
+static IN_ORDER: [(&[&str], &[&str]); 9] = [
+    (&["run", "F"], USAGE),
+    (&["csv"], USAGE),
+    (&["csv", "F", "S"], USAGE),
+    (&["flat", "F"], NO_TOP),
+    (&["csv", "F"], NO_TOP),
+    (&["run", "F", "S"], NO_TOP),
+    (
+        &["run", "F", "S", "B"],
+        &["7 BadScript { word: 3, line: 1 }"],
+    ),
+    (&["run", "F", "nosuch", "B"], &["3 Missing { word: 2 }"]),
+    (&["run", "nosuch", "B"], &["3 Missing { word: 1 }"]),
+];
 
-/// Those of the words that are answered by another status, or write where they should not.
-fn missed<R: Threads + Wait + Sync + Abort>(
-    rt: &R,
-    alloc: Global,
-    files: &[Named],
-    cases: &[Words],
-) -> Result<String, Fail> {
-    let mut missed = String::new(alloc);
-    for (given, want) in cases {
-        let (status, out) = free_run(rt, alloc, files, given)?;
-        if status != *want || !out.written().is_empty() {
-            missed.push_str(&format!(in alloc; "{given:?} give {status:?}\n")?)?;
-        }
-    }
-    Ok(missed)
-}
+/// These files.
+static TOPLESS: [File<'static>; 3] = [
+    ("F", &[HEAD, ")"]),
+    ("S", &["pin\nwalk\n"]),
+    ("B", &["frob"]),
+];
 
 #[test]
 fn words_and_files_are_refused_in_order(rt: HostRuntime) -> Result<(), Fail> {
-    let alloc = rt.alloc();
-    let empty = format!(in alloc; "{HEAD})")?;
-    let files = [("F", empty.as_str()), ("S", "pin\nwalk\n"), ("B", "frob")];
-    let cases: [Words; 9] = [
-        (&["run", "F"], Status::Usage),
-        (&["csv"], Status::Usage),
-        (&["csv", "F", "S"], Status::Usage),
-        (&["flat", "F"], Status::NoTop),
-        (&["csv", "F"], Status::NoTop),
-        (&["run", "F", "S"], Status::NoTop),
-        (
-            &["run", "F", "S", "B"],
-            Status::BadScript { word: 3, line: 1 },
-        ),
-        (&["run", "F", "nosuch", "B"], Status::Missing { word: 2 }),
-        (&["run", "nosuch", "B"], Status::Missing { word: 1 }),
-    ];
-    assert_eq!(rt; missed(&rt, alloc, &files, &cases)?.as_str(), "");
+    for (words, ends) in &IN_ORDER {
+        check_files(&rt, rt.alloc(), &TOPLESS, *words, *ends, NOTHING)?;
+    }
     Ok(())
+}
+
+/// The words of a run of so many scripts.
+fn many<'a>(alloc: Global, scripts: u32) -> Result<Vec<&'a str>, AllocError> {
+    let mut words = vec![in alloc; "run", "F"]?;
+    for _ in 0..scripts {
+        words.push("S")?;
+    }
+    Ok(words)
+}
+
+/// A pair, and a script without lines.
+static NO_LINES: [File<'static>; 2] = [("F", &[PAIR]), ("S", &[])];
+
+/// Checks how a run of so many scripts without lines ends.
+fn many_end<R: Abort + Threads + Wait + Sync>(
+    rt: &R,
+    alloc: Global,
+    scripts: u32,
+    ends: &[&str],
+) -> Result<(), Fail> {
+    let words = many(alloc, scripts)?;
+    check_files(rt, alloc, &NO_LINES, &words, ends, ANYTHING)
 }
 
 #[test]
 fn a_run_has_at_most_64_scripts(rt: HostRuntime) -> Result<(), Fail> {
-    let alloc = rt.alloc();
-    let mut given = vec![in alloc; "run", "F"]?;
-    for _ in 0..64 {
-        given.push("S")?;
+    many_end(&rt, rt.alloc(), 64, OK)?;
+    many_end(&rt, rt.alloc(), 65, USAGE)
+}
+
+/// A script of so many bytes, in pieces.
+fn long<'a>(alloc: Global, bytes: u32) -> Result<Vec<&'a str>, AllocError> {
+    let mut pieces = Vec::new(alloc);
+    for _ in 0..bytes {
+        pieces.push("#")?;
     }
-    let files = [("F", PAIR), ("S", "")];
-    let (status, _) = free_run(&rt, alloc, &files, &given)?;
-    assert!(rt; status == Status::Ok);
-    given.push("S")?;
-    let (status, _) = free_run(&rt, alloc, &files, &given)?;
-    assert!(rt; status == Status::Usage);
-    Ok(())
+    Ok(pieces)
+}
+
+/// Checks how a run of a script of so many bytes ends.
+fn long_ends<R: Abort + Threads + Wait + Sync>(
+    rt: &R,
+    alloc: Global,
+    bytes: u32,
+    status: &[&str],
+) -> Result<(), Fail> {
+    let pieces = long(alloc, bytes)?;
+    ends(rt, alloc, &pieces, status)
 }
 
 #[test]
 fn a_script_has_at_most_256_kib(rt: HostRuntime) -> Result<(), Fail> {
-    let alloc = rt.alloc();
-    let mut script = String::new(alloc);
-    for _ in 0..262_144 {
-        script.push_str("#")?;
-    }
-    let (status, _) = free_run(
-        &rt,
-        alloc,
-        &[("F", PAIR), ("S", script.as_str())],
-        &["run", "F", "S"],
-    )?;
-    assert!(rt; status == Status::Ok);
-    script.push_str("#")?;
-    let (status, _) = free_run(
-        &rt,
-        alloc,
-        &[("F", PAIR), ("S", script.as_str())],
-        &["run", "F", "S"],
-    )?;
-    assert!(rt; status == Status::TooLarge { word: 2 });
-    Ok(())
+    let too_large = &["8 TooLarge { word: 2 }"];
+    long_ends(&rt, rt.alloc(), 262_144, OK)?;
+    long_ends(&rt, rt.alloc(), 262_145, too_large)
 }
 
-/// Each call of the files fails in turn: three while the design file is read, and three while the script is.
+const DESIGN_FAULT: &[&str] = &["4 ReadFault { word: 1 }"];
+
+const SCRIPT_FAULT: &[&str] = &["4 ReadFault { word: 2 }"];
+
+/// The call of the files that fails, and the status: three read the design file, and three the script.
+static READS: [(u64, &[&str]); 6] = [
+    (1, DESIGN_FAULT),
+    (2, DESIGN_FAULT),
+    (3, DESIGN_FAULT),
+    (4, SCRIPT_FAULT),
+    (5, SCRIPT_FAULT),
+    (6, SCRIPT_FAULT),
+];
+
+/// A run whose files fail at no call.
+const FIRST_RUN: Case<'static> = Case {
+    files: &[("F", &[PAIR]), ("S", &[FIRST])],
+    words: &RUN,
+    ..WRITE
+};
+
+/// Checks how that run ends where these calls of the files fail.
+fn read_ends<'a, R: Abort + Threads + Wait + Sync>(
+    rt: &R,
+    alloc: Global,
+    failing: &'a [u64],
+    ends: &'a [&'a str],
+) -> Result<(), Fail> {
+    let case = Case {
+        failing,
+        ends,
+        ..FIRST_RUN
+    };
+    check(rt, alloc, &case)
+}
+
 #[test]
 fn each_read_fails_in_turn(rt: HostRuntime) -> Result<(), Fail> {
-    let alloc = rt.alloc();
-    let files = [("F", PAIR), ("S", FIRST)];
-    for (call, want) in [
-        (1, Status::ReadFault { word: 1 }),
-        (2, Status::ReadFault { word: 1 }),
-        (3, Status::ReadFault { word: 1 }),
-        (4, Status::ReadFault { word: 2 }),
-        (5, Status::ReadFault { word: 2 }),
-        (6, Status::ReadFault { word: 2 }),
-        (7, Status::Ok),
-    ] {
-        let (status, out) = run(&rt, alloc, &files, &[call], &["run", "F", "S"], &FreeGate)?;
-        assert!(rt; status == want, "call {call}");
-        assert_eq!(rt; out.written().is_empty(), call < 7);
+    for (call, ends) in &READS {
+        read_ends(&rt, rt.alloc(), &[*call], *ends)?;
     }
     Ok(())
 }
 
-/// Runs `write` on the counter with a sink of this length: the status, and whether what was written is so much of its text.
+/// Six calls read both files.
+static SEVENTH_FAILS: Case<'static> = Case {
+    failing: &[7],
+    writes: Writes::Each(&["history\n"]),
+    ..FIRST_RUN
+};
+
+#[test]
+fn a_seventh_read_is_not_made(rt: HostRuntime) -> Result<(), Fail> {
+    check(&rt, rt.alloc(), &SEVENTH_FAILS)
+}
+
+/// `write F` on the counter.
+const CUT: Case<'static> = Case {
+    files: &[("F", &[COUNTER])],
+    writes: Writes::Front(COUNTER_TEXT),
+    ..WRITE
+};
+
+/// Checks how `write` on the counter ends, with a sink of this length, which takes so much of its text.
 fn write_up_to<R: Abort + Threads + Wait + Sync>(
     rt: &R,
     alloc: Global,
     length: u64,
-) -> Result<(Status, bool), Fail> {
-    let files = named(alloc, &[("F", COUNTER)])?;
-    assert!(rt; names_differ(&files));
-    let mut files = MemFiles::new(Row::of(files), Row::of(Vec::new(alloc)));
-    let mut out = MemSink::new(alloc, Some(length));
-    let given = words(alloc, &["write", "F"])?;
-    let status = run_netdb(rt, alloc, &given, &mut files, &mut out, &FreeGate);
-    let front = COUNTER_TEXT.as_bytes().starts_with(out.written());
-    Ok((status, front && out.written().len() as u64 == length))
+    ends: &[&str],
+) -> Result<(), Fail> {
+    let case = Case {
+        length: Some(length),
+        ends,
+        ..CUT
+    };
+    check(rt, alloc, &case)
 }
 
 #[test]
 fn a_sink_fails_at_each_length(rt: HostRuntime) -> Result<(), Fail> {
-    let alloc = rt.alloc();
     let whole = COUNTER_TEXT.len() as u64;
     for length in 0..whole {
-        let (status, front) = write_up_to(&rt, alloc, length)?;
-        assert!(rt; status == Status::WriteFault, "length {length}");
-        assert!(rt; front, "length {length}");
+        write_up_to(&rt, rt.alloc(), length, &["5 WriteFault"])?;
     }
-    let (status, front) = write_up_to(&rt, alloc, whole)?;
-    assert!(rt; status == Status::Ok);
-    assert!(rt; front);
-    Ok(())
+    write_up_to(&rt, rt.alloc(), whole, OK)
 }
 
 /// A script without lines leaves the design as it is.
+static WITHOUT_LINES: Case<'static> = Case {
+    files: &[("F", &[HEAD, ")"]), ("S", &[])],
+    words: &RUN,
+    writes: Writes::All(&["history\nscript 0\ndesign\n", EMPTY]),
+    ..WRITE
+};
+
 #[test]
 fn an_empty_run_writes_the_design(rt: HostRuntime) -> Result<(), Fail> {
-    let alloc = rt.alloc();
-    let empty = format!(in alloc; "{HEAD})")?;
-    let report = format!(in alloc; "history\nscript 0\ndesign\n{EMPTY}")?;
-    let (status, out) = free_run(
-        &rt,
-        alloc,
-        &[("F", empty.as_str()), ("S", "")],
-        &["run", "F", "S"],
-    )?;
-    assert!(rt; status == Status::Ok);
-    assert_eq!(rt; out.written(), report.as_bytes());
+    check(&rt, rt.alloc(), &WITHOUT_LINES)
+}
+
+/// Checks the number of a status, the word that it is about, and its text.
+fn is_told(
+    rt: &impl Abort,
+    alloc: Global,
+    status: &Status,
+    numbers: (u8, Option<u32>),
+    want: &str,
+) -> Result<(), Fail> {
+    let text = status_text(alloc, status)?;
+    let told = text.as_slice() == want.as_bytes();
+    assert!(rt;
+        told && numbers == (status.number(), status.word()),
+        "{status:?}"
+    );
     Ok(())
 }
 
 #[test]
 fn statuses_are_told(rt: HostRuntime) -> Result<(), Fail> {
-    let alloc = rt.alloc();
     let bad = Status::BadScript { word: 2, line: 17 };
-    assert_eq!(rt; bad.number(), 7);
-    assert_eq!(rt; bad.word(), Some(2));
-    assert_eq!(rt;
-        status_text(alloc, &bad)?.as_slice(),
-        b"bad script at line 17".as_slice()
-    );
-    assert_eq!(rt; Status::LogFull.number(), 10);
-    assert_eq!(rt; Status::LogFull.word(), None);
-    assert_eq!(rt;
-        status_text(alloc, &Status::LogFull)?.as_slice(),
-        b"log full".as_slice()
-    );
-    Ok(())
+    is_told(&rt, rt.alloc(), &bad, (7, Some(2)), "bad script at line 17")?;
+    is_told(&rt, rt.alloc(), &Status::LogFull, (10, None), "log full")
 }

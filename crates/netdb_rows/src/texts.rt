@@ -27,6 +27,10 @@ pub const INVERTER_TEXT: &str = "(edif e
 ";
 
 /// An identifier without a first letter, a renamed port, and a string with a quote and a percent sign.
+pub const NAMES: &str =
+    " (cell &1 (cellType GENERIC) (view v (viewType NETLIST) (interface (port (rename a_0_ \"a[0]\") (direction INPUT))) (property K (string \"%34 37%\"))))))";
+
+/// Their text.
 pub const NAMES_TEXT: &str = "(edif e
  (edifVersion 2 0 0)
  (edifLevel 0)
