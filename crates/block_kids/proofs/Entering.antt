@@ -1,5 +1,5 @@
 -- The read of all that is below a top, cell by cell.
-use Rattle.std.proofs.Common.{◌≡◌, ◌⊎◌, ◌<◌, ◌≤◌, ◌+◌, inl, inr, ⊎_elim, ℕ, zero, suc, arith, lit<, List, [], ◌∷◌, ◌++◌, length, take, get_or, length-append, Option, refl, sym, ap, subst, ◌∙◌}
+use Rattle.std.proofs.Common.{◌≡◌, ◌⊎◌, ◌<◌, ◌≤◌, ◌+◌, inl, inr, ⊎_elim, ℕ, arith, lit<, List, [], ◌∷◌, ◌++◌, length, take, get_or, length-append, Option, refl, sym, ap, subst, ◌∙◌}
 use Rattle.std.specs.Prelude.{MatchResult, Result, Ok, Err}
 use Rattle.std.specs.List.{Contains}
 use Rattle.std.proofs.lemmas.List.{take_more, take-append-le}
@@ -7,20 +7,21 @@ use Rattle.std.proofs.lemmas.List.Elements.{Contains-append_left, Contains-appen
 use Rattle.netlist_schema.specs.Design.{Design, cell_at, insts_in}
 use Rattle.netlist_schema.specs.Hierarchy.{IsBelow, placed, deeper, insts_at}
 use Rattle.netlist_schema.specs.Types.{CellId, Contents, Inst, Object}
+use Rattle.netlist_schema.proofs.Ranks.{below_trans}
 use Rattle.edit_core.specs.Seen.{contents_at}
+use Rattle.uniquify_spec.proofs.Agreed.{insts_inside}
 use Rattle.cells_model.specs.Parts.{IsInside}
 use Rattle.cells_model.specs.State.{State, HasRead, HasReadSome}
 use Rattle.cells_model.proofs.Growing.{grows_by_same, prefix_twice}
 use Rattle.eco_reads.specs.Walk.{GoesOn, IsPlaced}
-use Rattle.eco_reads.proofs.Below.{placed_of, take_whole}
-use Rattle.eco_reads.proofs.Paths.{insts_of_found}
+use Rattle.eco_reads.proofs.Below.{placed_of, take_whole, only_one, placed_inst}
 use Rattle.eco_reads.proofs.Reading.{read_some, read_then}
 use Rattle.copy_names.proofs.SomeReads.{some_then}
 use Rattle.block_reads.specs.ForBlocks.{IsForBlock}
 use Rattle.block_kids.specs.Below.{IsForAllBelow}
 
 pub goes_inside : (a b : List CellId) (d : Design) (id : CellId) (lent : Option Contents) → lent ≡ contents_at d id → GoesOn a b (IsPlaced (insts_in lent)) → GoesOn a b (IsPlaced (insts_at d id))
-goes_inside a b d id lent same goes = subst (λ (insts : List Inst). GoesOn a b (IsPlaced insts)) (ap insts_in same ∙ insts_of_found (cell_at d id)) goes
+goes_inside a b d id lent same goes = subst (λ (insts : List Inst). GoesOn a b (IsPlaced insts)) (ap insts_in same ∙ insts_inside (cell_at d id)) goes
 
 -- what is inside a cell that was read is read already
 read_again : (s t u : State) (id : CellId) → HasRead s t (IsForBlock s.design id) → HasRead t u (IsInside id) → HasRead s u (IsForBlock s.design id)
@@ -39,20 +40,6 @@ read_entered s t u id (Err refused) first second = some_then s t u (read_some s 
 
 none_in : {X : Type 0} (x : X) → Contains [] x → ⊥
 none_in x has = absurd (omega (arith, has.1))
-
-only_one : {X : Type 0} (x y : X) → Contains (x ∷ []) y → y ≡ x
-only_one x y (zero, lt, is) = sym is
-only_one x y (suc k, lt, is) = absurd (omega (arith, lt))
-
-below_trans : (d : Design) {inner id from : CellId} → IsBelow d inner id → IsBelow d id from → IsBelow d inner from
-below_trans d first (placed inst has) = deeper inst has first
-below_trans d first (deeper inst has rest) = deeper inst has (below_trans d first rest)
-
-placed_inst : (insts : List Inst) (id : CellId) → IsPlaced insts id → (inst : Inst) × Contains insts inst × (inst.of ≡ id)
-placed_inst [] id has = absurd (none_in id has)
-placed_inst (x ∷ xs) id (zero, lt, is) = (x, (0, omega arith, refl), is)
-placed_inst (x ∷ xs) id (suc k, lt, is) =
-    let rest = placed_inst xs id (k, omega (arith, lt), is) in (rest.0, Contains-append_right (x ∷ []) xs rest.0 rest.1, rest.2)
 
 one_below : (d : Design) (id inner : CellId) → IsPlaced (insts_at d id) inner → IsBelow d inner id
 one_below d id inner is =

@@ -8,14 +8,14 @@ use Rattle.netlist_schema.specs.Design.{Design, cell_at, insts_in}
 use Rattle.netlist_schema.specs.Hierarchy.{insts_at}
 use Rattle.netlist_schema.specs.Types.{CellId, Contents, Inst}
 use Rattle.edit_core.specs.Seen.{contents_at}
+use Rattle.uniquify_spec.proofs.Agreed.{insts_inside}
 use Rattle.eco_reads.proofs.Below.{take_whole}
-use Rattle.eco_reads.proofs.Paths.{insts_of_found}
 use Rattle.uniquify_spec.specs.Blocks.{is_block}
 use Rattle.cell_copies.specs.declared.spot.Step.{Step}
 use Rattle.block_kids.specs.Kids.{step_of, steps_of}
 
 pub steps_found : (d : Design) (at : CellId) (steps : List Step) (lent : Option Contents) → lent ≡ contents_at d at → steps ≡ steps_of (insts_in lent) → steps ≡ steps_of (insts_at d at)
-steps_found d at steps lent inside is = is ∙ ap (λ (c : Option Contents). steps_of (insts_in c)) inside ∙ ap steps_of (insts_of_found (cell_at d at))
+steps_found d at steps lent inside is = is ∙ ap (λ (c : Option Contents). steps_of (insts_in c)) inside ∙ ap steps_of (insts_inside (cell_at d at))
 
 -- ---- one instance more
 

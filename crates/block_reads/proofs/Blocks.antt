@@ -34,11 +34,6 @@ got [] i d less = absurd (omega arith)
 got (x ∷ xs) zero d less = refl
 got (x ∷ xs) (suc i) d less = got xs i d (omega (arith, less))
 
-pub within : {X : Type 0} (xs : List X) (i : ℕ) (x : X) → slice_get xs i ≡ Some x → i < length xs
-within [] i x at = cc
-within (x ∷ xs) zero y at = omega arith
-within (x ∷ xs) (suc i) y at = let less = within xs i y at in omega (arith, less)
-
 pub is_got : {X : Type 0} (xs : List X) (i : ℕ) (x : X) → slice_get xs i ≡ Some x → x ≡ get_or xs i x
 is_got [] i x at = cc
 is_got (y ∷ xs) zero x at = let same : y ≡ x = cc in sym same

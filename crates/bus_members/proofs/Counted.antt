@@ -1,12 +1,11 @@
 -- The first members of a list of nets.
 use Rattle.std.proofs.Common.{◌≡◌, ℕ, zero, suc, ◌+◌, ◌<◌, ◌≤◌, List, [], ◌∷◌, take, length, get_or, refl, ap, sym, ◌∙◌, subst, ◌⊎◌, inl, inr, true, false, Bool, Option, Some, arith}
 use Rattle.std.specs.Prelude.{slice_get}
-use Rattle.std.proofs.lemmas.Bool.{cases_lt}
+use Rattle.std.proofs.lemmas.Bool.{cases_lt, and_parts, and_from}
 use Rattle.std.proofs.lemmas.Option.{slice_get_read}
 use Rattle.netlist_schema.specs.Types.{Net, Port}
 use Rattle.bus_spec.specs.Runs.{are_members, is_member}
 use Rattle.bus_spec.proofs.Rows.{some_same}
-use Rattle.bus_spec.proofs.Tests.{and_true, both}
 
 -- the members and the one behind them
 members_more : (ports : Option ℕ → List Port) (width : ℕ) (first : Net) (k i j : ℕ) (nets : List Net) (n : Net) → j ≡ k + i → slice_get nets i ≡ Some n → are_members ports width first k (take i nets) ≡ true → is_member ports width first j n ≡ true
@@ -17,11 +16,11 @@ members_more ports width first k zero j (x ∷ nets) n e g h m =
     let number : j ≡ k = omega (arith, e) in
     let P : Net → Type 0 = λ v. is_member ports width first j v ≡ true in
     let Q : ℕ → Type 0 = λ v. is_member ports width first v x ≡ true in
-    and_true (is_member ports width first k x) true (subst Q number (subst P same m)) refl
+    and_from (is_member ports width first k x) true (subst Q number (subst P same m)) refl
 members_more ports width first k (suc i) j [] n e g h m = absurd (cc g)
 members_more ports width first k (suc i) j (x ∷ nets) n e g h m =
-    let u = both (is_member ports width first k x) (are_members ports width first (suc k) (take i nets)) h in
-    and_true (is_member ports width first k x) (are_members ports width first (suc k) (take (suc i) nets)) u.0 (members_more ports width first (suc k) i j nets n (omega (arith, e)) g u.1 m)
+    let u = and_parts (is_member ports width first k x) (are_members ports width first (suc k) (take i nets)) h in
+    and_from (is_member ports width first k x) (are_members ports width first (suc k) (take (suc i) nets)) u.0 (members_more ports width first (suc k) i j nets n (omega (arith, e)) g u.1 m)
 
 -- a member among the first ones
 member_among : (ports : Option ℕ → List Port) (width : ℕ) (first : Net) (k i j v : ℕ) (nets : List Net) (n : Net) → j ≡ k + i → i < v → slice_get nets i ≡ Some n → are_members ports width first k (take v nets) ≡ true
@@ -33,9 +32,9 @@ member_among ports width first k zero j (suc v) (x ∷ nets) n e l g h =
     let number : k ≡ j = omega (arith, e) in
     let P : Net → Type 0 = λ w. is_member ports width first k w ≡ true in
     let Q : ℕ → Type 0 = λ w. is_member ports width first w n ≡ true in
-    subst Q number (subst P same (both (is_member ports width first k x) (are_members ports width first (suc k) (take v nets)) h).0)
+    subst Q number (subst P same (and_parts (is_member ports width first k x) (are_members ports width first (suc k) (take v nets)) h).0)
 member_among ports width first k (suc i) j (suc v) (x ∷ nets) n e l g h =
-    member_among ports width first (suc k) i j v nets n (omega (arith, e)) (omega (arith, l)) g (both (is_member ports width first k x) (are_members ports width first (suc k) (take v nets)) h).1
+    member_among ports width first (suc k) i j v nets n (omega (arith, e)) (omega (arith, l)) g (and_parts (is_member ports width first k x) (are_members ports width first (suc k) (take v nets)) h).1
 
 -- the net of a number that a loop has come to
 there : (nets : List Net) (n : Net) (count i : ℕ) → count ≡ i → i < length nets → n ≡ get_or nets i n → slice_get nets count ≡ Some n

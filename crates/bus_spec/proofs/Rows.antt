@@ -3,12 +3,14 @@ use Rattle.std.proofs.Common.{◌≡◌, ℕ, zero, suc, ◌+◌, ◌≤◌, Lis
 use Rattle.std.specs.Prelude.{◌&&◌, nat_eq, nat_le, slice_get, unwrap_or}
 use Rattle.std.specs.Cmp.Lexicographic.{pointwise}
 use Rattle.std.proofs.lemmas.Bool.Decides.{Decides-eqb, nat_tests}
+use Rattle.std.proofs.lemmas.Bool.{and_parts, and_from}
+use Rattle.std.proofs.lemmas.List.{length-map}
 use Rattle.netlist_schema.specs.Types.{End, Name, Net, Port}
 use Rattle.bus_spec.specs.Members.{displayed, member_id, member_text, member_name, numbered}
 use Rattle.bus_spec.specs.Same.{same_name, same_properties}
 use Rattle.bus_spec.specs.Runs.{IsBitOf, IsRow, IsRun, array_name, are_members, is_array, is_bit, is_member, is_run, is_wide, row_net, run_name, same_inst, stem, with_bit}
 use Rattle.bus_spec.proofs.Numbers.{array_member, stem_of_id, stem_of_text}
-use Rattle.bus_spec.proofs.Tests.{both, and_true, inst_tells, name_tells, properties_tell}
+use Rattle.bus_spec.proofs.Tests.{inst_tells, name_tells, properties_tell}
 
 pub some_same : {A : Type 0} (x y : A) → Some x ≡ Some y → x ≡ y
 some_same x y e = cc e
@@ -39,17 +41,17 @@ wide_is width (Some q) p e a = let d : q ≡ p = some_same q p e in array_is wid
 bit_there : (ports : Option ℕ → List Port) (width k : ℕ) (a b : End) → is_bit ports width k a b ≡ true → Bit ports width k a b
 bit_there ports width k a b h =
     let wide = is_wide width (slice_get (ports b.inst) b.port) in
-    let u = both (same_inst a.inst b.inst && nat_eq a.port b.port) (nat_eq b.bit k && wide) h in
-    let v = both (same_inst a.inst b.inst) (nat_eq a.port b.port) u.0 in
-    let w = both (nat_eq b.bit k) wide u.1 in
+    let u = and_parts (same_inst a.inst b.inst && nat_eq a.port b.port) (nat_eq b.bit k && wide) h in
+    let v = and_parts (same_inst a.inst b.inst) (nat_eq a.port b.port) u.0 in
+    let w = and_parts (nat_eq b.bit k) wide u.1 in
     let p = wide_there width (slice_get (ports b.inst) b.port) w.1 in
     record { inst = (inst_tells a.inst b.inst).0 v.0; port = eqb-true a.port b.port v.1; bit = eqb-true b.bit k w.0; wide = record { port = p.0; there = p.1; array = p.2 } }
 
 bit_is : (ports : Option ℕ → List Port) (width k : ℕ) (a b : End) → Bit ports width k a b → is_bit ports width k a b ≡ true
 bit_is ports width k a b h =
-    and_true (same_inst a.inst b.inst && nat_eq a.port b.port) (nat_eq b.bit k && is_wide width (slice_get (ports b.inst) b.port))
-    (and_true (same_inst a.inst b.inst) (nat_eq a.port b.port) ((inst_tells a.inst b.inst).1 h.inst) ((Decides-eqb a.port b.port).1 h.port))
-    (and_true (nat_eq b.bit k) (is_wide width (slice_get (ports b.inst) b.port)) ((Decides-eqb b.bit k).1 h.bit) (wide_is width (slice_get (ports b.inst) b.port) h.wide.port h.wide.there h.wide.array))
+    and_from (same_inst a.inst b.inst && nat_eq a.port b.port) (nat_eq b.bit k && is_wide width (slice_get (ports b.inst) b.port))
+    (and_from (same_inst a.inst b.inst) (nat_eq a.port b.port) ((inst_tells a.inst b.inst).1 h.inst) ((Decides-eqb a.port b.port).1 h.port))
+    (and_from (nat_eq b.bit k) (is_wide width (slice_get (ports b.inst) b.port)) ((Decides-eqb b.bit k).1 h.bit) (wide_is width (slice_get (ports b.inst) b.port) h.wide.port h.wide.there h.wide.array))
 
 -- the ends of a member
 ends_are : (ports : Option ℕ → List Port) (width k : ℕ) (xs ys : List End) → pointwise (is_bit ports width k) xs ys ≡ true → ys ≡ map (with_bit k) xs
@@ -57,7 +59,7 @@ ends_are ports width k [] [] h = refl
 ends_are ports width k [] (y ∷ ys) h = absurd (cc h)
 ends_are ports width k (x ∷ xs) [] h = absurd (cc h)
 ends_are ports width k (x ∷ xs) (y ∷ ys) h =
-    let u = both (is_bit ports width k x y) (pointwise (is_bit ports width k) xs ys) h in
+    let u = and_parts (is_bit ports width k x y) (pointwise (is_bit ports width k) xs ys) h in
     let b = bit_there ports width k x y u.0 in
     let r : ys ≡ map (with_bit k) xs = ends_are ports width k xs ys u.1 in
     let e : y ≡ with_bit k x = (λ j. record { inst = sym b.inst j; port = sym b.port j; bit = b.bit j }) in
@@ -68,17 +70,17 @@ end_at ports width k [] [] i e h g = absurd (cc g)
 end_at ports width k [] (y ∷ ys) i e h g = absurd (cc h)
 end_at ports width k (x ∷ xs) [] i e h g = absurd (cc h)
 end_at ports width k (x ∷ xs) (y ∷ ys) zero e h g =
-    let u = both (is_bit ports width k x y) (pointwise (is_bit ports width k) xs ys) h in
+    let u = and_parts (is_bit ports width k x y) (pointwise (is_bit ports width k) xs ys) h in
     let P : End → Type 0 = λ v. Bit ports width k x v in
     (x, refl, subst P (some_same y e g) (bit_there ports width k x y u.0))
-end_at ports width k (x ∷ xs) (y ∷ ys) (suc i) e h g = end_at ports width k xs ys i e (both (is_bit ports width k x y) (pointwise (is_bit ports width k) xs ys) h).1 g
+end_at ports width k (x ∷ xs) (y ∷ ys) (suc i) e h g = end_at ports width k xs ys i e (and_parts (is_bit ports width k x y) (pointwise (is_bit ports width k) xs ys) h).1 g
 
 -- the ends of two nets, pair by pair
 ends_pass : (ports : Option ℕ → List Port) (width k : ℕ) (xs ys : List End) → length xs ≡ length ys → ((i : ℕ) (a b : End) → slice_get xs i ≡ Some a → slice_get ys i ≡ Some b → Bit ports width k a b) → pointwise (is_bit ports width k) xs ys ≡ true
 ends_pass ports width k [] [] l f = refl
 ends_pass ports width k [] (y ∷ ys) l f = absurd (omega (arith, l))
 ends_pass ports width k (x ∷ xs) [] l f = absurd (omega (arith, l))
-ends_pass ports width k (x ∷ xs) (y ∷ ys) l f = and_true (is_bit ports width k x y) (pointwise (is_bit ports width k) xs ys) (bit_is ports width k x y (f 0 x y refl refl)) (ends_pass ports width k xs ys (omega (arith, l)) (λ i. f (suc i)))
+ends_pass ports width k (x ∷ xs) (y ∷ ys) l f = and_from (is_bit ports width k x y) (pointwise (is_bit ports width k) xs ys) (bit_is ports width k x y (f 0 x y refl refl)) (ends_pass ports width k xs ys (omega (arith, l)) (λ i. f (suc i)))
 
 -- a member, as its test tells it
 pub record Member (ports : Option ℕ → List Port) (width : ℕ) (first : Net) (k : ℕ) (n : Net) : Type 0 where
@@ -88,14 +90,14 @@ pub record Member (ports : Option ℕ → List Port) (width : ℕ) (first : Net)
 
 member_there : (ports : Option ℕ → List Port) (width : ℕ) (first : Net) (k : ℕ) (n : Net) → is_member ports width first k n ≡ true → Member ports width first k n
 member_there ports width first k n h =
-    let u = both (same_name n.name (member_name (run_name first) k)) (same_properties n.properties first.properties && pointwise (is_bit ports width k) first.ends n.ends) h in
-    let v = both (same_properties n.properties first.properties) (pointwise (is_bit ports width k) first.ends n.ends) u.1 in
+    let u = and_parts (same_name n.name (member_name (run_name first) k)) (same_properties n.properties first.properties && pointwise (is_bit ports width k) first.ends n.ends) h in
+    let v = and_parts (same_properties n.properties first.properties) (pointwise (is_bit ports width k) first.ends n.ends) u.1 in
     record { name = (name_tells n.name (member_name (run_name first) k)).0 u.0; properties = (properties_tell n.properties first.properties).0 v.0; ends = v.1 }
 
 member_is : (ports : Option ℕ → List Port) (width : ℕ) (first : Net) (k : ℕ) (n : Net) → Member ports width first k n → is_member ports width first k n ≡ true
 member_is ports width first k n h =
-    and_true (same_name n.name (member_name (run_name first) k)) (same_properties n.properties first.properties && pointwise (is_bit ports width k) first.ends n.ends) ((name_tells n.name (member_name (run_name first) k)).1 h.name)
-    (and_true (same_properties n.properties first.properties) (pointwise (is_bit ports width k) first.ends n.ends) ((properties_tell n.properties first.properties).1 h.properties) h.ends)
+    and_from (same_name n.name (member_name (run_name first) k)) (same_properties n.properties first.properties && pointwise (is_bit ports width k) first.ends n.ends) ((name_tells n.name (member_name (run_name first) k)).1 h.name)
+    (and_from (same_properties n.properties first.properties) (pointwise (is_bit ports width k) first.ends n.ends) ((properties_tell n.properties first.properties).1 h.properties) h.ends)
 
 -- a member is the net of its number in the row
 pub member_net : (ports : Option ℕ → List Port) (width : ℕ) (first : Net) (k : ℕ) (n : Net) → Member ports width first k n → n ≡ row_net first k
@@ -105,23 +107,23 @@ member_net ports width first k n h = let e = ends_are ports width k first.ends n
 member_at : (ports : Option ℕ → List Port) (width : ℕ) (first : Net) (k : ℕ) (nets : List Net) → are_members ports width first k nets ≡ true → (i j : ℕ) (n : Net) → j ≡ k + i → slice_get nets i ≡ Some n → Member ports width first j n
 member_at ports width first k [] h i j n e g = absurd (cc g)
 member_at ports width first k (m ∷ nets) h zero j n e g =
-    let u = both (is_member ports width first k m) (are_members ports width first (suc k) nets) h in
+    let u = and_parts (is_member ports width first k m) (are_members ports width first (suc k) nets) h in
     let same : m ≡ n = some_same m n g in
     let number : k ≡ j = omega (arith, e) in
     let P : Net → Type 0 = λ v. Member ports width first k v in
     let Q : ℕ → Type 0 = λ v. Member ports width first v n in
     subst Q number (subst P same (member_there ports width first k m u.0))
-member_at ports width first k (m ∷ nets) h (suc i) j n e g = member_at ports width first (suc k) nets (both (is_member ports width first k m) (are_members ports width first (suc k) nets) h).1 i j n (omega (arith, e)) g
+member_at ports width first k (m ∷ nets) h (suc i) j n e g = member_at ports width first (suc k) nets (and_parts (is_member ports width first k m) (are_members ports width first (suc k) nets) h).1 i j n (omega (arith, e)) g
 
 members_pass : (ports : Option ℕ → List Port) (width : ℕ) (first : Net) (k : ℕ) (nets : List Net) → ((i j : ℕ) (n : Net) → j ≡ k + i → slice_get nets i ≡ Some n → Member ports width first j n) → are_members ports width first k nets ≡ true
 members_pass ports width first k [] f = refl
-members_pass ports width first k (m ∷ nets) f = and_true (is_member ports width first k m) (are_members ports width first (suc k) nets) (member_is ports width first k m (f 0 k m (omega arith) refl))
+members_pass ports width first k (m ∷ nets) f = and_from (is_member ports width first k m) (are_members ports width first (suc k) nets) (member_is ports width first k m (f 0 k m (omega arith) refl))
     (members_pass ports width first (suc k) nets (λ i j n e g. f (suc i) j n (omega (arith, e)) g))
 
 row_of : (ports : Option ℕ → List Port) (width : ℕ) (first : Net) (k : ℕ) (nets : List Net) → are_members ports width first k nets ≡ true → nets ≡ numbered (row_net first) k (length nets)
 row_of ports width first k [] h = refl
 row_of ports width first k (m ∷ nets) h =
-    let u = both (is_member ports width first k m) (are_members ports width first (suc k) nets) h in
+    let u = and_parts (is_member ports width first k m) (are_members ports width first (suc k) nets) h in
     let e : m ≡ row_net first k = member_net ports width first k m (member_there ports width first k m u.0) in
     let r : nets ≡ numbered (row_net first) (suc k) (length nets) = row_of ports width first (suc k) nets u.1 in
     λ j. e j ∷ r j
@@ -135,9 +137,9 @@ pub record Tested (ports : Option ℕ → List Port) (n : Net) (ns : List Net) :
 
 pub tested : (ports : Option ℕ → List Port) (n : Net) (ns : List Net) → is_run ports (n ∷ ns) ≡ true → Tested ports n ns
 tested ports n ns h =
-    let u = both (nat_le 2 (length (n ∷ ns)) && nat_le (length (n ∷ ns)) 65536) (nat_le 1 (length (stem n.name.id)) && are_members ports (length (n ∷ ns)) n 0 (n ∷ ns)) h in
-    let v = both (nat_le 2 (length (n ∷ ns))) (nat_le (length (n ∷ ns)) 65536) u.0 in
-    let w = both (nat_le 1 (length (stem n.name.id))) (are_members ports (length (n ∷ ns)) n 0 (n ∷ ns)) u.1 in
+    let u = and_parts (nat_le 2 (length (n ∷ ns)) && nat_le (length (n ∷ ns)) 65536) (nat_le 1 (length (stem n.name.id)) && are_members ports (length (n ∷ ns)) n 0 (n ∷ ns)) h in
+    let v = and_parts (nat_le 2 (length (n ∷ ns))) (nat_le (length (n ∷ ns)) 65536) u.0 in
+    let w = and_parts (nat_le 1 (length (stem n.name.id))) (are_members ports (length (n ∷ ns)) n 0 (n ∷ ns)) u.1 in
     let a = v.0 in let b = v.1 in let c = w.0 in
     record { least = below 2 (length (n ∷ ns)) a; most = below (length (n ∷ ns)) 65536 b; some_byte = below 1 (length (stem n.name.id)) c; members = w.1 }
   where
@@ -146,9 +148,9 @@ tested ports n ns h =
 
 pub passed : (ports : Option ℕ → List Port) (n : Net) (ns : List Net) → Tested ports n ns → is_run ports (n ∷ ns) ≡ true
 passed ports n ns h =
-    and_true (nat_le 2 (length (n ∷ ns)) && nat_le (length (n ∷ ns)) 65536) (nat_le 1 (length (stem n.name.id)) && are_members ports (length (n ∷ ns)) n 0 (n ∷ ns))
-    (and_true (nat_le 2 (length (n ∷ ns))) (nat_le (length (n ∷ ns)) 65536) (within 2 (length (n ∷ ns)) h.least) (within (length (n ∷ ns)) 65536 h.most))
-    (and_true (nat_le 1 (length (stem n.name.id))) (are_members ports (length (n ∷ ns)) n 0 (n ∷ ns)) (within 1 (length (stem n.name.id)) h.some_byte) h.members)
+    and_from (nat_le 2 (length (n ∷ ns)) && nat_le (length (n ∷ ns)) 65536) (nat_le 1 (length (stem n.name.id)) && are_members ports (length (n ∷ ns)) n 0 (n ∷ ns))
+    (and_from (nat_le 2 (length (n ∷ ns))) (nat_le (length (n ∷ ns)) 65536) (within 2 (length (n ∷ ns)) h.least) (within (length (n ∷ ns)) 65536 h.most))
+    (and_from (nat_le 1 (length (stem n.name.id))) (are_members ports (length (n ∷ ns)) n 0 (n ∷ ns)) (within 1 (length (stem n.name.id)) h.some_byte) h.members)
   where
     within : (x y : ℕ) → x ≤ y → nat_le x y ≡ true
     within x y e = grind (arith, nat_tests)
@@ -162,16 +164,12 @@ row_there ports (n ∷ ns) h =
     record { first = n; there = refl; some_byte = t.some_byte; row = row_of ports (length (n ∷ ns)) n 0 (n ∷ ns) t.members; wide = λ i e g. (end_at ports (length (n ∷ ns)) 0 n.ends n.ends i e m.ends g).2.wide }
 
 -- and a run
-map_count : {A B : Type 0} (f : A → B) (xs : List A) → length (map f xs) ≡ length xs
-map_count f [] = refl
-map_count f (x ∷ xs) = ap suc (map_count f xs)
-
 pub run_there : (ports : Option ℕ → List Port) (nets : List Net) → is_run ports nets ≡ true → IsRun ports nets
 run_there ports [] h = absurd (cc h)
 run_there ports (n ∷ ns) h =
     let t = tested ports n ns h in
     let at : (k : ℕ) (m : Net) → slice_get (n ∷ ns) k ≡ Some m → Member ports (length (n ∷ ns)) n k m = λ k m g. member_at ports (length (n ∷ ns)) n 0 (n ∷ ns) t.members k k m (omega arith) g in
-    let count : (k : ℕ) (m : Net) → slice_get (n ∷ ns) k ≡ Some m → length m.ends ≡ length n.ends = λ k m g. ap length (ends_are ports (length (n ∷ ns)) k n.ends m.ends (at k m g).ends) ∙ map_count (with_bit k) n.ends in
+    let count : (k : ℕ) (m : Net) → slice_get (n ∷ ns) k ≡ Some m → length m.ends ≡ length n.ends = λ k m g. ap length (ends_are ports (length (n ∷ ns)) k n.ends m.ends (at k m g).ends) ∙ length-map n.ends (with_bit k) in
     record {
       least = t.least;
       most = t.most;

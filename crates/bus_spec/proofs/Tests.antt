@@ -4,20 +4,12 @@ use Rattle.std.specs.Prelude.{◌&&◌}
 use Rattle.std.specs.Bool.{Decides}
 use Rattle.std.specs.Cmp.Lexicographic.{pointwise_decides, bytes_decides}
 use Rattle.std.proofs.lemmas.Bool.Decides.{Decides-int_eq, Decides-eqb}
+use Rattle.std.proofs.lemmas.Bool.{and_parts, and_from}
 use Rattle.netlist_schema.specs.Types.{Name, Num, Property, Value}
 use Rattle.netlist_schema.specs.declared.property.Num.TheVariants as numbers
 use Rattle.netlist_schema.specs.declared.property.Value.TheVariants as values
 use Rattle.bus_spec.specs.Same.{same_bytes, same_text, same_name, same_number, same_truth, same_value, same_property, same_properties}
 use Rattle.bus_spec.specs.Runs.{same_inst}
-
--- two tests that both pass
-pub both : (a b : Bool) → (a && b) ≡ true → (a ≡ true) × (b ≡ true)
-both true b h = (refl, h)
-both false b h = absurd (cc h)
-
-pub and_true : (a b : Bool) → a ≡ true → b ≡ true → (a && b) ≡ true
-and_true true b h k = k
-and_true false b h k = absurd (cc h)
 
 pub bytes_tell : (a b : List ℕ) → Decides (same_bytes a b) (a ≡ b)
 bytes_tell a b = bytes_decides a b
@@ -33,13 +25,13 @@ name_tells a b = (there, back)
   where
     there : same_name a b ≡ true → a ≡ b
     there h =
-        let u = both (same_bytes a.id b.id) (same_text a.shown b.shown) h in
+        let u = and_parts (same_bytes a.id b.id) (same_text a.shown b.shown) h in
         let i : a.id ≡ b.id = (bytes_tell a.id b.id).0 u.0 in
         let s : a.shown ≡ b.shown = (text_tells a.shown b.shown).0 u.1 in
         λ j. record { id = i j; shown = s j }
 
     back : a ≡ b → same_name a b ≡ true
-    back e = and_true (same_bytes a.id b.id) (same_text a.shown b.shown) ((bytes_tell a.id b.id).1 (ap (λ (n : Name). n.id) e)) ((text_tells a.shown b.shown).1 (ap (λ (n : Name). n.shown) e))
+    back e = and_from (same_bytes a.id b.id) (same_text a.shown b.shown) ((bytes_tell a.id b.id).1 (ap (λ (n : Name). n.id) e)) ((text_tells a.shown b.shown).1 (ap (λ (n : Name). n.shown) e))
 
 pub number_tells : (a b : Num) → Decides (same_number a b) (a ≡ b)
 number_tells (numbers.Int y) (numbers.Int z) = (λ h. ap (λ v. numbers.Int v) ((Decides-int_eq y z).0 h), λ e. let d : y ≡ z = cc e in (Decides-int_eq y z).1 d)
@@ -49,7 +41,7 @@ number_tells (numbers.Scaled m x) (numbers.Scaled n f) = (there, back)
   where
     there : same_number (numbers.Scaled m x) (numbers.Scaled n f) ≡ true → numbers.Scaled m x ≡ numbers.Scaled n f
     there h =
-        let u = both (same_number (numbers.Int m) (numbers.Int n)) (same_number (numbers.Int x) (numbers.Int f)) h in
+        let u = and_parts (same_number (numbers.Int m) (numbers.Int n)) (same_number (numbers.Int x) (numbers.Int f)) h in
         let a : m ≡ n = (Decides-int_eq m n).0 u.0 in
         let b : x ≡ f = (Decides-int_eq x f).0 u.1 in
         λ j. numbers.Scaled (a j) (b j)
@@ -58,7 +50,7 @@ number_tells (numbers.Scaled m x) (numbers.Scaled n f) = (there, back)
     back e =
         let a : m ≡ n = cc e in
         let b : x ≡ f = cc e in
-        and_true (same_number (numbers.Int m) (numbers.Int n)) (same_number (numbers.Int x) (numbers.Int f)) ((Decides-int_eq m n).1 a) ((Decides-int_eq x f).1 b)
+        and_from (same_number (numbers.Int m) (numbers.Int n)) (same_number (numbers.Int x) (numbers.Int f)) ((Decides-int_eq m n).1 a) ((Decides-int_eq x f).1 b)
 
 truth_tells : (a b : Bool) → Decides (same_truth a b) (a ≡ b)
 truth_tells true true = (λ h. refl, λ e. refl)
@@ -89,16 +81,16 @@ property_tells p q = (there, back)
   where
     there : same_property p q ≡ true → p ≡ q
     there h =
-        let u = both (same_name p.key q.key) (same_value p.value q.value && same_text p.owner q.owner) h in
-        let w = both (same_value p.value q.value) (same_text p.owner q.owner) u.1 in
+        let u = and_parts (same_name p.key q.key) (same_value p.value q.value && same_text p.owner q.owner) h in
+        let w = and_parts (same_value p.value q.value) (same_text p.owner q.owner) u.1 in
         let k : p.key ≡ q.key = (name_tells p.key q.key).0 u.0 in
         let v : p.value ≡ q.value = (value_tells p.value q.value).0 w.0 in
         let o : p.owner ≡ q.owner = (text_tells p.owner q.owner).0 w.1 in
         λ j. record { key = k j; value = v j; owner = o j }
 
     back : p ≡ q → same_property p q ≡ true
-    back e = and_true (same_name p.key q.key) (same_value p.value q.value && same_text p.owner q.owner) ((name_tells p.key q.key).1 (ap (λ (x : Property). x.key) e))
-        (and_true (same_value p.value q.value) (same_text p.owner q.owner) ((value_tells p.value q.value).1 (ap (λ (x : Property). x.value) e)) ((text_tells p.owner q.owner).1 (ap (λ (x : Property). x.owner) e)))
+    back e = and_from (same_name p.key q.key) (same_value p.value q.value && same_text p.owner q.owner) ((name_tells p.key q.key).1 (ap (λ (x : Property). x.key) e))
+        (and_from (same_value p.value q.value) (same_text p.owner q.owner) ((value_tells p.value q.value).1 (ap (λ (x : Property). x.value) e)) ((text_tells p.owner q.owner).1 (ap (λ (x : Property). x.owner) e)))
 
 pub properties_tell : (ps qs : List Property) → Decides (same_properties ps qs) (ps ≡ qs)
 properties_tell ps qs = pointwise_decides property_tells ps qs

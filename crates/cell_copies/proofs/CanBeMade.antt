@@ -5,10 +5,10 @@ use Rattle.std.specs.List.{AllByRecursion, flat_map}
 use Rattle.std.specs.Option.{option_map, option_to_list}
 use Rattle.netlist_schema.specs.Design.{Design, cell_at}
 use Rattle.netlist_schema.specs.Types.{CellBody, CellId, Contents}
+use Rattle.netlist_schema.proofs.Lists.{all_append}
 use Rattle.edit_core.specs.Edit.{edited, edited_once, fresh, inner, with_contents, with_more_cell}
 use Rattle.edit_core.specs.Seen.{contents_at}
 use Rattle.edit_core.proofs.Edits.{cases_cell, cell_at-changed_same, cell_at-changed_other}
-use Rattle.edit_core.proofs.Lists.{each_append}
 use Rattle.flat_spec.proofs.ListLemmas.{Member, Member-append_left, Member-append_right}
 use Rattle.uniquify_spec.specs.Blocks.{is_block}
 use Rattle.uniquify_spec.specs.Copies.{Copy}
@@ -130,14 +130,14 @@ module _ (d : Design) (all : List Copy) (new : AreNew d [] all) where
   all_copied : (ss : List Seat) → ((m : Copy) → Member (copies_of ss) m → Member all m) → AllByRecursion (FillsBlock half) (flat_map (copied_inner (turned_at d all)) ss)
   all_copied [] among = tt
   all_copied (seat ∷ ss) among =
-      each_append (FillsBlock half) (copied_inner (turned_at d all) seat) (flat_map (copied_inner (turned_at d all)) ss)
+      all_append (FillsBlock half) (copied_inner (turned_at d all) seat) (flat_map (copied_inner (turned_at d all)) ss)
       (copied_fills seat.path seat.cell seat.twin (λ m member. among m (Member-append_left (copies_at seat) (copies_of ss) m member)))
       (all_copied ss (λ m member. among m (Member-append_right (copies_at seat) (copies_of ss) m member)))
 
   all_kept : (ss : List Seat) → AllByRecursion (FillsBlock half) (flat_map (kept_inner (turned_at d all)) ss)
   all_kept [] = tt
   all_kept (seat ∷ ss) =
-      each_append (FillsBlock half) (kept_inner (turned_at d all) seat) (flat_map (kept_inner (turned_at d all)) ss) (kept_fills seat.path seat.cell seat.twin) (all_kept ss)
+      all_append (FillsBlock half) (kept_inner (turned_at d all) seat) (flat_map (kept_inner (turned_at d all)) ss) (kept_fills seat.path seat.cell seat.twin) (all_kept ss)
 
 pub changes_can : (d : Design) (ss : List Seat) → AreNew d [] (copies_of ss) → CanAllBeMade d (changes_of d ss)
 changes_can d ss new =
@@ -146,5 +146,5 @@ changes_can d ss new =
     (new_can d all [] d (at_the_start d) new)
     (subst (λ es. CanAllBeMade (edited d es) (inners (turned_at d all) ss)) (sym (new_edits d all d))
     (inner_can (inners (turned_at d all) ss) (edited d (new_cells d all))
-    (each_append (FillsBlock (edited d (new_cells d all))) (flat_map (copied_inner (turned_at d all)) ss) (flat_map (kept_inner (turned_at d all)) ss)
+    (all_append (FillsBlock (edited d (new_cells d all))) (flat_map (copied_inner (turned_at d all)) ss) (flat_map (kept_inner (turned_at d all)) ss)
     (all_copied d all new ss (λ m member. member)) (all_kept d all new ss))))

@@ -6,9 +6,9 @@ use Rattle.std.proofs.lemmas.List.{map-append}
 use Rattle.std.proofs.lemmas.List.Concat.{flat_map-append}
 use Rattle.netlist_schema.specs.Design.{Design, cell_at}
 use Rattle.netlist_schema.specs.Types.{CellBody, CellId, Contents}
+use Rattle.netlist_schema.proofs.Lists.{all_append}
 use Rattle.edit_core.specs.Edit.{edited_once, fresh, inner}
 use Rattle.edit_core.specs.Seen.{contents_at}
-use Rattle.edit_core.proofs.Lists.{each_append}
 use Rattle.uniquify_spec.specs.Copies.{Copy}
 use Rattle.uniquify_spec.specs.Split.{Owner, copy_owner, is_turned, kept_owner, new_cell, owners, renamed, split_edits, turned, turned_cell}
 use Rattle.cells_model.specs.Change.{cell_edits, edit_of}
@@ -31,7 +31,7 @@ fixed_edits d (change ∷ changes) b all = λ i. all.0 b d i ∷ fixed_edits d c
 
 each_flat : {A B : Type 0} (P : B → Type 0) (f : A → List B) → ((x : A) → AllByRecursion P (f x)) → (xs : List A) → AllByRecursion P (flat_map f xs)
 each_flat P f all [] = tt
-each_flat P f all (x ∷ xs) = each_append P (f x) (flat_map f xs) (all x) (each_flat P f all xs)
+each_flat P f all (x ∷ xs) = all_append P (f x) (flat_map f xs) (all x) (each_flat P f all xs)
 
 fresh_fixed : (copy : Copy) (o : Option CellBody) → AllByRecursion IsFixed (option_to_list (option_map (λ body. Fresh copy.id (renamed copy body)) o))
 fresh_fixed copy None = tt
@@ -52,9 +52,9 @@ kept_fixed (Some id) cell contents = tt
 pub changes_fixed : (d : Design) (ss : List Seat) → AllByRecursion IsFixed (changes_of d ss)
 changes_fixed d ss =
     let f = turned_at d (copies_of ss) in
-    each_append IsFixed (flat_map (fresh_of d) (copies_of ss)) (inners f ss)
+    all_append IsFixed (flat_map (fresh_of d) (copies_of ss)) (inners f ss)
     (each_flat IsFixed (fresh_of d) (λ copy. fresh_fixed copy (cell_at d copy.of)) (copies_of ss))
-    (each_append IsFixed (flat_map (copied_inner f) ss) (flat_map (kept_inner f) ss)
+    (all_append IsFixed (flat_map (copied_inner f) ss) (flat_map (kept_inner f) ss)
     (each_flat IsFixed (copied_inner f) (λ seat. copied_fixed (twin_of seat) (f seat)) ss)
     (each_flat IsFixed (kept_inner f) (λ seat. kept_fixed (twin_of seat) seat.cell (f seat)) ss))
 

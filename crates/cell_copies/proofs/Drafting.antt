@@ -3,13 +3,14 @@ use Rattle.std.proofs.Common.{◌≡◌, ◌≤◌, ◌<◌, ℕ, zero, suc, Boo
 use Rattle.std.specs.Prelude.{◌||◌, nat_le, slice_get, unwrap_or}
 use Rattle.std.specs.List.{flat_map}
 use Rattle.std.proofs.lemmas.Bool.{or_from, lt-leb}
-use Rattle.std.proofs.lemmas.List.{map-append}
+use Rattle.std.proofs.lemmas.List.{length-map, map-append, same_from_push}
 use Rattle.std.proofs.lemmas.List.Concat.{flat_map-append}
 use Rattle.std.proofs.lemmas.List.Folds.{list_any-append}
+use Rattle.std.proofs.lemmas.Option.{slice_get_within}
 use Rattle.netlist_schema.specs.Design.{Design}
 use Rattle.netlist_schema.specs.Types.{CellId}
 use Rattle.flat_spec.specs.Occurrences.{Occurrence}
-use Rattle.flat_spec.proofs.ListLemmas.{last_cases, last_same}
+use Rattle.flat_spec.proofs.ListLemmas.{last_cases}
 use Rattle.uniquify_spec.specs.Blocks.{root_of}
 use Rattle.uniquify_spec.specs.Copies.{Copy, copies_after, copy_after}
 use Rattle.uniquify_spec.proofs.ForCode.{copies_go_on}
@@ -34,23 +35,14 @@ path_at [] k up at = cc
 path_at (s ∷ ss) zero up at = let same : occurrence_of s ≡ up = cc in ap (λ (o : Occurrence). Some o.path) same
 path_at (s ∷ ss) (suc k) up at = path_at ss k up at
 
-within : {X : Type 0} (xs : List X) (k : ℕ) (x : X) → slice_get xs k ≡ Some x → k < length xs
-within [] k x at = cc
-within (y ∷ ys) zero x at = omega arith
-within (y ∷ ys) (suc k) x at = let less = within ys k x at in omega (arith, less)
-
-map-length : {X Y : Type 0} (f : X → Y) (xs : List X) → length (map f xs) ≡ length xs
-map-length f [] = refl
-map-length f (x ∷ xs) = ap suc (map-length f xs)
-
 names_more : (spots : List Spot) (spot : Spot) → NamesEarlier spots → spot.above ≤ length spots → NamesEarlier (spots ++ spot ∷ [])
 names_more spots spot earlier here before after other is = elim (last_cases after) [
   | inl none ↦
-      let same = last_same spots before spot other (is ∙ ap (λ l. before ++ other ∷ l) none) in
+      let same = same_from_push spots before spot other (is ∙ ap (λ l. before ++ other ∷ l) none) in
       subst (λ (s : Spot). s.above ≤ length before) same.1 (subst (λ l. spot.above ≤ length l) same.0 here)
   | inr some ↦
       let init = some.0 in
-      let same = last_same spots (before ++ other ∷ init) spot some.1 (is ∙ ap (λ l. before ++ other ∷ l) some.2 ∙ sym (append_assoc before (other ∷ init) (some.1 ∷ []))) in
+      let same = same_from_push spots (before ++ other ∷ init) spot some.1 (is ∙ ap (λ l. before ++ other ∷ l) some.2 ∙ sym (append_assoc before (other ∷ init) (some.1 ∷ []))) in
       earlier before init other same.0
 ]
 
@@ -87,9 +79,9 @@ module _ (d : Design) (top : CellId) (done : List Marked) (up : Occurrence) (old
 
   pub spot_within : spot.above ≤ length old
   spot_within =
-      let less = within (root_of top ∷ occurrences_of done) spot.above up at in
+      let less = slice_get_within (root_of top ∷ occurrences_of done) spot.above up at in
       let all = ap length occurrences in
-      let seated = map-length occurrence_of (seats top old) in
+      let seated = length-map (seats top old) occurrence_of in
       let long = seats_length ([] ∷ []) old in
       omega (arith, less, all, seated, long)
 

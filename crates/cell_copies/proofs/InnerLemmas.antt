@@ -5,6 +5,7 @@ use Rattle.std.specs.List.{flat_map}
 use Rattle.std.specs.Option.{option_map}
 use Rattle.std.proofs.lemmas.List.Concat.{flat_map-append}
 use Rattle.netlist_schema.specs.Types.{CellId, Contents}
+use Rattle.netlist_schema.proofs.Lists.{get_there, get_mapped, take_next}
 use Rattle.cells_model.specs.declared.change.CellChange.{CellChange}
 use Rattle.cell_copies.specs.Changes.{copied_inner, copied_to, inners, kept_inner, kept_to}
 use Rattle.cell_copies.specs.Seats.{Seat, twin_of}
@@ -32,16 +33,6 @@ no_more f xs i old whole past so_far = sym (append-nil old) ∙ ap (λ l. old ++
 
 -- ---- seat by seat
 
-got : {X : Type 0} (xs : List X) (i : ℕ) → i < length xs → (x : X) × (slice_get xs i ≡ Some x)
-got [] i less = absurd (omega arith)
-got (x ∷ xs) zero less = (x, refl)
-got (x ∷ xs) (suc i) less = got xs i (omega (arith, less))
-
-got_map : {X Y : Type 0} (f : X → Y) (xs : List X) (i : ℕ) (x : X) → slice_get xs i ≡ Some x → slice_get (map f xs) i ≡ Some (f x)
-got_map f [] i x at = cc
-got_map f (y ∷ ys) zero x at = let same : y ≡ x = cc in ap (λ z. Some (f z)) same
-got_map f (y ∷ ys) (suc i) x at = got_map f ys i x at
-
 got_drop : {X : Type 0} (xs ys : List X) (i : ℕ) → drop i xs ≡ drop i ys → slice_get xs i ≡ slice_get ys i
 got_drop xs ys i same = first xs i ∙ ap (λ l. slice_get l 0) same ∙ sym (first ys i)
   where
@@ -51,11 +42,6 @@ got_drop xs ys i same = first xs i ∙ ap (λ l. slice_get l 0) same ∙ sym (fi
     first (z ∷ zs) zero = refl
     first (z ∷ zs) (suc i) = first zs i
 
-taken : {X : Type 0} (xs : List X) (i : ℕ) (x : X) → slice_get xs i ≡ Some x → take (suc i) xs ≡ take i xs ++ x ∷ []
-taken [] i x at = cc
-taken (y ∷ ys) zero x at = let same : y ≡ x = cc in ap (λ z. z ∷ []) same
-taken (y ∷ ys) (suc i) x at = ap (λ l. y ∷ l) (taken ys i x at)
-
 pub some_same : {X : Type 0} (x y : X) → Some x ≡ Some y → x ≡ y
 some_same x y e = cc
 
@@ -63,10 +49,10 @@ module _ (f : Seat → Option Contents) (ss : List Seat) (number : ℕ) (twin : 
     (within : number < length ss) (twin_is : option_map twin_of (slice_get ss number) ≡ Some twin) (cell_is : option_map (λ seat. seat.cell) (slice_get ss number) ≡ Some cell)
     (all_is : all ≡ map f ss) (same : drop number left ≡ drop number all) (was : slice_get left number ≡ Some made) where
   here : (seat : Seat) × (slice_get ss number ≡ Some seat)
-  here = got ss number within
+  here = get_there ss number within
 
   made_is : made ≡ f here.0
-  made_is = some_same made (f here.0) (sym was ∙ got_drop left all number same ∙ ap (λ l. slice_get l number) all_is ∙ got_map f ss number here.0 here.1)
+  made_is = some_same made (f here.0) (sym was ∙ got_drop left all number same ∙ ap (λ l. slice_get l number) all_is ∙ get_mapped f ss number here.0 here.1)
 
   twin_here : twin ≡ twin_of here.0
   twin_here = some_same twin (twin_of here.0) (sym twin_is ∙ ap (option_map twin_of) here.1)
@@ -79,13 +65,13 @@ module _ (f : Seat → Option Contents) (ss : List Seat) (number : ℕ) (twin : 
       added ∙ (λ i. so_far i ++ copied_to (twin_here i) (made_is i)) ∙ append_assoc before (flat_map (copied_inner f) (take number ss)) (copied_inner f here.0)
       ∙ ap (λ l. before ++ l)
       (ap (λ l. flat_map (copied_inner f) (take number ss) ++ l) (sym (append-nil (copied_inner f here.0)))
-      ∙ sym (flat_map-append (copied_inner f) (take number ss) (here.0 ∷ [])) ∙ ap (flat_map (copied_inner f)) (sym (ap (λ n. take n ss) (add-one number) ∙ taken ss number here.0 here.1)))
+      ∙ sym (flat_map-append (copied_inner f) (take number ss) (here.0 ∷ [])) ∙ ap (flat_map (copied_inner f)) (sym (ap (λ n. take n ss) (add-one number) ∙ take_next ss number here.0 here.1)))
 
   pub inner_kept : (old new : List CellChange) → new ≡ old ++ kept_to twin cell made → old ≡ flat_map (kept_inner f) (take number ss) → new ≡ flat_map (kept_inner f) (take (number + 1) ss)
   inner_kept old new added so_far =
       added ∙ (λ i. so_far i ++ kept_to (twin_here i) (cell_here i) (made_is i))
       ∙ ap (λ l. flat_map (kept_inner f) (take number ss) ++ l) (sym (append-nil (kept_inner f here.0)))
-      ∙ sym (flat_map-append (kept_inner f) (take number ss) (here.0 ∷ [])) ∙ ap (flat_map (kept_inner f)) (sym (ap (λ n. take n ss) (add-one number) ∙ taken ss number here.0 here.1))
+      ∙ sym (flat_map-append (kept_inner f) (take number ss) (here.0 ∷ [])) ∙ ap (flat_map (kept_inner f)) (sym (ap (λ n. take n ss) (add-one number) ∙ take_next ss number here.0 here.1))
 
 pub left_more : (all left new : List (Option Contents)) (number : ℕ) → drop number left ≡ drop number all → new ≡ slice_set left number None → drop (number + 1) new ≡ drop (number + 1) all
 left_more all left new number same put =

@@ -7,6 +7,7 @@ use Rattle.std.proofs.lemmas.List.Concat.{flat_map-append}
 use Rattle.std.proofs.lemmas.List.Elements.{recursion_from_All}
 use Rattle.netlist_schema.specs.Design.{Design}
 use Rattle.netlist_schema.specs.Types.{CellId, Contents}
+use Rattle.netlist_schema.proofs.Lists.{take_next}
 use Rattle.edit_core.specs.Seen.{contents_at}
 use Rattle.edit_core.proofs.Lists.{Apart, apart_of}
 use Rattle.flat_spec.proofs.ListLemmas.{Member, Member-append_cases}
@@ -36,12 +37,6 @@ set_one f g (y ∷ ys) (suc a) x v at here others =
     let head = others zero y (λ e. omega (arith, e)) refl in
     let rest = set_one f g ys a x v at here (λ k z apart there. others (suc k) z (λ e. apart (omega (arith, e))) there) in
     λ i. head i ∷ rest i
-
--- the seats with numbers up to one, and the next one
-taken_more : {X : Type 0} (xs : List X) (k : ℕ) (x : X) → slice_get xs k ≡ Some x → take (suc k) xs ≡ take k xs ++ x ∷ []
-taken_more [] k x at = cc
-taken_more (y ∷ ys) zero x at = let same : y ≡ x = cc in ap (λ z. z ∷ []) same
-taken_more (y ∷ ys) (suc k) x at = ap (λ l. y ∷ l) (taken_more ys k x at)
 
 taken_at : {X : Type 0} (xs : List X) (k : ℕ) (x : X) → Member (take k xs) x → (i : ℕ) × (i < k) × (slice_get xs i ≡ Some x)
 taken_at [] zero x member = absurd member
@@ -151,7 +146,7 @@ module _ (d : Design) (top : CellId) (spots : List Spot) (are : AreSeats d top s
 
     copies_more : copies_to (suc (suc j)) ≡ copies_to (suc j) ++ copies_at here
     copies_more =
-        ap copies_of (taken_more ss (suc j) here seat_here) ∙ flat_map-append copies_at (take (suc j) ss) (here ∷ []) ∙ ap (λ l. copies_to (suc j) ++ l) (append-nil (copies_at here))
+        ap copies_of (take_next ss (suc j) here seat_here) ∙ flat_map-append copies_at (take (suc j) ss) (here ∷ []) ∙ ap (λ l. copies_to (suc j) ++ l) (append-nil (copies_at here))
 
     pub no_copy : spot.twin ≡ None → table (suc (suc j)) ≡ table (suc j)
     no_copy none =

@@ -1,21 +1,21 @@
 -- One copy more: in the own cell of the occurrence above it one instance more is turned, and all else stays.
-use Rattle.std.proofs.Common.{◌≡◌, ◌≢◌, ◌<◌, ◌+◌, ℕ, zero, suc, Bool, true, false, cond, List, [], ◌∷◌, ◌++◌, map, Option, Some, None, refl, sym, ap, subst, ◌∙◌, inl, inr, arith}
+use Rattle.std.proofs.Common.{◌≡◌, ◌≢◌, ◌<◌, ◌+◌, ℕ, zero, suc, Bool, true, false, cond, List, [], ◌∷◌, ◌++◌, map, Option, Some, None, refl, sym, ap, subst, ◌∙◌, arith}
 use Rattle.std.specs.Prelude.{◌||◌, find}
 use Rattle.std.specs.List.{enumerate_from}
 use Rattle.std.specs.Option.{option_map, option_map_or, option_or}
-use Rattle.std.proofs.lemmas.Bool.{cond-true, cond-false, false_from_ne_true, or_right, true≢false}
+use Rattle.std.proofs.lemmas.Bool.{cond-true, cond-false, false_from_ne_true, or_right}
 use Rattle.std.proofs.lemmas.List.Folds.{list_any-append}
+use Rattle.std.proofs.lemmas.List.{same_from_push}
 use Rattle.netlist_schema.specs.Design.{Design}
-use Rattle.netlist_schema.specs.Types.{CellId, Contents, Inst}
+use Rattle.netlist_schema.specs.Types.{Contents, Inst}
 use Rattle.edit_core.specs.Edit.{changed_at}
 use Rattle.edit_core.specs.Seen.{contents_at}
 use Rattle.flat_spec.specs.ConnectionTest.{above}
-use Rattle.flat_spec.proofs.ListLemmas.{last_same}
 use Rattle.flat_spec.proofs.TestLemmas.{above-append}
 use Rattle.uniquify_spec.specs.Copies.{Copy, is_copy_at, same_path}
-use Rattle.uniquify_spec.specs.Split.{is_turned, own_cell, turned, turned_inst}
-use Rattle.uniquify_spec.proofs.CopyLists.{any-member, copy-cases, same_path-refl, same_path-true}
-use Rattle.uniquify_spec.proofs.KeptCells.{all_same}
+use Rattle.uniquify_spec.specs.Split.{is_turned, turned, turned_inst}
+use Rattle.uniquify_spec.proofs.CopyLists.{same_path-refl, same_path-true}
+use Rattle.uniquify_spec.proofs.KeptCells.{turned_same}
 use Rattle.cell_copies.specs.Changes.{turned_at, turned_to}
 use Rattle.cell_copies.specs.Seats.{Seat}
 
@@ -49,7 +49,7 @@ module _ (all : List Copy) (copy : Copy) (path : List ℕ) where
 
   module _ (i : ℕ) (is : copy.path ≡ path ++ i ∷ []) (new : find (is_copy_at copy.path) all ≡ None) where
     elsewhere : (j : ℕ) → j ≢ i → copy.path ≢ path ++ j ∷ []
-    elsewhere j other same = other (sym (last_same path path i j (sym is ∙ same)).1)
+    elsewhere j other same = other (sym (same_from_push path path i j (sym is ∙ same)).1)
 
     one_here : (inst : Inst) → turned_inst (all ++ copy ∷ []) path (i, inst) ≡ record inst { of = copy.id }
     one_here inst =
@@ -69,21 +69,6 @@ module _ (all : List Copy) (copy : Copy) (path : List ℕ) where
         let first = one_other k inst (elsewhere k (λ same. omega (arith, same, at))) in
         let rest = one_more (k + 1) j insts (omega (arith, at)) in
         λ t. first t ∷ rest t
-
--- where no instance is turned, contents are as they were
-none_turned : (all : List Copy) (path : List ℕ) → is_turned all path ≡ false → (k : ℕ) (cell : CellId) → own_cell all (path ++ k ∷ []) cell ≡ cell
-none_turned all path none k cell = elim (copy-cases all (path ++ k ∷ [])) [
-  | inl absent ↦ ap (λ (o : Option Copy). option_map_or (λ (c : Copy). c.id) o cell) absent.0
-  | inr found ↦
-      let up : option_map_or (λ (u : List ℕ × ℕ). same_path u.0 path) (above found.0.path) false ≡ true =
-      ap (λ (o : Option (List ℕ × ℕ)). option_map_or (λ (u : List ℕ × ℕ). same_path u.0 path) o false) (ap above found.3 ∙ above-append path k) ∙ same_path-refl path in
-      absurd (true≢false (sym up ∙ any-member (λ (c : Copy). option_map_or (λ (u : List ℕ × ℕ). same_path u.0 path) (above c.path) false) all none found.0 found.2))
-]
-
-as_it_was : (all : List Copy) (path : List ℕ) → is_turned all path ≡ false → (contents : Contents) → turned all path contents ≡ contents
-as_it_was all path none contents =
-    let insts = all_same all path (none_turned all path none) 0 contents.insts in
-    λ i. record { insts = insts i; nets = contents.nets }
 
 abbrev is_above : Copy → List ℕ → Bool
 is_above copy path = option_map_or (λ (up : List ℕ × ℕ). same_path up.0 path) (above copy.path) false
@@ -115,7 +100,7 @@ turned_here d all copy seat i is new =
     by None true b_is = refl
     by None false b_is = refl
     by (Some contents) true b_is = ap Some (more contents)
-    by (Some contents) false b_is = ap Some (more contents ∙ ap (turned_to i copy.id) (as_it_was all seat.path b_is contents))
+    by (Some contents) false b_is = ap Some (more contents ∙ ap (turned_to i copy.id) (turned_same all seat.path b_is contents))
 
 pub turned_other : (d : Design) (all : List Copy) (copy : Copy) (seat : Seat) (up : List ℕ) (i : ℕ) → copy.path ≡ up ++ i ∷ [] → seat.path ≢ up
     → turned_at d (all ++ copy ∷ []) seat ≡ turned_at d all seat
@@ -133,4 +118,4 @@ turned_other d all copy seat up i is apart =
         right false b e = e
 
     insts : (contents : Contents) → map (turned_inst (all ++ copy ∷ []) seat.path) (enumerate_from 0 contents.insts) ≡ map (turned_inst all seat.path) (enumerate_from 0 contents.insts)
-    insts contents = others all copy seat.path 0 contents.insts (λ j less same. apart (sym (last_same up seat.path i j (sym is ∙ same)).0))
+    insts contents = others all copy seat.path 0 contents.insts (λ j less same. apart (sym (same_from_push up seat.path i j (sym is ∙ same)).0))

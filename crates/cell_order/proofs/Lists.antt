@@ -13,10 +13,6 @@ get_more f b [] x (suc s) h k l = h
 get_more f b (y ∷ xs) x zero h k l = l
 get_more f b (y ∷ xs) x (suc s) h k l = get_more f b xs x s h k l
 
-pub all_more : {A : Type 0} (P : A → Type 0) (xs : List A) (x : A) → AllByRecursion P xs → P x → AllByRecursion P (xs ++ x ∷ [])
-all_more P [] x h k = (k, tt)
-all_more P (y ∷ xs) x h k = (h.0, all_more P xs x h.1 k)
-
 -- a test that passes at one element, or at one of the others
 pub any_left : {A : Type 0} (p : A → Bool) (xs ys : List A) → list_any p xs ≡ true → list_any p (xs ++ ys) ≡ true
 any_left p [] ys h = absurd (cc h)

@@ -2,9 +2,9 @@
 use Rattle.std.proofs.Common.{◌≡◌, ℕ, zero, suc, ◌+◌, ◌<◌, ◌≤◌, List, [], ◌∷◌, ◌++◌, refl, ap, sym, ◌∙◌, Bool, true, false, not, Some, None, arith, slice_get}
 use Rattle.std.specs.Prelude.{cond, nat_eq}
 use Rattle.std.specs.List.{list_all, list_any}
-use Rattle.std.proofs.lemmas.Bool.{and_parts, eqb-true, not-true}
+use Rattle.std.proofs.lemmas.Bool.{and_parts, eqb-true, not-true, false_from_ne_true}
+use Rattle.std.proofs.lemmas.Option.{slice_get_within}
 use Rattle.order_spec.specs.Order.{is_written, is_ready, first_ready, order_from}
-use Rattle.order_spec.proofs.Places.{get_below}
 use Rattle.netlist_schema.specs.Design.{insts_of}
 use Rattle.netlist_schema.specs.Types.{CellBody}
 use Rattle.cell_order.specs.ReadyQueue.{Fits, IsKept, WaitsFor, at_ready, at_child, at_hand}
@@ -48,21 +48,17 @@ not_ready own cells done t s c w h e there ready =
 
 -- a cell that is ready is marked so
 pub ready_marked : (own : ℕ) (cells : List CellBody) (done : List ℕ) (flag has : ℕ → Bool) (waits : ℕ → List Waiting) (s : ℕ) (c : CellBody) → Fits own cells done [] flag has waits → slice_get cells s ≡ Some c → is_ready own done s c ≡ true → has s ≡ true
-ready_marked own cells done flag has waits s c h there r = go (h.kept s (get_below cells s c there) (not-true (list_any (nat_eq s) done) (and_parts (not (list_any (nat_eq s) done)) (list_all (is_written own done) (insts_of c)) r).0))
+ready_marked own cells done flag has waits s c h there r = go (h.kept s (slice_get_within cells s c there) (not-true (list_any (nat_eq s) done) (and_parts (not (list_any (nat_eq s) done)) (list_all (is_written own done) (insts_of c)) r).0))
   where
     go : IsKept has waits [] s → has s ≡ true
     go (at_ready k) = k
     go (at_child t n) = let w = named (WaitsFor own cells done t) s (waits t) (h.parked t) n in absurd (not_ready own cells done t s c w.0 w.1 w.2 there r)
     go (at_hand n) = absurd (cc n)
 
-false_from_not : (b : Bool) → (b ≡ true → ⊥) → b ≡ false
-false_from_not true f = absurd (f refl)
-false_from_not false f = refl
-
 pub nothing_next : (own : ℕ) (cells : List CellBody) (done : List ℕ) (flag has : ℕ → Bool) (waits : ℕ → List Waiting) → Fits own cells done [] flag has waits → ((s : ℕ) → has s ≡ false) → first_ready own done 0 cells ≡ None
 nothing_next own cells done flag has waits h none = none_ready own done 0 cells (λ t c e.
     let z : 0 + t ≡ t = omega arith in
-    ap (λ k. is_ready own done k c) z ∙ false_from_not (is_ready own done t c) (λ r.
+    ap (λ k. is_ready own done k c) z ∙ false_from_ne_true (is_ready own done t c) (λ r.
     let g : true ≡ false = sym (ready_marked own cells done flag has waits t c h e r) ∙ none t in absurd (cc g)))
 
 pub this_next : (own : ℕ) (cells : List CellBody) (done : List ℕ) (flag has : ℕ → Bool) (waits : ℕ → List Waiting) (k : ℕ) → Fits own cells done [] flag has waits → has k ≡ true → ((s : ℕ) → has s ≡ true → k ≤ s) → first_ready own done 0 cells ≡ Some k
@@ -71,7 +67,7 @@ this_next own cells done flag has waits k h marked least =
     let y : 0 + k ≡ k = omega arith in
     one_ready own done 0 k cells n.cell n.there (ap (λ m. is_ready own done m n.cell) y ∙ n.ready) (λ t c l e.
     let z : 0 + t ≡ t = omega arith in
-    ap (λ k. is_ready own done k c) z ∙ false_from_not (is_ready own done t c) (λ r.
+    ap (λ k. is_ready own done k c) z ∙ false_from_ne_true (is_ready own done t c) (λ r.
     let m = least t (ready_marked own cells done flag has waits t c h e r) in absurd (omega (arith, l, m))))
     ∙ ap Some y
 

@@ -3,13 +3,13 @@ use Rattle.std.proofs.Common.{◌≡◌, ◌≢◌, ℕ, zero, suc, ◌<◌, ◌
 use Rattle.std.specs.Prelude.{◌||◌, cond, nat_eq}
 use Rattle.std.specs.List.{AllByRecursion, list_all, list_any}
 use Rattle.std.proofs.lemmas.Bool.{and_from, and_parts, or_parts, cases_order, eqb-true, eqb-false, eq-eqb}
+use Rattle.netlist_schema.proofs.Lists.{get_there, all_push, all_weaker}
 use Rattle.order_spec.specs.Order.{is_written}
-use Rattle.order_spec.proofs.Places.{all_weaker, get_there}
 use Rattle.netlist_schema.specs.Design.{insts_of}
 use Rattle.netlist_schema.specs.Types.{CellBody, Inst}
 use Rattle.cell_order.specs.ReadyQueue.{Fits, IsKept, IsNext, IsWaiting, WaitsFor, AllPast, first_cells, is_past, names, at_ready, at_child, at_hand}
 use Rattle.cell_order.specs.declared.ready_queue.Waiting.{Waiting}
-use Rattle.cell_order.proofs.Lists.{all_more, any_left, any_right, any_none, any_front, all_from_places}
+use Rattle.cell_order.proofs.Lists.{any_left, any_right, any_none, any_front, all_from_places}
 use Rattle.cell_order.proofs.Search.{not_ready}
 
 cases : (a b : ℕ) → (a < b) ⊎ (b ≤ a)
@@ -212,7 +212,7 @@ made_wait own cells done v pending c inst from flag has flag' has' waits waits' 
     parked_at true t e =
         let u : inst.of.slot ≡ t = sym (eqb-true t inst.of.slot e) in
         subst (λ n. AllByRecursion (WaitsFor own cells done n) (waits inst.of.slot ++ record { slot = v.slot; from = from } ∷ [])) u
-        (all_more (WaitsFor own cells done inst.of.slot) (waits inst.of.slot) (record { slot = v.slot; from = from }) (h.parked inst.of.slot) waiter)
+        (all_push (WaitsFor own cells done inst.of.slot) (waits inst.of.slot) (record { slot = v.slot; from = from }) (h.parked inst.of.slot) waiter)
 
     own_place : names v.slot (waits' inst.of.slot) ≡ true
     own_place =
@@ -240,7 +240,7 @@ first_waiting : (own : ℕ) (cells : List CellBody) (n : ℕ) → n ≤ length c
 first_waiting own cells zero l = tt
 first_waiting own cells (suc n) l =
     let c = get_there cells n (omega (arith, l)) in
-    all_more (IsWaiting own cells []) (first_cells n) (record { slot = n; from = 0 }) (first_waiting own cells n (omega (arith, l)))
+    all_push (IsWaiting own cells []) (first_cells n) (record { slot = n; from = 0 }) (first_waiting own cells n (omega (arith, l)))
     record { cell = c.0; there = c.1; new = refl; passed = λ j i m e. absurd (omega (arith, m)) }
 
 first_named : (s n : ℕ) → s < n → names s (first_cells n) ≡ true

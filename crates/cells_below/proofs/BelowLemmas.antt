@@ -1,38 +1,18 @@
 -- The marked cells are those at and below the top.
-use Rattle.std.proofs.Common.{◌≡◌, ◌⊎◌, List, [], ◌∷◌, ◌++◌, refl, sym, ap, subst, ◌∙◌, inl, inr, append-nil, Bool, true, false}
+use Rattle.std.proofs.Common.{◌≡◌, List, [], ◌∷◌, ◌++◌, refl, sym, ap, subst, ◌∙◌, inl, inr, append-nil, Bool, true, false}
 use Rattle.std.specs.Prelude.{filter, cond}
-use Rattle.std.proofs.lemmas.Bool.{false≢true}
 use Rattle.std.proofs.lemmas.List.Elements.{filter-append}
 use Rattle.netlist_schema.specs.Design.{Design}
 use Rattle.netlist_schema.specs.Hierarchy.{HasInst, IsBelow, IsCell, placed, deeper}
 use Rattle.netlist_schema.specs.Types.{CellId, Inst}
 use Rattle.netlist_schema.specs.Valid.{IsValid}
 use Rattle.order_spec.specs.After.{AllAfter}
-use Rattle.flat_spec.proofs.ListLemmas.{Member, Contains-member, Member-contains}
+use Rattle.flat_spec.proofs.ListLemmas.{Member, Contains-member, Member-contains, Member-filter, Member-from_filter}
 use Rattle.cells_below.specs.Below.{AreCells, AreCellsBelow, ComesBehind, IsAtOrBelow}
 use Rattle.cells_below.specs.Marks.{AreBlank, AreMarkedBelow, IsSet, is_marked}
 use Rattle.cells_below.specs.declared.marks.Marks.{Marks}
 use Rattle.cells_below.proofs.ListedLemmas.{inst_there}
 use Rattle.cells_below.proofs.MarkLemmas.{blank_marks, blank_room}
-
-filter_in : {A : Type 0} (p : A → Bool) (xs : List A) (x : A) → Member xs x → p x ≡ true → Member (filter p xs) x
-filter_in p [] x m t = absurd m
-filter_in {A} p (y ∷ xs) x m t = go (p y) refl m (λ rest. filter_in p xs x rest t)
-  where
-    go : (b : Bool) → p y ≡ b → (y ≡ x) ⊎ Member xs x → (Member xs x → Member (filter p xs) x) → Member (cond b (y ∷ filter p xs) (filter p xs)) x
-    go true e (inl same) more = inl same
-    go true e (inr rest) more = inr (more rest)
-    go false e (inl same) more = absurd (false≢true (sym e ∙ ap p same ∙ t))
-    go false e (inr rest) more = more rest
-
-filter_out : {A : Type 0} (p : A → Bool) (xs : List A) (x : A) → Member (filter p xs) x → Member xs x × (p x ≡ true)
-filter_out p [] x m = absurd m
-filter_out {A} p (y ∷ xs) x m = go (p y) refl m (filter_out p xs x)
-  where
-    go : (b : Bool) → p y ≡ b → Member (cond b (y ∷ filter p xs) (filter p xs)) x → (Member (filter p xs) x → Member xs x × (p x ≡ true)) → Member (y ∷ xs) x × (p x ≡ true)
-    go true e (inl same) more = (inl same, sym (ap p same) ∙ e)
-    go true e (inr rest) more = let r = more rest in (inr r.0, r.1)
-    go false e rest more = let r = more rest in (inr r.0, r.1)
 
 -- those of the cells that pass are behind the cells of their instances, where these pass too
 after_filter : (d : Design) (p : CellId → Bool) (before xs : List CellId) → ((c : CellId) (inst : Inst) → Member xs c → p c ≡ true → HasInst d c inst → p inst.of ≡ true)
@@ -44,9 +24,9 @@ after_filter d p before (x ∷ xs) closed h = go (p x) refl (after_filter d p (b
         → AllAfter (ComesBehind d) (filter p before) (cond b (x ∷ filter p xs) (filter p xs))
     go true e rest = (
       record {
-        new = λ has. h.0.new (Member-contains before x (filter_out p before x (Contains-member (filter p before) x has)).0);
+        new = λ has. h.0.new (Member-contains before x (Member-from_filter p before x (Contains-member (filter p before) x has)).0);
         children = λ inst has. Member-contains (filter p before) inst.of
-            (filter_in p before inst.of (Contains-member before inst.of (h.0.children inst has)) (closed x inst (inl refl) e has));
+            (Member-filter p before inst.of (Contains-member before inst.of (h.0.children inst has)) (closed x inst (inl refl) e has));
       },
       subst (λ v. AllAfter (ComesBehind d) v (filter p xs))
           (filter-append p before (x ∷ []) ∙ ap (λ b. filter p before ++ cond b (x ∷ []) []) e) rest,
@@ -75,13 +55,13 @@ module _ (d : Design) (valid : IsValid d) (top : CellId) (is_cell : IsCell d top
   pub are_below : AreCellsBelow d top (filter (is_marked marks) cells)
   are_below = record {
     each = λ c. (
-      λ has. elim (below.only c (filter_out (is_marked marks) cells c (Contains-member (filter (is_marked marks) cells) c has)).1) [
+      λ has. elim (below.only c (Member-from_filter (is_marked marks) cells c (Contains-member (filter (is_marked marks) cells) c has)).1) [
         | inl early ↦ inl (begun_top c early)
         | inr inside ↦ inr (subst (λ v. IsBelow d c v) (begun_top inside.0 inside.1) inside.2)
       ],
       λ at.
           let is = marked_at c at in
-          Member-contains (filter (is_marked marks) cells) c (filter_in (is_marked marks) cells c (Contains-member cells c (all.whole c is.1)) is.0),
+          Member-contains (filter (is_marked marks) cells) c (Member-filter (is_marked marks) cells c (Contains-member cells c (all.whole c is.1)) is.0),
     );
     behind = after_filter d (is_marked marks) [] cells (λ c inst m marked has. below.down c inst (Member-contains cells c m) marked has) all.behind;
   }

@@ -10,10 +10,11 @@ use Rattle.netlist_schema.specs.Hierarchy.{HasInst, IsCell, insts_at}
 use Rattle.netlist_schema.specs.Types.{CellBody, CellId, Inst, Lib, LibId}
 use Rattle.netlist_schema.specs.Valid.{IsValid}
 use Rattle.netlist_schema.proofs.Cells.{cell_of_inst}
+use Rattle.netlist_schema.proofs.Lists.{some_of}
 use Rattle.order_spec.specs.After.{AllAfter}
 use Rattle.order_spec.specs.InTime.{ComesInTime}
 use Rattle.order_spec.specs.Order.{order_of}
-use Rattle.order_spec.proofs.Places.{lib_of_cell, some_of}
+use Rattle.order_spec.proofs.Places.{lib_of_cell}
 use Rattle.order_spec.proofs.Ready.{order_covers}
 use Rattle.order_spec.proofs.WholeOrder.{contains_from_any, order_in_time, valid_rank}
 use Rattle.flat_spec.proofs.ListLemmas.{Member, Member-append_left, Member-append_right, Member-append_cases, Member-map, Member-from_map, Contains-member, Member-contains}

@@ -10,8 +10,10 @@ use Rattle.netlist_schema.specs.Design.{Design, cell_at, cells_in}
 use Rattle.netlist_schema.specs.Hierarchy.{HasInst, IsBelow, IsCell, insts_at, placed, deeper}
 use Rattle.netlist_schema.specs.Types.{CellId, Inst}
 use Rattle.netlist_schema.specs.Valid.{IsValid}
+use Rattle.netlist_schema.proofs.Lists.{some_of}
 use Rattle.order_spec.specs.After.{AllAfter}
-use Rattle.order_spec.proofs.Places.{lib_of_cell, some_of}
+use Rattle.order_spec.proofs.Places.{lib_of_cell}
+use Rattle.flat_spec.proofs.PathLemmas.{slice_get-is}
 use Rattle.cells_below.specs.Below.{ComesBehind}
 use Rattle.cells_below.specs.Marks.{AreBlank, AreInstsMarked, AreKept, AreMarkedBelow, IsSet, is_marked, mark_at}
 use Rattle.cells_below.specs.declared.marks.Marks.{Marks}
@@ -53,11 +55,6 @@ insts_all insts i old new past h = subst (λ v. AreInstsMarked v old new) (take_
 abbrev pub IsBlankRow : ℕ → List Bool → Type 0
 IsBlankRow count row = (length row ≡ count) × All (λ mark. mark ≡ false) row
 
-there : {A : Type 0} (xs : List A) (i : ℕ) → i < length xs → IsSome (slice_get xs i)
-there [] i l = absurd (omega arith)
-there (x ∷ xs) zero l = refl
-there (x ∷ xs) (suc i) l = there xs i (omega arith)
-
 mark_of : (xs : List Bool) (slot : ℕ) (o : Option Bool) → slice_get xs slot ≡ o → All (λ mark. mark ≡ false) xs → unwrap_or o false ≡ true → ⊥
 mark_of xs slot None is h t = false≢true t
 mark_of xs slot (Some b) is h t =
@@ -72,7 +69,7 @@ module _ {R : Type 0} where
   row_room : (o : Option R) (items : R → List Bool) (count slot : ℕ) → IfSome o (λ row. IsBlankRow count (items row)) → IsSome o → slot < count
       → IsSome (option_and_then (λ row. slice_get (items row) slot) o)
   row_room None items count slot h is l = absurd (false≢true is)
-  row_room (Some r) items count slot h is l = there (items r) slot (omega (arith, l, h.0))
+  row_room (Some r) items count slot h is l = slice_get-is (items r) slot (omega (arith, l, h.0))
 
   row_marks : (o : Option R) (items : R → List Bool) (count slot : ℕ) → IfSome o (λ row. IsBlankRow count (items row))
       → unwrap_or (option_and_then (λ row. slice_get (items row) slot) o) false ≡ true → ⊥
@@ -96,7 +93,7 @@ module _ (d : Design) (m : Marks) (blank : AreBlank d m) where
       let low : c.lib.0 < length d.libs = slice_get_within d.libs c.lib.0 lib.0 lib.1 in
       let slot : c.slot < length (cells_in d c.lib) = slice_get_within (cells_in d c.lib) c.slot body.0 body.1 in
       row_room (slice_get m.rows.items c.lib.0) (λ row. row.items) (length (cells_in d c.lib)) c.slot (blank.each c.lib.0)
-      (there m.rows.items c.lib.0 (omega (arith, low, blank.long))) slot
+      (slice_get-is m.rows.items c.lib.0 (omega (arith, low, blank.long))) slot
 
   pub blank_marks : (c : CellId) → is_marked m c ≡ true → ⊥
   blank_marks c marked = row_marks (slice_get m.rows.items c.lib.0) (λ row. row.items) (length (cells_in d c.lib)) c.slot (blank.each c.lib.0) marked

@@ -5,7 +5,7 @@ use Rattle.std.specs.BTreeMap.{get, is_at}
 use Rattle.std.specs.List.{list_any}
 use Rattle.std.specs.Option.{option_map}
 use Rattle.std.specs.Ordering.{nat_cmp}
-use Rattle.std.proofs.lemmas.Bool.{cases_Bool, cases_eq, cases_lt, cases_order, cond-true, cond-false, ne_eqb, true≢false, or_left, or_right}
+use Rattle.std.proofs.lemmas.Bool.{cases_Bool, cases_eq, cases_lt, cases_order, cond-true, cond-false, ne_eqb, true≢false, or_left, or_right, not-true, not-false}
 use Rattle.netlist_schema.specs.Design.{Design, cells_in}
 use Rattle.netlist_schema.specs.Names.{cell_names}
 use Rattle.netlist_schema.specs.Types.{CellId, LibId, Name}
@@ -15,7 +15,8 @@ use Rattle.uniquify_spec.specs.Copies.{Copy, copies_in, copy_name, free_number, 
 use Rattle.uniquify_spec.proofs.CopyLists.{length-names, length-names_more}
 use Rattle.uniquify_spec.proofs.CopyNames.{copies_get_least_free}
 use Rattle.uniquify_spec.proofs.ValidNames.{names_more}
-use Rattle.copy_names.proofs.Endings.{lower, numbered_alike, numbered_same}
+use Rattle.edit_core.proofs.Numbers.{lower}
+use Rattle.copy_names.proofs.Endings.{numbered_alike, numbered_same}
 use Rattle.copy_names.proofs.Stems.{at_stem, next_same, number_at, stem_at}
 use Rattle.copy_names.specs.Known.{AreKnown, IsFirstFree, IsNext, IsNextTwin, IsStemOf, copy_at, count_of, is_copied, next_of, stem_cmp}
 use Rattle.copy_names.specs.declared.namer.Namer.{Namer}
@@ -35,20 +36,12 @@ is_any-append (x ∷ xs) ys id = ap (λ b. is_same x id || b) (is_any-append xs 
     or-assoc true b c = refl
     or-assoc false b c = refl
 
-not-false : (b : Bool) → not b ≡ true → b ≡ false
-not-false true e = cc
-not-false false e = refl
-
-not-true : (b : Bool) → not b ≡ false → b ≡ true
-not-true true e = refl
-not-true false e = cc
-
 pub free_both : (xs ys : List (List ℕ)) (id : List ℕ) → is_free xs id ≡ true → is_any ys id ≡ false → is_free (xs ++ ys) id ≡ true
 free_both xs ys id first second =
-    ap not (is_any-append xs ys id ∙ (λ i. not-false (is_any xs id) first i || second i))
+    ap not (is_any-append xs ys id ∙ (λ i. not-true (is_any xs id) first i || second i))
 
 pub taken_more : (xs ys : List (List ℕ)) (id : List ℕ) → is_free xs id ≡ false → is_free (xs ++ ys) id ≡ false
-taken_more xs ys id taken = ap not (is_any-append xs ys id ∙ ap (λ b. b || is_any ys id) (not-true (is_any xs id) taken))
+taken_more xs ys id taken = ap not (is_any-append xs ys id ∙ ap (λ b. b || is_any ys id) (not-false (is_any xs id) taken))
 
 -- a name is free or not by its letters in lower case
 pub free_alike : (names : List (List ℕ)) (a b : List ℕ) → lower a ≡ lower b → is_free names a ≡ is_free names b

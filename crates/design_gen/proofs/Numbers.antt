@@ -3,16 +3,15 @@ use Rattle.std.proofs.Common.{◌≡◌, ◌≢◌, ℕ, zero, suc, ◌+◌, ◌
 use Rattle.std.specs.Prelude.{◌&&◌, nat_eq, nat_lt}
 use Rattle.std.specs.Fmt.{decimal}
 use Rattle.std.specs.List.{All, AllByRecursion, list_all, range_with_len}
-use Rattle.std.specs.Str.Parse.{AllDigits}
-use Rattle.std.proofs.lemmas.Bool.{and_parts, and_from, or_left, le-leb, ltb-true, eq-eqb}
+use Rattle.std.proofs.lemmas.Bool.{and_parts, ltb-true, eq-eqb}
 use Rattle.std.proofs.lemmas.Fmt.{decimal_injective, decimal_is_IsNumeral}
 use Rattle.std.proofs.lemmas.List.{get_or-map, length-map}
 use Rattle.std.proofs.lemmas.List.Elements.{All-from_recursion}
 use Rattle.std.proofs.lemmas.List.FromFn.{get_or-map-range_with_len, map-range_with_len_more, get_or-range_with_len, length-map-range_with_len, length-range_with_len}
-use Rattle.std.proofs.lemmas.Str.Parse.{digit_from_value}
 use Rattle.netlist_schema.specs.Ident.{IsIdentifier, is_identifier_byte}
 use Rattle.netlist_schema.specs.Names.{AreDistinct}
 use Rattle.edit_core.proofs.Lists.{Apart, distinct_of}
+use Rattle.edit_core.proofs.Numbers.{digits_pass}
 use Rattle.design_gen.specs.Generated.{numbered}
 use Rattle.design_gen.specs.Letters.{are_letters}
 
@@ -26,17 +25,6 @@ pub letters_are_identifier : (bs : List ℕ) → are_letters bs ≡ true → IsI
 letters_are_identifier bs h =
     let t = and_parts (nat_lt 0 (length bs)) (list_all is_identifier_byte bs) h in
     (ltb-true 0 (length bs) t.0, All-from_recursion (λ b. is_identifier_byte b ≡ true) bs (all_letters bs t.1))
-
-digit_passes : (c : ℕ) → 48 ≤ c → c ≤ 57 → is_identifier_byte c ≡ true
-digit_passes c low high = or_left _ _ (or_left _ _ (or_left _ _ (and_from _ _ (le-leb 48 c low) (le-leb c 57 high))))
-
-digits_pass : (ds : List ℕ) → AllDigits 10 ds → AllByRecursion (λ b. is_identifier_byte b ≡ true) ds
-digits_pass [] d = tt
-digits_pass (c ∷ cs) d =
-    let r = digit_from_value c d.0 in
-    let low : 48 ≤ c = omega (arith, r) in
-    let high : c ≤ 57 = omega (arith, r) in
-    (digit_passes c low high, digits_pass cs d.1)
 
 pub numbered_is_identifier : (letter k : ℕ) → is_identifier_byte letter ≡ true → k < 2 ^ 64 → IsIdentifier (numbered letter k)
 numbered_is_identifier letter k passes small =

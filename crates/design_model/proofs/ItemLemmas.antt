@@ -16,7 +16,7 @@ use Rattle.flat_spec.specs.declared.item.Item.TheVariants.{Enter}
 use Rattle.flat_spec.proofs.ListLemmas.{Member}
 use Rattle.flat_spec.proofs.OccurrenceLemmas.{occurrences-reaches}
 use Rattle.design_model.specs.Items.{bit_at, bits_from, items_below}
-use Rattle.design_model.proofs.RunLemmas.{drop-first, part_more}
+use Rattle.flat_spec.proofs.RunLemmas.{drop-first, part_more}
 
 -- one port more
 pub port_more : (make : Bit → Item) (ports : List Port) (i : ℕ) (port : Port) (found added whole : List Item) → i < length ports → port ≡ get_or ports i port

@@ -3,6 +3,5 @@ pub mod MeetLemmas
 pub mod SettledLemmas
 pub mod ItemLemmas
 pub mod PinLemmas
-pub mod RunLemmas
 pub mod TableLemmas
 pub mod WalkLemmas

@@ -16,7 +16,7 @@ use Rattle.flat_spec.proofs.PathLemmas.{Joins-net}
 use Rattle.flat_spec.proofs.PinLemmas.{net_at_pin-joins}
 use Rattle.flat_spec.proofs.TestLemmas.{above-append}
 use Rattle.design_model.specs.Items.{bits_from}
-use Rattle.design_model.proofs.RunLemmas.{drop-first}
+use Rattle.flat_spec.proofs.RunLemmas.{drop-first}
 
 -- the root shows the bits of all ports
 pub shown_bits-root : (path : List ℕ) (body : CellBody) → nat_eq (length path) 0 ≡ true → bits_from 0 body.ports ≡ shown_bits path body

@@ -15,7 +15,7 @@ use Rattle.flat_spec.proofs.OccurrenceLemmas.{nets-member}
 use Rattle.flat_spec.proofs.TestLemmas.{same_net-true, same_net-refl}
 use Rattle.design_model.specs.Tables.{AreTreeNets}
 use Rattle.design_model.specs.declared.tree_nets.TreeNets.{TreeNets}
-use Rattle.design_model.proofs.RunLemmas.{drop-first}
+use Rattle.flat_spec.proofs.RunLemmas.{drop-first}
 
 -- the net is the one that is sought
 pub net_found : (xs : List NetAt) (k : ℕ) (x y : NetAt) → k < length xs → x ≡ get_or xs k x → same_net x y ≡ true → slice_get xs k ≡ Some y

@@ -1,5 +1,5 @@
 -- The occurrences below a path, one instance after another.
-use Rattle.std.proofs.Common.{◌≡◌, ◌<◌, ◌≤◌, ◌+◌, ℕ, zero, suc, List, [], ◌∷◌, ◌++◌, map, length, get_or, drop, refl, sym, ap, ◌∙◌, arith, length-append}
+use Rattle.std.proofs.Common.{◌≡◌, ◌<◌, ◌≤◌, ◌+◌, ℕ, zero, suc, List, [], ◌∷◌, ◌++◌, map, length, get_or, drop, sym, ap, ◌∙◌, arith, length-append}
 use Rattle.std.specs.List.{enumerate_from, flat_map}
 use Rattle.std.proofs.lemmas.List.{length-map}
 use Rattle.netlist_schema.specs.Design.{Design}
@@ -9,7 +9,7 @@ use Rattle.flat_spec.specs.Occurrences.{Occurrence, occurrences, under}
 use Rattle.flat_spec.specs.Below.{under_path}
 use Rattle.flat_spec.proofs.BelowLemmas.{below_each, occurrences-under_path}
 use Rattle.flat_spec.proofs.OccurrenceLemmas.{occurrences_go_down}
-use Rattle.design_model.proofs.RunLemmas.{drop-first, part_more}
+use Rattle.flat_spec.proofs.RunLemmas.{drop-first, part_more}
 
 -- the occurrences of the cells of instances, in order, each tree under the place of its instance; the first has that place
 abbrev under_each : Design → ℕ → List Inst → List Occurrence
@@ -38,10 +38,6 @@ instance_more d path here i inst insts found deep whole within is here_is deep_i
     let opened : below_each d path i (drop i insts) ≡ below ++ rest = ap (below_each d path i) (drop-first insts i inst within is) in
     let deep_here : deep ≡ found ++ below = deep_is ∙ ap (λ p. found ++ map (under_path p) (occurrences d inst.of)) here_is in
     part_more below rest found deep whole deep_here (sym (ap (λ v. found ++ v) opened) ∙ so_far)
-
-pub under_path-nil : (os : List Occurrence) → map (under_path []) os ≡ os
-under_path-nil [] = refl
-under_path-nil (o ∷ os) = ap (λ v. o ∷ v) (under_path-nil os)
 
 under_each-length : (d : Design) (k i : ℕ) (inst : Inst) (insts : List Inst) → i < length insts → inst ≡ get_or insts i inst
     → length (occurrences d inst.of) ≤ length (under_each d k insts)

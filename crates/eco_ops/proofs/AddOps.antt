@@ -1,20 +1,21 @@
 -- Adding a cell.
-use Rattle.std.proofs.Common.{◌≡◌, ◌⊎◌, ◌↔◌, ◌<◌, arith, inl, ⊎_elim, ℕ, zero, suc, Bool, true, false, not, List, [], ◌∷◌, length, Option, Some, None, refl, sym, ap, subst, ◌∙◌}
-use Rattle.std.specs.Prelude.{IsSome, option_map, slice_get}
+use Rattle.std.proofs.Common.{◌≡◌, ◌⊎◌, ◌↔◌, inl, ⊎_elim, ℕ, Bool, true, false, not, List, [], ◌∷◌, length, Option, Some, None, sym, ap, subst, ◌∙◌}
+use Rattle.std.specs.Prelude.{IsSome}
 use Rattle.std.specs.List.{list_any}
 use Rattle.std.proofs.lemmas.List.{length-map}
 use Rattle.netlist_schema.specs.Design.{Design, cells_in, lib_at}
-use Rattle.netlist_schema.specs.Names.{cell_names, lib_names}
-use Rattle.netlist_schema.specs.Types.{CellBody, CellId, Lib, LibId, Object}
+use Rattle.netlist_schema.specs.Names.{cell_names}
+use Rattle.netlist_schema.specs.Types.{CellBody, CellId, LibId, Object}
 use Rattle.netlist_schema.specs.Valid.{IsValid}
 use Rattle.netlist_schema.specs.declared.ids.Object.TheVariants.{Directory}
 use Rattle.edit_core.specs.Edit.{fresh}
-use Rattle.edit_core.specs.Find.{is_same, lib_named, place_of}
+use Rattle.edit_core.specs.Find.{is_same, lib_named}
 use Rattle.edit_core.specs.Reading.{IsForLib}
 use Rattle.edit_core.specs.Rule.{first, ruled, unless}
 use Rattle.edit_core.specs.declared.reply.CellName.{CellName}
 use Rattle.edit_core.specs.declared.reply.Reply.{Reply}
 use Rattle.edit_core.specs.declared.reply.Reply.TheVariants.{Done, NoLib}
+use Rattle.edit_core.proofs.There.{named_lib_there}
 use Rattle.edit_spec.specs.AddCell.{add_cell, names_in, new_cell}
 use Rattle.edit_spec.specs.Rows.{outcome}
 use Rattle.edit_spec.specs.Typed.{IsTypedOp}
@@ -25,7 +26,6 @@ use Rattle.cells_model.specs.State.{State, HasRead}
 use Rattle.cells_model.specs.declared.change.CellChange.TheVariants.{Fresh}
 use Rattle.eco_reads.specs.Done.{IsDone}
 use Rattle.eco_reads.specs.Plan.{IsGood, one_change}
-use Rattle.eco_reads.proofs.Places.{place_within}
 use Rattle.eco_reads.proofs.Reading.{done_made, done_read, made_valid, read_both, read_nothing}
 use Rattle.eco_plans.specs.Add.{no_new_cell}
 
@@ -77,22 +77,9 @@ made_comes : (s u : State) (name : CellName) (leaf : Bool) (ports : List PortDec
 made_comes s u name leaf ports lib free count body has none same =
     add_comes s u name leaf ports lib free count has ∙ (λ i. unless (none i) Done (fresh (new_id lib count) (sym same i) ∷ []))
 
-get_some : {X : Type 0} (xs : List X) (k : ℕ) → k < length xs → IsSome (slice_get xs k)
-get_some [] k within = absurd (omega arith)
-get_some (x ∷ xs) zero within = refl
-get_some (x ∷ xs) (suc k) within = get_some xs k (omega arith)
-
-lib_place : (place : Option ℕ) (lib : LibId) → option_map (λ p. let l : LibId = record { 0 = p } in l) place ≡ Some lib → place ≡ Some lib.0
-lib_place None lib is = cc
-lib_place (Some p) lib is = ap (option_map (λ (l : LibId). l.0)) is
-
-lib_there : (d : Design) (name : List ℕ) (lib : LibId) → lib_named d name ≡ Some lib → IsSome (lib_at d lib)
-lib_there d name lib is =
-    get_some d.libs lib.0 (place_within (λ (l : Lib). l.head.name.id) name d.libs (Some lib.0) (sym (lib_place (place_of name (lib_names d.libs)) lib is)))
-
 pub add_good : (s u : State) (name : CellName) (leaf : Bool) (ports : List PortDecl) (lib : LibId) (free : Bool) (count : ℕ) (body : CellBody) → IsTypedOp (AddCell name leaf ports) → IsValid s.design → HasLib s u name lib free count → (first (no_new_cell (not free) count ports) ≡ None) × (body ≡ new_cell name.cell leaf ports) → IsGood u.design (one_change (Fresh (new_id lib count) body) None)
 add_good s u name leaf ports lib free count body typed valid has (none, same) = record {
-  can = ((subst (λ (d : Design). IsSome (lib_at d lib)) (sym has.read.design) (lib_there s.design name.lib lib has.found), has.many ∙ ap (λ (d : Design). length (cells_in d lib)) (sym has.read.design)), tt);
+  can = ((subst (λ (d : Design). IsSome (lib_at d lib)) (sym has.read.design) (named_lib_there s.design name.lib lib has.found), has.many ∙ ap (λ (d : Design). length (cells_in d lib)) (sym has.read.design)), tt);
   valid = made_valid s u (AddCell name leaf ports) Done (fresh (new_id lib count) body ∷ []) _ typed valid has.read (made_comes s u name leaf ports lib free count body has none same);
 }
 

@@ -1,5 +1,5 @@
 -- Removing an instance.
-use Rattle.std.proofs.Common.{◌≡◌, ◌⊎◌, ◌↔◌, ◌++◌, inl, inr, ⊎_elim, ℕ, Bool, true, false, cond, List, [], ◌∷◌, Option, Some, None, refl, sym, ap, subst, ◌∙◌}
+use Rattle.std.proofs.Common.{◌≡◌, ◌⊎◌, ◌↔◌, ◌++◌, inl, inr, ⊎_elim, ℕ, Bool, true, cond, List, [], ◌∷◌, Option, Some, None, refl, sym, ap, subst, ◌∙◌}
 use Rattle.std.specs.Prelude.{MatchResult, Result, filter, option_to_list}
 use Rattle.std.specs.Option.{option_map}
 use Rattle.netlist_schema.specs.Design.{Design}
@@ -8,7 +8,7 @@ use Rattle.netlist_schema.specs.Valid.{IsValid}
 use Rattle.netlist_schema.specs.declared.ids.Object.TheVariants.{Notes}
 use Rattle.edit_core.specs.Edit.{inner, noted}
 use Rattle.edit_core.specs.Find.{cell_named}
-use Rattle.edit_core.specs.Reading.{IsForName, IsForNotes, IsReached, IsReachedBy, IsForCell, IsInside as IsInsideOf}
+use Rattle.edit_core.specs.Reading.{IsForName, IsForNotes, IsForCell, IsInside as IsInsideOf}
 use Rattle.edit_spec.specs.Needs.{Needs}
 use Rattle.edit_core.specs.Rule.{first, no_cell, no_inst, no_lib, unless}
 use Rattle.edit_core.specs.Seen.{contents_at, inside, named}
@@ -20,45 +20,15 @@ use Rattle.edit_spec.specs.declared.ops.Op.TheVariants.{DropInst}
 use Rattle.edit_core.specs.declared.reply.Reply.{Reply}
 use Rattle.edit_core.specs.declared.reply.Reply.TheVariants.{Done}
 use Rattle.cells_model.specs.Parts.{IsInside}
-use Rattle.cells_model.specs.State.{State, HasRead, HasReadSome}
+use Rattle.cells_model.specs.State.{State, HasRead}
 use Rattle.eco_reads.specs.Done.{IsDone, IsDoneOrFails}
 use Rattle.eco_reads.specs.Plan.{CanBePut, IsPlanned, IsPut}
 use Rattle.eco_reads.specs.declared.plan.Plan.{Plan}
 use Rattle.eco_reads.proofs.Found.{found_row, inside_is, refused_row}
-use Rattle.cells_model.proofs.Growing.{prefix_twice}
-use Rattle.eco_ops.proofs.NoteOps.{top_known}
 use Rattle.eco_reads.proofs.Reading.{both_edits, done_read, only_name, planned_can, planned_done, put_result, read_then}
+use Rattle.eco_reads.proofs.NoteReads.{no_top}
 
 -- ---- the notes that are left
-
-pub filter_joined : {X : Type 0} (p : X → Bool) (xs ys : List X) → filter p (xs ++ ys) ≡ filter p xs ++ filter p ys
-filter_joined p [] ys = refl
-filter_joined {X} p (x ∷ xs) ys = one (p x) (filter_joined p xs ys)
-  where
-    one : (b : Bool) → filter p (xs ++ ys) ≡ filter p xs ++ filter p ys → cond b (x ∷ filter p (xs ++ ys)) (filter p (xs ++ ys)) ≡ cond b (x ∷ filter p xs) (filter p xs) ++ filter p ys
-    one true rest = ap (λ (l : List X). x ∷ l) rest
-    one false rest = rest
-
-pub reached_joined : (d : Design) (top : CellId) (notes more : List Note) (o : Object) → (IsReachedBy d top notes o ⊎ IsReachedBy d top more o) ↔ IsReachedBy d top (notes ++ more) o
-reached_joined d top [] more o = (λ is. ⊎_elim (λ (never : ⊥). absurd never) (λ (m : IsReachedBy d top more o). m) is, λ is. inr is)
-reached_joined d top (note ∷ notes) more o =
-    let rest = reached_joined d top notes more o in (
-      λ is. ⊎_elim
-          (λ (one : IsReached d top note.path o ⊎ IsReachedBy d top notes o). ⊎_elim (λ (e : IsReached d top note.path o). inl e) (λ (es : IsReachedBy d top notes o). inr (rest.0 (inl es))) one)
-          (λ (m : IsReachedBy d top more o). inr (rest.0 (inr m))) is,
-      λ is. ⊎_elim
-          (λ (e : IsReached d top note.path o). inl (inl e))
-          (λ (es : IsReachedBy d top (notes ++ more) o). ⊎_elim (λ (x : IsReachedBy d top notes o). inl (inr x)) (λ (m : IsReachedBy d top more o). inr m) (rest.1 es)) is,
-    )
-
-pub one_note_more : (s u v : State) (top : CellId) (notes : List Note) (note : Note) → HasRead s u (IsReachedBy s.design top notes) → HasRead u v (IsReached u.design top note.path) → HasRead s v (IsReachedBy s.design top (notes ++ note ∷ []))
-one_note_more s u v top notes note first_read second =
-    read_then s u v (IsReachedBy s.design top notes) (IsReached s.design top note.path) (IsReachedBy s.design top (notes ++ note ∷ [])) first_read
-    (subst (λ (d : Design). HasRead u v (IsReached d top note.path)) first_read.design second)
-    (λ o. let joined = reached_joined s.design top notes (note ∷ []) o in (
-      λ is. joined.0 (⊎_elim (λ (x : IsReachedBy s.design top notes o). inl x) (λ (e : IsReached s.design top note.path o). inr (inl e)) is),
-      λ is. ⊎_elim (λ (x : IsReachedBy s.design top notes o). inl x) (λ (m : IsReached s.design top note.path o ⊎ ⊥). ⊎_elim (λ (e : IsReached s.design top note.path o). inr e) (λ (never : ⊥). absurd never) m) (joined.1 is),
-    ))
 
 -- without a top all notes are left
 filter_all : (p : Note → Bool) (notes : List Note) → ((n : Note) → p n ≡ true) → filter p notes ≡ notes
@@ -126,28 +96,5 @@ drop_refused s t name inst reply read (none, refused) =
     ))
     (refused_row s.design name (no_inst (inside s.design name) inst ∷ []) reply Done (option_to_list (option_map (λ c. inner c (without_inst (inside s.design name) inst)) (cell_named s.design name)) ++ set_notes (seen_if (cell_named s.design name) s.design.notes) (seen_if (cell_named s.design name) (other_notes s.design (cell_named s.design name) inst))) refused)
 
--- what the notes need, with and without a top
-no_top_known : (o : Option TopHead) → None ≡ option_map (λ head. head.cell) o → o ≡ None
-no_top_known None is = refl
-no_top_known (Some head) is = cc
-
 pub notes_alone : (s t : State) (id : CellId) → None ≡ option_map (λ head. head.cell) s.design.top → HasRead s t (λ o. o ≡ Notes) → HasRead s t (IsForNotes s.design (Some id) s.design.top)
-notes_alone s t id none read = subst (λ (top : Option TopHead). HasRead s t (IsForNotes s.design (Some id) top)) (sym (no_top_known s.design.top none)) read
-
-pub notes_and_paths : (s t u : State) (id top : CellId) (notes : List Note) → Some top ≡ option_map (λ head. head.cell) s.design.top → HasRead s t (λ o. o ≡ Notes) → notes ≡ s.design.notes → HasRead t u (IsReachedBy t.design top notes) → HasRead s u (IsForNotes s.design (Some id) s.design.top)
-notes_and_paths s t u id top notes some first_read same second =
-    let known = top_known s.design.top top some in
-    let here : HasRead t u (IsReachedBy s.design known.0.cell s.design.notes) =
-    subst (λ (c : CellId). HasRead t u (IsReachedBy s.design c s.design.notes)) (sym known.2)
-    (subst (λ (ns : List Note). HasRead t u (IsReachedBy s.design top ns)) same
-    (subst (λ (d : Design). HasRead t u (IsReachedBy d top notes)) first_read.design second)) in
-    subst (λ (o : Option TopHead). HasRead s u (IsForNotes s.design (Some id) o)) (sym known.1)
-    (read_then s t u (λ o. o ≡ Notes) (IsReachedBy s.design known.0.cell s.design.notes) (λ o. (o ≡ Notes) ⊎ IsReachedBy s.design known.0.cell s.design.notes o) first_read here (λ o. (λ x. x, λ x. x)))
-
-pub some_after : (s u v : State) (P : Object → Type 0) → HasRead s u P → HasReadSome u v → HasReadSome s v
-some_after s u v P read some = record {
-  base = some.base ∙ read.base;
-  design = some.design ∙ read.design;
-  written = some.written ∙ read.written;
-  prefix = prefix_twice s.reads u.reads v.reads read.reads.prefix some.prefix;
-}
+notes_alone s t id none read = subst (λ (top : Option TopHead). HasRead s t (IsForNotes s.design (Some id) top)) (sym (no_top s.design.top none)) read

@@ -1,11 +1,13 @@
 -- Adding an instance.
-use Rattle.std.proofs.Common.{◌≡◌, ◌⊎◌, ◌↔◌, ◌||◌, inl, inr, ⊎_elim, ℕ, nat_lt, Bool, true, false, List, [], ◌∷◌, length, Option, Some, None, refl, sym, ap, subst, ◌∙◌}
+use Rattle.std.proofs.Common.{◌≡◌, ◌⊎◌, ◌↔◌, ◌||◌, inl, inr, ⊎_elim, ℕ, nat_lt, Bool, true, List, [], ◌∷◌, length, Option, Some, None, refl, sym, ap, subst, ◌∙◌}
 use Rattle.std.specs.Prelude.{IsTrue, MatchResult, Result, option_to_list}
 use Rattle.std.specs.Option.{option_map, option_map_or}
+use Rattle.std.proofs.lemmas.Bool.{or_right, or_cases}
 use Rattle.netlist_schema.specs.Design.{Design, insts_in, nets_in}
 use Rattle.netlist_schema.specs.Hierarchy.{IsBelow}
 use Rattle.netlist_schema.specs.Types.{CellId, Contents, Object}
 use Rattle.netlist_schema.specs.Valid.{IsValid}
+use Rattle.netlist_schema.proofs.Lists.{same_test}
 use Rattle.edit_core.specs.Edit.{Edit, inner}
 use Rattle.edit_core.specs.Find.{cell_named, lib_named}
 use Rattle.edit_core.specs.Reading.{IsForPlacing as IsForBelow, IsForName}
@@ -55,26 +57,12 @@ add_inst_comes d name of inst id oid is to =
     Done
     (option_map_or (λ (p : CellId). option_to_list (option_map (λ (c : CellId). inner c (record { insts = with_inst inst p (insts_in (holder (to i) (inside_is d name id is i))); nets = nets_in (holder (to i) (inside_is d name id is i)) })) (is i))) (to i) []))
 
--- the walk tells whether it would be a cycle
-same_bool : (a b : Bool) → (a ≡ true → b ≡ true) → (b ≡ true → a ≡ true) → a ≡ b
-same_bool true b f g = sym (f refl)
-same_bool false true f g = g refl
-same_bool false false f g = refl
-
 or_left : (a b : Bool) → a ≡ true → (a || b) ≡ true
 or_left a b is = ap (λ (x : Bool). x || b) is
 
-or_right : (a b : Bool) → b ≡ true → (a || b) ≡ true
-or_right true b is = refl
-or_right false b is = is
-
-or_cases : (a b : Bool) → (a || b) ≡ true → (a ≡ true) ⊎ (b ≡ true)
-or_cases true b is = inl refl
-or_cases false b is = inr is
-
 pub cyclic_is : (d : Design) (id oid : CellId) (cyclic : Bool) → IsValid d → IsTrue cyclic ↔ IsAtOrBelow d oid id → cyclic ≡ is_cyclic d (Some id) (Some oid)
 cyclic_is d id oid cyclic valid walked =
-    same_bool cyclic (same_cell oid id || is_below d id oid)
+    same_test cyclic (same_cell oid id || is_below d id oid)
     (λ yes. ⊎_elim
     (λ (same : id ≡ oid). or_left (same_cell oid id) (is_below d id oid) (ap (same_cell oid) same ∙ same_cell-refl oid))
     (λ (below : IsBelow d id oid). or_right (same_cell oid id) (is_below d id oid) ((below_test d id oid valid).1 below))

@@ -1,5 +1,5 @@
 -- Setting and removing notes.
-use Rattle.std.proofs.Common.{◌≡◌, ◌⊎◌, ◌↔◌, inl, inr, ⊎_elim, ℕ, Bool, List, [], ◌∷◌, Option, Some, None, refl, sym, ap, subst, ◌∙◌}
+use Rattle.std.proofs.Common.{◌≡◌, ◌⊎◌, ◌↔◌, inl, inr, ⊎_elim, ℕ, Bool, List, [], ◌∷◌, Option, Some, sym, ap, subst, ◌∙◌}
 use Rattle.std.specs.Prelude.{MatchResult, Result, Ok, Err}
 use Rattle.std.specs.Option.{option_map}
 use Rattle.netlist_schema.specs.Design.{Design}
@@ -23,6 +23,7 @@ use Rattle.edit_core.specs.declared.reply.Reply.{Reply}
 use Rattle.edit_core.specs.declared.reply.Reply.TheVariants.{Done}
 use Rattle.cells_model.specs.State.{State, HasRead, HasReadSome}
 use Rattle.eco_reads.specs.Done.{IsDone, IsDoneOrFails}
+use Rattle.eco_reads.proofs.NoteReads.{some_top}
 use Rattle.eco_plans.specs.Notes.{no_note_dropped, no_note_set, note_dropped, note_set}
 use Rattle.eco_reads.specs.Plan.{AreNotesPlanned, AreNotesPut, CanNotesBePut}
 use Rattle.eco_reads.proofs.Reading.{done_made, done_read, made_valid, read_some, read_then}
@@ -58,11 +59,6 @@ pub notes_done : {E : Type 0} (s u v : State) (op : Op) (P : Object → Type 0) 
 notes_done s u v op P refusal new made (Ok reply) read needs comes planned put = notes_put s u v op P refusal new made reply read needs comes planned put
 notes_done s u v op P refusal new made (Err err) read needs comes planned put = subst (λ (t : State). HasReadSome s t) (sym put) (read_some s u P read)
 
--- the top that is known by its cell
-pub top_known : (o : Option TopHead) (top : CellId) → Some top ≡ option_map (λ head. head.cell) o → (head : TopHead) × (o ≡ Some head) × (head.cell ≡ top)
-top_known None top is = cc
-top_known (Some head) top is = (head, refl, cc)
-
 -- ---- setting a note
 
 set_read : (s t u : State) (head : TopHead) (path : List (List ℕ)) (property : Property) → s.design.top ≡ Some head → HasRead s t (IsReached s.design head.cell path) → HasRead t u (λ o. o ≡ Notes) → HasRead s u (Needs s.design (SetNote path property))
@@ -83,7 +79,7 @@ set_planned s t head top path property leads notes made cell same is notes_are p
 
 pub set_note_can : (s t u : State) (top : CellId) (path : List (List ℕ)) (property : Property) (leads : Bool) (notes : List Note) (made : Result (List Note) Reply) → IsTypedOp (SetNote path property) → IsValid s.design → Some top ≡ option_map (λ head. head.cell) s.design.top → HasRead s t (IsReached s.design top path) → leads ≡ resolves s.design top path → HasRead t u (λ o. o ≡ Notes) → notes ≡ t.design.notes → AreNotesPlanned (first (no_note_set leads notes path property)) (note_set notes path property) made → CanNotesBePut u.design made
 set_note_can s t u top path property leads notes made typed valid is first_read leads_is second notes_are planned =
-    let known = top_known s.design.top top is in
+    let known = some_top s.design.top top is in
     notes_can s u (SetNote path property) (Needs s.design (SetNote path property)) (first (no_note_set (resolves s.design known.0.cell path) s.design.notes path property)) (note_set s.design.notes path property) made typed valid
     (set_read s t u known.0 path property known.1 (subst (λ (c : CellId). HasRead s t (IsReached s.design c path)) (sym known.2) first_read) second)
     (set_note_comes s.design known.0 path property known.1)
@@ -91,7 +87,7 @@ set_note_can s t u top path property leads notes made typed valid is first_read 
 
 pub set_note_done : {E : Type 0} (s t u v : State) (top : CellId) (path : List (List ℕ)) (property : Property) (leads : Bool) (notes : List Note) (made : Result (List Note) Reply) (result : Result Reply E) → Some top ≡ option_map (λ head. head.cell) s.design.top → HasRead s t (IsReached s.design top path) → leads ≡ resolves s.design top path → HasRead t u (λ o. o ≡ Notes) → notes ≡ t.design.notes → AreNotesPlanned (first (no_note_set leads notes path property)) (note_set notes path property) made → MatchResult result (AreNotesPut u v made) (λ _. v ≡ u) → IsDoneOrFails result s v (SetNote path property)
 set_note_done s t u v top path property leads notes made result is first_read leads_is second notes_are planned put =
-    let known = top_known s.design.top top is in
+    let known = some_top s.design.top top is in
     notes_done s u v (SetNote path property) (Needs s.design (SetNote path property)) (first (no_note_set (resolves s.design known.0.cell path) s.design.notes path property)) (note_set s.design.notes path property) made result
     (set_read s t u known.0 path property known.1 (subst (λ (c : CellId). HasRead s t (IsReached s.design c path)) (sym known.2) first_read) second)
     (λ o. (λ x. x, λ x. x))
@@ -106,14 +102,14 @@ drop_needs d head path key o is = subst (λ (top : Option TopHead). (o ≡ Notes
 
 pub drop_note_can : (s u : State) (top : CellId) (path : List (List ℕ)) (key : List ℕ) (notes : List Note) (made : Result (List Note) Reply) → IsValid s.design → Some top ≡ option_map (λ head. head.cell) s.design.top → HasRead s u (λ o. o ≡ Notes) → notes ≡ s.design.notes → AreNotesPlanned (first (no_note_dropped notes path key)) (note_dropped notes path key) made → CanNotesBePut u.design made
 drop_note_can s u top path key notes made valid is read notes_are planned =
-    let known = top_known s.design.top top is in
+    let known = some_top s.design.top top is in
     notes_can s u (DropNote path key) (λ o. o ≡ Notes) (first (no_note_dropped s.design.notes path key)) (note_dropped s.design.notes path key) made tt valid read
     (drop_note_comes s.design known.0 path key known.1)
     (subst (λ (ns : List Note). AreNotesPlanned (first (no_note_dropped ns path key)) (note_dropped ns path key) made) notes_are planned)
 
 pub drop_note_done : {E : Type 0} (s u v : State) (top : CellId) (path : List (List ℕ)) (key : List ℕ) (notes : List Note) (made : Result (List Note) Reply) (result : Result Reply E) → Some top ≡ option_map (λ head. head.cell) s.design.top → HasRead s u (λ o. o ≡ Notes) → notes ≡ s.design.notes → AreNotesPlanned (first (no_note_dropped notes path key)) (note_dropped notes path key) made → MatchResult result (AreNotesPut u v made) (λ _. v ≡ u) → IsDoneOrFails result s v (DropNote path key)
 drop_note_done s u v top path key notes made result is read notes_are planned put =
-    let known = top_known s.design.top top is in
+    let known = some_top s.design.top top is in
     notes_done s u v (DropNote path key) (λ o. o ≡ Notes) (first (no_note_dropped s.design.notes path key)) (note_dropped s.design.notes path key) made result read
     (λ o. drop_needs s.design known.0 path key o known.1)
     (drop_note_comes s.design known.0 path key known.1)

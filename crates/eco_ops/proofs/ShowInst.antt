@@ -1,6 +1,7 @@
 -- Showing an instance.
-use Rattle.std.proofs.Common.{◌≡◌, ℕ, zero, suc, Bool, true, false, List, [], ◌∷◌, length, take, map, Option, Some, None, refl, sym, ap, ◌∙◌, slice_get}
+use Rattle.std.proofs.Common.{◌≡◌, ℕ, Bool, true, false, List, [], ◌∷◌, length, take, Option, Some, None, refl, sym, ap, ◌∙◌, slice_get}
 use Rattle.std.specs.Prelude.{is_none, option_and_then, option_map}
+use Rattle.std.proofs.lemmas.Option.{slice_get-map}
 use Rattle.netlist_schema.specs.Design.{Design, cell_at, insts_in, lib_at}
 use Rattle.netlist_schema.specs.Types.{CellBody, CellId, Contents, Inst, Lib, LibHead, Object, Property}
 use Rattle.edit_core.specs.Find.{cell_named, inst_named, inst_place}
@@ -79,17 +80,11 @@ show_inst_done s u name inst id contents shown of reply found some called is =
         ap (inst_shown (Some i)) some_n ∙ ap (λ (ps : List Property). ShownInst n ps) (sym (ap (λ (p : CellId × List Property). p.1) at))
         ∙ sym (is ∙ ap (inst_shown (Some (record { name = record { id = []; shown = None }; of = shown.0; designator = None; properties = shown.1 }))) (here ∙ ap (λ (p : CellId × List Property). cell_name_at s.design p.0) at ∙ some_n))
 
--- the name of a cell, from what is seen of it and of its library
-get_mapped : {X Y : Type 0} (f : X → Y) (xs : List X) (k : ℕ) → slice_get (map f xs) k ≡ option_map f (slice_get xs k)
-get_mapped f [] k = refl
-get_mapped f (x ∷ xs) zero = refl
-get_mapped f (x ∷ xs) (suc k) = get_mapped f xs k
-
 pub name_is : (d : Design) (id : CellId) (cell lib : Option (List ℕ)) → cell ≡ option_map (λ seen. seen.name.id) (seen_at d id) → lib ≡ option_map (λ h. h.name.id) (option_map (λ l. l.head) (lib_at d id.lib)) → option_and_then (λ l. option_map (λ c. let n : CellName = record { lib = l; cell = c } in n) cell) lib ≡ cell_name_at d id
 name_is d id cell lib seen head =
     (λ i. option_and_then (λ l. option_map (λ c. let n : CellName = record { lib = l; cell = c } in n) (seen i)) (head i))
     ∙ whole (lib_at d id.lib) (cell_at d id)
-    ∙ ap (λ (h : Option LibHead). option_and_then (λ x. option_map (name_of x) (outside_at d id)) h) (sym (get_mapped (λ (l : Lib). l.head) d.libs id.lib.0))
+    ∙ ap (λ (h : Option LibHead). option_and_then (λ x. option_map (name_of x) (outside_at d id)) h) (sym (slice_get-map (λ (l : Lib). l.head) d.libs id.lib.0))
   where
     whole : (l : Option Lib) (b : Option CellBody) → option_and_then (λ x. option_map (λ c. let n : CellName = record { lib = x; cell = c } in n) (option_map (λ (seen : Seen). seen.name.id) (option_map seen_of b))) (option_map (λ (h : LibHead). h.name.id) (option_map (λ (y : Lib). y.head) l)) ≡ option_and_then (λ x. option_map (name_of x) (option_map outside_of b)) (option_map (λ (y : Lib). y.head) l)
     whole None b = refl

@@ -1,5 +1,5 @@
 -- How many ends there are, and ports that are not there.
-use Rattle.std.proofs.Common.{◌≡◌, ◌<◌, ◌≤◌, ◌+◌, ◌++◌, ℕ, zero, suc, arith, List, [], ◌∷◌, length, take, get_or, length-append, Option, Some, None, refl, sym, ap, ◌∙◌}
+use Rattle.std.proofs.Common.{◌≡◌, ◌<◌, ◌≤◌, ◌+◌, ◌++◌, ℕ, arith, List, [], ◌∷◌, length, take, get_or, length-append, Option, Some, None, refl, sym, ap, ◌∙◌}
 use Rattle.std.specs.List.{flat_map}
 use Rattle.std.proofs.lemmas.List.{take_more}
 use Rattle.std.proofs.lemmas.List.Folds.{length-flat_map-take}
@@ -7,6 +7,7 @@ use Rattle.std.specs.Prelude.{is_none, slice_get}
 use Rattle.std.specs.Option.{option_and_then, option_map, option_or}
 use Rattle.netlist_schema.specs.Design.{port_width}
 use Rattle.netlist_schema.specs.Types.{End, Net, Port}
+use Rattle.netlist_schema.proofs.Lists.{get_there}
 use Rattle.edit_spec.specs.Ends.{bad_bit, no_port}
 use Rattle.edit_core.specs.Rule.{first, refuse}
 use Rattle.edit_core.specs.Find.{port_named, port_place}
@@ -36,12 +37,6 @@ ends_within nets i net within is =
     let all = length-flat_map-take (λ (n : Net). n.ends) nets i net within in
     let same : length net.ends ≡ length (get_or nets i net).ends = ap (λ (n : Net). length n.ends) is in
     omega arith
-
--- a port that is not seen has no place
-get_there : {X : Type 0} (xs : List X) (k : ℕ) → k < length xs → (x : X) × (slice_get xs k ≡ Some x)
-get_there [] k within = absurd (omega arith)
-get_there (x ∷ xs) zero within = (x, refl)
-get_there (x ∷ xs) (suc k) within = get_there xs k (omega arith)
 
 no_place : (name : List ℕ) (ports : List Port) → port_in name ports ≡ None → port_place name ports ≡ None
 no_place name ports none = at (port_place name ports) refl none

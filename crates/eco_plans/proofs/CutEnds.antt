@@ -5,34 +5,27 @@ use Rattle.std.specs.Option.{option_or}
 use Rattle.std.specs.List.{AllByRecursion, flat_map, list_any, position_from}
 use Rattle.netlist_schema.specs.Names.{AreDistinct}
 use Rattle.netlist_schema.specs.Types.{Contents, End, Net, Port}
+use Rattle.netlist_schema.proofs.Lists.{all_behind}
 use Rattle.edit_core.specs.Rule.{first, refuse}
 use Rattle.edit_core.specs.declared.reply.EndName.{EndName}
 use Rattle.edit_core.specs.declared.reply.Reply.{Reply}
 use Rattle.edit_core.specs.declared.reply.Reply.TheVariants.{NoInst, NotJoined}
-use Rattle.edit_core.proofs.Lists.{Apart, apart_of, each_left, each_right}
+use Rattle.edit_core.proofs.Lists.{Apart, apart_of, each_left}
 use Rattle.edit_spec.specs.Cut.{is_end, net_without_end, not_joined, without_end}
 use Rattle.flat_spec.specs.ConnectionTest.{same_end}
-use Rattle.flat_spec.proofs.TestLemmas.{same_end-true, same_end-refl}
+use Rattle.flat_spec.proofs.TestLemmas.{same_end-true}
 use Rattle.edit_spec.specs.Ends.{bad_bit, end_named, joins_end, no_end_inst, no_port}
+use Rattle.edit_spec.proofs.Joined.{not_had}
 use Rattle.cells_model.proofs.Places.{first_is_position}
 use Rattle.eco_reads.specs.Plan.{IsPlanned}
 use Rattle.eco_reads.specs.declared.plan.Plan.{Plan}
 use Rattle.eco_reads.specs.declared.plan.Plan.TheVariants.{Net as PlannedNet}
 use Rattle.eco_reads.proofs.Places.{put_within}
+use Rattle.eco_reads.proofs.Found.{or_front}
 use Rattle.eco_plans.specs.Ends.{no_cut}
-use Rattle.eco_plans.proofs.Joined.{both_none, found_at, not_found, one_place, one_refuses, place_of_rest}
+use Rattle.eco_plans.proofs.Joined.{both_none, found_at, not_found, one_place, place_of_rest}
 
 -- ---- ends that are other ones
-
-or_false : (a b : Bool) → (a || b) ≡ false → (a ≡ false) × (b ≡ false)
-or_false true b is = cc
-or_false false b is = (refl, is)
-
-not_had : (e : End) (ends : List End) → list_any (same_end e) ends ≡ false → AllByRecursion (λ y. e ≢ y) ends
-not_had e [] none = tt
-not_had e (x ∷ ends) none =
-    let both = or_false (same_end e x) (list_any (same_end e) ends) none in
-    (λ same. let there : same_end e x ≡ true = subst (λ (y : End). same_end e y ≡ true) same (same_end-refl e) in let never : true ≡ false = sym there ∙ both.0 in cc, not_had e ends both.1)
 
 kept_one : (x : End) (rest : List End) (b : Bool) → (b ≡ true → ⊥) → cond (not b) (x ∷ rest) rest ≡ x ∷ rest
 kept_one x rest true never = absurd (never refl)
@@ -52,7 +45,7 @@ flat nets = flat_map (λ net. net.ends) nets
 
 nets_kept : (e : End) (nets : List Net) → AllByRecursion (λ y. e ≢ y) (flat nets) → map (net_without_end (Some e)) nets ≡ nets
 nets_kept e [] all = refl
-nets_kept e (net ∷ nets) all = λ i. net_kept e net (each_left (λ y. e ≢ y) net.ends (flat nets) all) i ∷ nets_kept e nets (each_right (λ y. e ≢ y) net.ends (flat nets) all) i
+nets_kept e (net ∷ nets) all = λ i. net_kept e net (each_left (λ y. e ≢ y) net.ends (flat nets) all) i ∷ nets_kept e nets (all_behind (λ y. e ≢ y) net.ends (flat nets) all) i
 
 apart_right : (xs ys : List End) → Apart (xs ++ ys) → Apart ys
 apart_right [] ys apart = apart
@@ -64,7 +57,7 @@ apart_after [] ys e apart has = cc
 apart_after (x ∷ xs) ys e apart has = by_test (same_end e x) refl has (apart_after xs ys e apart.1)
   where
     by_test : (b : Bool) → same_end e x ≡ b → (b || list_any (same_end e) xs) ≡ true → (list_any (same_end e) xs ≡ true → AllByRecursion (λ y. e ≢ y) ys) → AllByRecursion (λ y. e ≢ y) ys
-    by_test true is _ later = subst (λ (z : End). AllByRecursion (λ y. z ≢ y) ys) (sym (same_end-true e x is)) (each_right (λ y. x ≢ y) xs ys apart.0)
+    by_test true is _ later = subst (λ (z : End). AllByRecursion (λ y. z ≢ y) ys) (sym (same_end-true e x is)) (all_behind (λ y. x ≢ y) xs ys apart.0)
     by_test false is rest later = later rest
 
 cut_at : (e : End) (nets : List Net) (k : ℕ) (d : Net) → Apart (flat nets) → position_from (joins_end e) 0 nets ≡ Some k → map (net_without_end (Some e)) nets ≡ slice_set nets k (net_without_end (Some e) (get_or nets k d))
@@ -98,7 +91,7 @@ cut_front old ports end none = ap (λ (r : Option Reply). option_or r (first (no
 
 pub cut_no_end : (old : Option Contents) (ports : Option (List Port)) (end : EndName) (reply : Reply) → no_end_inst old end.inst ≡ None → first (no_port ports end.port ∷ bad_bit ports end.port end.bit ∷ []) ≡ Some reply → first (no_cut old ports end) ≡ Some reply
 cut_no_end old ports end reply none refused =
-    cut_front old ports end none ∙ one_refuses (no_port ports end.port) (bad_bit ports end.port end.bit) (first (not_joined old (end_named old ports end) ∷ [])) reply refused
+    cut_front old ports end none ∙ or_front (no_port ports end.port) (bad_bit ports end.port end.bit) (first (not_joined old (end_named old ports end) ∷ [])) reply refused
 
 or_none : (a : Option Reply) → option_or a None ≡ a
 or_none None = refl

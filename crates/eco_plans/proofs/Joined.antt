@@ -20,6 +20,7 @@ use Rattle.eco_reads.specs.Plan.{IsPlanned}
 use Rattle.eco_reads.specs.declared.plan.Plan.{Plan}
 use Rattle.eco_reads.specs.declared.plan.Plan.TheVariants.{Net as PlannedNet}
 use Rattle.eco_reads.proofs.Places.{put_within}
+use Rattle.eco_reads.proofs.Found.{or_front}
 use Rattle.eco_plans.specs.Ends.{no_more_end}
 
 -- ---- the place of the first that passes, and the first that passes
@@ -106,18 +107,13 @@ both_none None None rest none = refl
 both_none None (Some x) rest none = cc
 both_none (Some x) b rest none = cc
 
-pub one_refuses : (a b rest : Option Reply) (reply : Reply) → option_or a (option_or b None) ≡ Some reply → option_or a (option_or b rest) ≡ Some reply
-one_refuses (Some x) b rest reply is = is
-one_refuses None (Some y) rest reply is = is
-one_refuses None None rest reply is = cc
-
 net_there : (c : Contents) (net : List ℕ) (place : ℕ) → net_place net c.nets ≡ Some place → no_net (Some c) net ≡ None
 net_there c net place is = rw is refl
 
 pub join_no_end : (c : Contents) (ports : Option (List Port)) (net : List ℕ) (end : EndName) (place : ℕ) (reply : Reply) → no_end_inst (Some c) end.inst ≡ None → net_place net c.nets ≡ Some place → first (no_port ports end.port ∷ bad_bit ports end.port end.bit ∷ []) ≡ Some reply → first (no_join (Some c) ports net end) ≡ Some reply
 join_no_end c ports net end place reply none is refused =
     join_front (Some c) ports net end None none (net_there c net place is)
-    ∙ one_refuses (no_port ports end.port) (bad_bit ports end.port end.bit) (first (already_joined (Some c) (end_named (Some c) ports end) ∷ too_many (length (ends_in (Some c))) 4194304 ∷ [])) reply refused
+    ∙ or_front (no_port ports end.port) (bad_bit ports end.port end.bit) (first (already_joined (Some c) (end_named (Some c) ports end) ∷ too_many (length (ends_in (Some c))) 4194304 ∷ [])) reply refused
 
 pub join_planned : (c : Contents) (ports : Option (List Port)) (net : List ℕ) (end : EndName) (place : ℕ) (at : End) (made : Result Plan Reply) → no_end_inst (Some c) end.inst ≡ None → net_place net c.nets ≡ Some place → first (no_port ports end.port ∷ bad_bit ports end.port end.bit ∷ []) ≡ None → end_named (Some c) ports end ≡ Some at → IsPlanned (Some c) (first (no_more_end c at)) (record c { nets = changed_at (net_with_end (Some at)) place c.nets }) made → IsPlanned (Some c) (first (no_join (Some c) ports net end)) (record { insts = c.insts; nets = with_end net (end_named (Some c) ports end) c.nets }) made
 join_planned c ports net end place at made none is fits named planned =

@@ -3,7 +3,7 @@ use Rattle.std.proofs.Common.{◌≡◌, ◌⊎◌, ◌↔◌, ◌<◌, ◌≤�
 use Rattle.std.specs.List.{Contains, list_any}
 use Rattle.std.specs.declared.cmp.Ordering.{Ordering}
 use Rattle.std.specs.declared.cmp.Ordering.TheVariants.{Less, Equal, Greater}
-use Rattle.std.specs.Ordering.{is_eq, match_ordering, nat_cmp, ordering_then}
+use Rattle.std.specs.Ordering.{is_eq, match_ordering, nat_cmp}
 use Rattle.std.specs.FinMap.{nat_cmp-IsAntisymmetric}
 use Rattle.std.specs.BTreeSet.{insert_key}
 use Rattle.std.specs.BTreeMap.{is_at}
@@ -13,18 +13,20 @@ use Rattle.netlist_schema.specs.Design.{Design, cell_at, insts_in}
 use Rattle.netlist_schema.specs.Hierarchy.{IsBelow, placed, deeper, insts_at}
 use Rattle.netlist_schema.specs.Order.{cell_cmp}
 use Rattle.netlist_schema.specs.Types.{CellId, Contents, Inst}
+use Rattle.netlist_schema.proofs.Objects.{both_Equal}
+use Rattle.netlist_schema.proofs.Ranks.{below_trans}
 use Rattle.edit_core.specs.Seen.{contents_at}
 use Rattle.edit_core.proofs.Edits.{same_id}
+use Rattle.uniquify_spec.proofs.Agreed.{insts_inside as insts_of_found}
 use Rattle.cells_model.specs.Parts.{IsInside}
 use Rattle.cells_model.specs.State.{State, HasRead, HasReadSome}
 use Rattle.eco_reads.specs.Walk.{GoesOn, IsAtOrBelow, IsInsideBelow, IsListed, IsPlaced}
-use Rattle.eco_reads.proofs.Paths.{insts_of_found}
 use Rattle.cells_model.proofs.Growing.{grows_by_same, prefix_twice}
 use Rattle.eco_reads.proofs.Reading.{read_then}
 
 -- ---- lists of cells
 
-only_one : {X : Type 0} (x y : X) → Contains (x ∷ []) y → y ≡ x
+pub only_one : {X : Type 0} (x y : X) → Contains (x ∷ []) y → y ≡ x
 only_one x y (zero, lt, is) = sym is
 only_one x y (suc k, lt, is) = absurd (omega arith)
 
@@ -77,11 +79,6 @@ goes_more a b c insts more of is first second = record {
 }
 
 -- ---- the set of cells that were seen, by its keys in order
-
-both_Equal : (r s : Ordering) → ordering_then r s ≡ Equal → (r ≡ Equal) × (s ≡ Equal)
-both_Equal Less s e = cc
-both_Equal Equal s e = (refl, e)
-both_Equal Greater s e = cc
 
 cell_cmp_exact : (a b : CellId) → cell_cmp a b ≡ Equal → a ≡ b
 cell_cmp_exact a b e =
@@ -137,11 +134,7 @@ pub record IsWalked (s u : State) (from : CellId) (order : List CellId) (next : 
   pub closed : (id inner : CellId) → Contains (take next order) id → IsPlaced (insts_at s.design id) inner → Contains order inner
   pub read : HasRead s u (λ o. (id : CellId) × Contains (take next order) id × IsInside id o)
 
-below_trans : (d : Design) {inner id from : CellId} → IsBelow d inner id → IsBelow d id from → IsBelow d inner from
-below_trans d first (placed inst has) = deeper inst has first
-below_trans d first (deeper inst has rest) = deeper inst has (below_trans d first rest)
-
-placed_inst : (insts : List Inst) (id : CellId) → IsPlaced insts id → (inst : Inst) × Contains insts inst × (inst.of ≡ id)
+pub placed_inst : (insts : List Inst) (id : CellId) → IsPlaced insts id → (inst : Inst) × Contains insts inst × (inst.of ≡ id)
 placed_inst [] id has = absurd (none_in id has)
 placed_inst (x ∷ xs) id (zero, lt, is) = (x, (0, omega arith, refl), is)
 placed_inst (x ∷ xs) id (suc k, lt, is) =

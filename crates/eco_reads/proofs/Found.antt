@@ -29,7 +29,7 @@ front (Some l) f id rest is = ap (λ (c : Option CellId). option_or (refuse (is_
 pub found_first : (d : Design) (name : CellName) (id : CellId) (rest : List (Option Reply)) → cell_named d name ≡ Some id → first (no_lib (named d name) ∷ no_cell (named d name) ∷ rest) ≡ first rest
 found_first d name id rest is = front (lib_named d name.lib) (cell_in d name.cell) id (first rest) is
 
-or_front : (a b rest : Option Reply) (reply : Reply) → option_or a (option_or b None) ≡ Some reply → option_or a (option_or b rest) ≡ Some reply
+pub or_front : (a b rest : Option Reply) (reply : Reply) → option_or a (option_or b None) ≡ Some reply → option_or a (option_or b rest) ≡ Some reply
 or_front (Some x) b rest reply is = is
 or_front None (Some y) rest reply is = is
 or_front None None rest reply is = cc

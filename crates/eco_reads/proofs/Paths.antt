@@ -2,14 +2,15 @@
 use Rattle.std.proofs.Common.{◌≡◌, ◌⊎◌, ◌↔◌, ◌||◌, ◌&&◌, inl, inr, ⊎_elim, ℕ, Bool, true, false, List, [], ◌∷◌, ◌++◌, Option, Some, None, refl, sym, ap, subst, ◌∙◌}
 use Rattle.std.specs.Prelude.{IsSomeAnd}
 use Rattle.std.specs.Option.{option_and_then, option_map, option_map_or}
-use Rattle.netlist_schema.specs.Design.{Design, cell_at, insts_in, insts_of}
+use Rattle.netlist_schema.specs.Design.{Design, cell_at, insts_in}
 use Rattle.netlist_schema.specs.Hierarchy.{insts_at}
-use Rattle.netlist_schema.specs.Types.{CellBody, CellId, Inst, Object}
+use Rattle.netlist_schema.specs.Types.{CellId, Inst, Object}
 use Rattle.edit_core.specs.Find.{inst_named, is_name}
 use Rattle.edit_core.specs.Reading.{IsReached}
 use Rattle.edit_core.specs.Paths.{goes_through, resolves, same_cell}
 use Rattle.edit_core.specs.Seen.{contents_at}
 use Rattle.edit_core.specs.Objects.{contents_object}
+use Rattle.uniquify_spec.proofs.Agreed.{insts_inside}
 
 -- the cell of the instance with a name in a cell
 abbrev pub next : Design → CellId → List ℕ → Option CellId
@@ -20,12 +21,8 @@ abbrev pub end_of : Design → CellId → List (List ℕ) → Option CellId
 end_of d at [] = Some at
 end_of d at (step ∷ steps) = option_and_then (λ of. end_of d of steps) (next d at step)
 
-pub insts_of_found : (o : Option CellBody) → insts_in (option_and_then (λ (b : CellBody). b.contents) o) ≡ option_map_or insts_of o []
-insts_of_found None = refl
-insts_of_found (Some body) = refl
-
 pub next_is : (d : Design) (at : CellId) (step : List ℕ) → option_map (λ inst. inst.of) (inst_named step (insts_in (contents_at d at))) ≡ next d at step
-next_is d at step = ap (λ (insts : List Inst). option_map (λ inst. inst.of) (inst_named step insts)) (insts_of_found (cell_at d at))
+next_is d at step = ap (λ (insts : List Inst). option_map (λ inst. inst.of) (inst_named step insts)) (insts_inside (cell_at d at))
 
 -- ---- a path that leads no further
 

@@ -2,7 +2,7 @@
 use Rattle.std.proofs.Common.{◌++◌, get_or, take, nat_lt, slice_set, ◌≤◌, ◌≡◌, ◌<◌, ◌+◌, ℕ, suc, arith, Bool, true, false, cond, List, [], ◌∷◌, length, map, Option, Some, None, refl, sym, ap, ◌∙◌}
 use Rattle.std.specs.Prelude.{IfSome}
 use Rattle.std.proofs.lemmas.Bool.{le-leb, lt-leb}
-use Rattle.std.proofs.lemmas.List.{map_more}
+use Rattle.std.proofs.lemmas.List.{length-map, map_more}
 use Rattle.netlist_schema.specs.Change.{put_at}
 use Rattle.std.specs.List.{position_from}
 use Rattle.edit_core.specs.Find.{is_name, place_of}
@@ -18,15 +18,11 @@ position_within test i k (x ∷ xs) is =
     (λ _ same. omega arith)
     (λ later. let more = position_within test (i + 1) k xs later in omega arith) is
 
-length_map : {X Y : Type 0} (f : X → Y) (xs : List X) → length (map f xs) ≡ length xs
-length_map f [] = refl
-length_map f (x ∷ xs) = ap suc (length_map f xs)
-
 pub place_within : {X : Type 0} (f : X → List ℕ) (name : List ℕ) (xs : List X) (found : Option ℕ) → found ≡ place_of name (map f xs) → IfSome found (λ place. place < length xs)
 place_within f name xs None is = tt
 place_within f name xs (Some place) is =
     let within = position_within (λ other. is_name other name) 0 place (map f xs) (sym is) in
-    let same = length_map f xs in omega arith
+    let same = length-map xs f in omega arith
 
 pub first_within : {X : Type 0} (test : X → Bool) (xs : List X) (found : Option ℕ) → found ≡ position_from test 0 xs → IfSome found (λ place. place < length xs)
 first_within test xs None is = tt

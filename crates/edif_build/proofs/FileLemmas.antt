@@ -1,6 +1,8 @@
 -- The form of a file: its design, its libraries and its top.
 use Rattle.std.proofs.Common.{◌≡◌, ℕ, zero, suc, ◌+◌, ◌<◌, ◌≤◌, List, [], ◌∷◌, ◌++◌, map, length, take, drop, refl, ap, sym, ◌∙◌, subst, inl, inr, Bool, true, false, Option, Some, None, arith, append-nil, add-one}
 use Rattle.std.specs.Prelude.{IsTrue, cond, slice_get, ◌||◌}
+use Rattle.std.proofs.lemmas.Option.{slice_get_within}
+use Rattle.std.proofs.lemmas.List.{length-map}
 use Rattle.spelling_spec.specs.Tree.{Bare, Placed, bare}
 use Rattle.edif_spec.specs.Keyword.{row}
 use Rattle.edif_spec.specs.Rows.{EachAfter, has_keyword}
@@ -12,7 +14,6 @@ use Rattle.edif_spec.specs.declared.keyword.Keyword.TheVariants as keywords
 use Rattle.edif_spec.specs.declared.fault.ClashKind.TheVariants.{SecondDesign}
 use Rattle.edif_spec.specs.declared.fault.MeaningFault.{MeaningFault}
 use Rattle.edif_spec.specs.declared.fault.MeaningFault.TheVariants.{Clash}
-use Rattle.edif_spec.proofs.FaultForms.{get_below, map_length}
 use Rattle.edif_spec.proofs.FileFaultsApart.{front_after}
 use Rattle.edif_spec.proofs.KnownForms.{form_choice}
 use Rattle.edif_spec.proofs.Once.{each_after_once}
@@ -67,7 +68,7 @@ design_again ts i j place earlier t u g k h n p q =
 
 -- where a design was found, there is a form
 pub found_below : (ts : List Placed) (i j : ℕ) → FoundSo ts i (Some j) → j < length ts
-found_below ts i j h = get_below ts j h.0 h.1
+found_below ts i j h = slice_get_within ts j h.0 h.1
 
 pub design_at : (ts : List Placed) (i : ℕ) (o : Option ℕ) → take i ts ≡ ts → FoundSo ts i o → DesignAt ts o
 design_at ts i None e h = ap (those_of keywords.Design) (sym e) ∙ h
@@ -186,7 +187,7 @@ first_libs us vs before known h k =
     let P : List Bare → Type 0 = λ v. EachAfter MeansLibrary [] v known.libs in
     let e : map bare (us ++ vs) ≡ map bare us ++ map bare vs = both us in
     let f = front_after MeansLibrary [] (map bare us) (map bare vs) known.libs (subst P e k.mean) in
-    let n : length (map bare us) ≡ length us = map_length bare us in
+    let n : length (map bare us) ≡ length us = length-map us bare in
     each_after_once MeansLibrary library_once [] (map bare us) before.libs (take (length us) known.libs) h.mean (let Q : ℕ → Type 0 = λ v. EachAfter MeansLibrary [] (map bare us) (take v known.libs) in subst Q n f)
   where
     both : (us : List Placed) → map bare (us ++ vs) ≡ map bare us ++ map bare vs

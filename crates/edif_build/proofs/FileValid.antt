@@ -2,9 +2,11 @@
 use Rattle.std.proofs.Common.{◌≡◌, ℕ, List, [], ◌∷◌, map, length, take, refl, ap, sym, ◌∙◌, subst, Option, Some, None, arith}
 use Rattle.std.specs.Prelude.{filter}
 use Rattle.std.specs.List.{AllByRecursion}
+use Rattle.std.proofs.lemmas.List.{length-map}
 use Rattle.netlist_schema.specs.Names.{AreDistinct}
 use Rattle.netlist_schema.specs.Typed.{IsTypedName, IsTypedCell}
 use Rattle.netlist_schema.specs.Valid.{IsValid}
+use Rattle.netlist_schema.proofs.Lists.{all_weaker}
 use Rattle.spelling_spec.specs.Tree.{Bare, Placed, bare}
 use Rattle.edif_spec.specs.Rows.{has_keyword, those, EachAfter, Perhaps}
 use Rattle.edif_spec.specs.Means.{MeansLibrary, is_library, MeansDesign, before_design, libs_before_design, MeansFile}
@@ -13,9 +15,8 @@ use Rattle.edif_spec.specs.Stands.{before_the_design, libraries}
 use Rattle.edif_spec.specs.Design as design
 use Rattle.edif_spec.specs.declared.keyword.Keyword.TheVariants as keywords
 use Rattle.edif_spec.proofs.CellFaultsApart.{FineCell}
-use Rattle.edif_spec.proofs.FaultForms.{filter_bare, map_length}
+use Rattle.edif_spec.proofs.FaultForms.{filter_bare}
 use Rattle.edif_spec.proofs.FileFaultsApart.{before_bare}
-use Rattle.edif_spec.proofs.FromValid.{weaker}
 use Rattle.edif_spec.proofs.KnownDesigns.{design_is_valid}
 use Rattle.edif_spec.proofs.KnownFile.{FineLib, FineNote}
 use Rattle.edif_build.specs.Cells.{IsSoundCell}
@@ -29,14 +30,14 @@ use Rattle.edif_build.specs.declared.top.Top.{Top}
 fine_lib : (l : design.Lib) → IsSoundLib l → FineLib l
 fine_lib l h = record {
   name = h.name;
-  typed = weaker IsSoundCell IsTypedCell l.cells (λ c s. s.typed) h.cells;
-  cells = weaker IsSoundCell FineCell l.cells (λ c s. record { limits = s.limits; names = s.names; joined_once = s.joined_once }) h.cells;
+  typed = all_weaker IsSoundCell IsTypedCell l.cells (λ c s. s.typed) h.cells;
+  cells = all_weaker IsSoundCell FineCell l.cells (λ c s. record { limits = s.limits; names = s.names; joined_once = s.joined_once }) h.cells;
   names = h.names;
   count = h.count;
 }
 
 fine_libs : (ts : List Placed) (known : KnownLibs) → LibsAre ts known → AllByRecursion FineLib known.libs
-fine_libs ts known h = weaker IsSoundLib FineLib known.libs fine_lib h.sound
+fine_libs ts known h = all_weaker IsSoundLib FineLib known.libs fine_lib h.sound
 
 none_differ : AreDistinct {X = List (List ℕ) × List ℕ} []
 none_differ = λ i j d l k. absurd (omega arith)
@@ -52,13 +53,13 @@ valid_whole ts title known (Some x) n h =
     let r = h.top.5 in
     let P : List design.Lib → Type 0 = λ v. MeansDesign v x.notes (bare h.top.0) x.head in
     design_is_valid (whole title known.libs (Some x)) (map bare (libraries ts)) (bare h.top.0 ∷ []) (length (libraries (before_the_design ts))) n h.libs.mean (fine_libs (libraries ts) known h.libs) h.libs.distinct h.libs.count
-    (subst P h.top.4 r.mean) (record { keys = r.keys; count = r.count; differ = r.differ }, r.name, r.typed) tt (weaker IsSoundNote FineNote x.notes (λ m s. record { typed = s.typed; some_step = s.some_step }) r.sound) r.count r.differ
+    (subst P h.top.4 r.mean) (record { keys = r.keys; count = r.count; differ = r.differ }, r.name, r.typed) tt (all_weaker IsSoundNote FineNote x.notes (λ m s. record { typed = s.typed; some_step = s.some_step }) r.sound) r.count r.differ
 
 -- the libraries before the design, as they are counted
 front_is : (ts : List Placed) (libs : List design.Lib) → libs_before_design (map bare ts) libs ≡ take (length (libraries (before_the_design ts))) libs
 front_is ts libs =
     let e : map bare (libraries (before_the_design ts)) ≡ filter is_library (before_design (map bare ts)) = filter_bare is_library (before_the_design ts) ∙ ap (filter is_library) (before_bare ts) in
-    let n : length (filter is_library (before_design (map bare ts))) ≡ length (libraries (before_the_design ts)) = ap length (sym e) ∙ map_length bare (libraries (before_the_design ts)) in
+    let n : length (filter is_library (before_design (map bare ts))) ≡ length (libraries (before_the_design ts)) = ap length (sym e) ∙ length-map (libraries (before_the_design ts)) bare in
     ap (λ k. take k libs) n
 
 top_means : (ts : List Placed) (libs : List design.Lib) (o : Option Top) → TopIs libs ts o → Perhaps (MeansDesign (libs_before_design (map bare ts) libs) (notes_of o)) (those keywords.Design (map bare ts)) (head_of o)

@@ -1,7 +1,6 @@
 -- A step of a loop over the nodes of forms of which some are kept, by a test.
 use Rattle.std.proofs.Common.{◌≡◌, List, [], ◌∷◌, ◌++◌, map, refl, ap, ◌∙◌, subst, Bool, true, false, append-nil}
 use Rattle.std.specs.Prelude.{cond, filter}
-use Rattle.std.specs.List.{AllByRecursion}
 use Rattle.std.proofs.lemmas.List.Elements.{filter-append}
 use Rattle.spelling_spec.specs.Tree.{Bare, Placed, bare}
 use Rattle.edif_spec.specs.Rows.{EachAfter}
@@ -35,12 +34,3 @@ after_push {A} M ts xs t x h m = go [] ts xs h m
     go before [] (y ∷ ys) h m = absurd h
     go before (u ∷ us) [] h m = absurd h
     go before (u ∷ us) (y ∷ ys) h m = let P : List A → Type 0 = λ v. M v (bare t) x in (h.0, go (before ++ y ∷ []) us ys h.1 (subst P (regroup before (y ∷ []) ys) m))
-
-pub all_push : {A : Type 0} (P : A → Type 0) (xs : List A) (x : A) → AllByRecursion P xs → P x → AllByRecursion P (xs ++ x ∷ [])
-all_push P [] x h p = (p, tt)
-all_push P (y ∷ xs) x h p = (h.0, all_push P xs x h.1 p)
-
--- behind some forms
-pub append_assoc_to : {A : Type 0} (xs ys zs : List A) → (xs ++ ys) ++ zs ≡ xs ++ (ys ++ zs)
-append_assoc_to [] ys zs = refl
-append_assoc_to (x ∷ xs) ys zs = ap (λ v. x ∷ v) (append_assoc_to xs ys zs)

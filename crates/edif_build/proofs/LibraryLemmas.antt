@@ -2,8 +2,9 @@
 use Rattle.std.proofs.Common.{◌≡◌, ℕ, zero, suc, ◌+◌, ◌<◌, ◌≤◌, List, [], ◌∷◌, ◌++◌, map, length, refl, ap, sym, ◌∙◌, subst, inl, inr, Bool, true, false, Option, Some, None, arith, length-append}
 use Rattle.std.specs.Prelude.{slice_get, ◌||◌}
 use Rattle.std.specs.List.{AllByRecursion, Contains}
-use Rattle.std.proofs.lemmas.List.{map-append}
+use Rattle.std.proofs.lemmas.List.{length-map, map-append}
 use Rattle.netlist_schema.specs.Names.{AreDistinct, cell_names, lib_names}
+use Rattle.netlist_schema.proofs.Lists.{all_push}
 use Rattle.spelling_spec.specs.Tree.{Bare, Placed, bare}
 use Rattle.edif_spec.specs.Keyword.{row, Takes, name_definition, the, Many}
 use Rattle.edif_spec.specs.Canonical.{library_keyword}
@@ -19,7 +20,7 @@ use Rattle.edif_spec.specs.declared.fault.ClashKind.TheVariants.{Duplicate}
 use Rattle.edif_spec.specs.declared.fault.Kind.TheVariants.{BadForm}
 use Rattle.edif_spec.specs.declared.fault.MeaningFault.{MeaningFault}
 use Rattle.edif_spec.specs.declared.fault.MeaningFault.TheVariants.{Clash, OverLimit}
-use Rattle.edif_spec.proofs.FaultForms.{filter_bare, map_length, after_length}
+use Rattle.edif_spec.proofs.FaultForms.{filter_bare, after_length}
 use Rattle.edif_spec.proofs.FaultPlaces.{after_later}
 use Rattle.edif_tree.specs.Handles.{all}
 use Rattle.edif_build.specs.Cells.{IsSoundCell, ReadCell}
@@ -31,7 +32,7 @@ use Rattle.edif_build.specs.Libraries.{CellsAre, CellsFail, FailsAt, IsSoundLib,
 use Rattle.edif_parts.specs.Names.{Define, ids}
 use Rattle.edif_build.specs.declared.cells.CellAt.{CellAt}
 use Rattle.edif_build.specs.declared.libraries.Head.{Head}
-use Rattle.edif_build.proofs.FilterSteps.{after_push, all_push}
+use Rattle.edif_build.proofs.FilterSteps.{after_push}
 use Rattle.edif_contents.proofs.KnownLemmas.{with_pushed}
 use Rattle.edif_parts.proofs.NameLists.{define_push, ids_named, name_repeats, distinct_push, none_distinct}
 
@@ -48,10 +49,6 @@ get_behind [] ys x (suc n) e = absurd (cc e)
 get_behind (y ∷ xs) ys x zero e = absurd (omega arith)
 get_behind (y ∷ xs) ys x (suc n) e = get_behind xs ys x n (omega arith)
 
-map_long : {A B : Type 0} (f : A → B) (xs : List A) → length (map f xs) ≡ length xs
-map_long f [] = refl
-map_long f (x ∷ xs) = ap suc (map_long f xs)
-
 -- a name that differs from those of a list, at its end
 distinct_named : {A : Type 0} (g : A → List ℕ) (ns : List (List ℕ × ℕ)) (xs : List A) (x : A) → ids ns ≡ map g xs → AreDistinct (map g xs) → ¬ Contains (ids ns) (g x) → AreDistinct (map g (xs ++ x ∷ []))
 distinct_named g ns xs x e d n =
@@ -62,8 +59,8 @@ distinct_named g ns xs x e d n =
 -- the number of cells, of their names and of their forms
 pub cells_count : (before : List design.Lib) (head : design.LibHead) (names : List (List ℕ × ℕ)) (ts : List Placed) (known : KnownLibs) (h : CellsAre before head names ts known) → (length known.cell_names ≡ length h.cells) × (length ts ≡ length h.cells)
 cells_count before head names ts known h = (
-  sym (map_long (λ (n : List ℕ × ℕ). n.0) known.cell_names) ∙ (ap length h.named ∙ map_long (λ (c : design.CellBody). c.name.id) h.cells),
-  sym (map_length bare ts) ∙ after_length (MeansHere before head) [] (map bare ts) h.cells h.mean,
+  sym (length-map known.cell_names (λ (n : List ℕ × ℕ). n.0)) ∙ (ap length h.named ∙ length-map h.cells (λ (c : design.CellBody). c.name.id)),
+  sym (length-map ts bare) ∙ after_length (MeansHere before head) [] (map bare ts) h.cells h.mean,
 )
 
 pub some_library : (before : List design.Lib) (head : design.LibHead) (names : List (List ℕ × ℕ)) (ts : List Placed) (known : KnownLibs) → CellsAre before head names ts known → 0 < length known.libs
@@ -174,7 +171,7 @@ library_repeats ts t old new h earlier k r a = λ rest. inr (inl (name_repeats t
 
 pub library_beyond : (ts : List Placed) (t : Placed) (old : KnownLibs) (place : ℕ) → LibsAre ts old → 1024 ≤ length old.libs → place ≡ place_of t → FailsAt LibsFail ts t (OverLimit 1024 place)
 library_beyond ts t old place h l p = λ rest.
-    let n : length ts ≡ length old.libs = sym (map_length bare ts) ∙ after_length MeansLibrary [] (map bare ts) old.libs h.mean in
+    let n : length ts ≡ length old.libs = sym (length-map ts bare) ∙ after_length MeansLibrary [] (map bare ts) old.libs h.mean in
     let k : length old.libs ≤ 1024 = h.count in
     let e : length ts ≡ 1024 = omega (arith, n, k, l) in
     inr (inr (t, get_behind ts rest t 1024 e, ap (λ v. OverLimit 1024 v) p))

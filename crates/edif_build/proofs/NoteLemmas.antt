@@ -4,6 +4,7 @@ use Rattle.std.specs.Prelude.{◌||◌, slice_get}
 use Rattle.std.specs.List.{AllByRecursion}
 use Rattle.std.proofs.lemmas.List.Elements.{All-from_recursion}
 use Rattle.netlist_schema.specs.Ident.{IsIdentifier}
+use Rattle.netlist_schema.proofs.Lists.{some_of}
 use Rattle.spelling_spec.specs.Tree.{Placed, Form', Word', trees, bare}
 use Rattle.edif_spec.specs.Design as design
 use Rattle.edif_spec.specs.Faults.{arguments, place_of, FixedFault, FollowerFault}
@@ -16,7 +17,8 @@ use Rattle.edif_spec.specs.declared.fault.Kind.TheVariants.{BadForm, BadPath}
 use Rattle.edif_spec.specs.declared.fault.MeaningFault.{MeaningFault}
 use Rattle.edif_spec.specs.declared.fault.MeaningFault.TheVariants.{At}
 use Rattle.edif_spec.proofs.Defined.{meant_there, name_there}
-use Rattle.edif_spec.proofs.Scopes.{some_of}
+use Rattle.edif_spec.proofs.KnownValid.{regroup}
+use Rattle.edif_spec.proofs.FaultExamples.{items_of}
 use Rattle.edif_names.specs.declared.scope.Meant.{Meant}
 use Rattle.edif_names.specs.declared.scope.Meant.TheVariants as answers
 use Rattle.edif_tree.specs.Nodes as nodes
@@ -26,11 +28,10 @@ use Rattle.edif_parts.specs.Names.{Tells}
 use Rattle.edif_build.specs.Notes.{HasNoteParts, ReadPath, ShapeFault}
 use Rattle.edif_build.specs.declared.notes.NoteParts.{NoteParts}
 use Rattle.edif_grammar.proofs.Misplaced.{place_is}
-use Rattle.edif_grammar.proofs.NodeForms.{items_trees}
 
 -- The arguments of a form.
 pub behind_first : (t u : Placed) (us vs : List Placed) → t ≡ Form' (nodes.place_of t) (trees us) → us ≡ u ∷ vs → vs ≡ arguments t
-behind_first t u us vs e f = sym (ap arguments (e ∙ ap (λ v. Form' (nodes.place_of t) (trees v)) f) ∙ items_trees vs)
+behind_first t u us vs e f = sym (ap arguments (e ∙ ap (λ v. Form' (nodes.place_of t) (trees v)) f) ∙ items_of vs)
 
 -- The shape of a note.
 few : (p : ℕ) (ts : List Placed) → length ts < 3 → FixedFault bad_form p note_parts ts (At BadForm p)
@@ -128,10 +129,6 @@ pub onward_start : (libs : List design.Lib) (top : design.CellId) (ts us : List 
 onward_start libs top ts us e =
     let P : List Placed → Type 0 = λ v. Onward libs top ts v top [] in
     subst P (sym e) (record { means = λ rest m. m; fails = λ f b. b; typed = tt; count = omega arith })
-
-regroup : {A : Type 0} (xs ys zs : List A) → (xs ++ ys) ++ zs ≡ xs ++ (ys ++ zs)
-regroup [] ys zs = refl
-regroup (x ∷ xs) ys zs = ap (λ v. x ∷ v) (regroup xs ys zs)
 
 idents_push : (ns : List (List ℕ)) (n : List ℕ) → AllByRecursion IsIdentifier ns → IsIdentifier n → AllByRecursion IsIdentifier (ns ++ n ∷ [])
 idents_push [] n h k = (k, tt)

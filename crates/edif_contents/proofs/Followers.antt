@@ -2,6 +2,7 @@
 use Rattle.std.proofs.Common.{◌≡◌, ◌≤◌, List, [], ◌∷◌, ◌++◌, length, refl, ap, ◌∙◌, subst, true, false, arith}
 use Rattle.std.specs.Prelude.{cond, ◌||◌}
 use Rattle.std.specs.List.{AllByRecursion}
+use Rattle.netlist_schema.proofs.Lists.{all_behind}
 use Rattle.spelling_spec.specs.Tree.{Placed, bare}
 use Rattle.edif_spec.specs.Rows.{has_keyword}
 use Rattle.edif_spec.specs.Faults.{those_of}
@@ -21,15 +22,10 @@ are_those k (t ∷ ts) h = (only (has_keyword k (bare t)) h.0, are_those k ts h.
 pub first_has : (k : Keyword) (ts us : List Placed) (t : Placed) → ts ≡ t ∷ us → AllByRecursion (λ u. has_keyword k (bare u) ≡ true) ts → has_keyword k (bare t) ≡ true
 first_has k ts us t e h = (subst (λ v. AllByRecursion (λ u. has_keyword k (bare u) ≡ true) v) e h).0
 
--- the next of them
-all_later : {A : Type 0} (P : A → Type 0) (xs ys : List A) → AllByRecursion P (xs ++ ys) → AllByRecursion P ys
-all_later P [] ys h = h
-all_later P (x ∷ xs) ys h = all_later P xs ys h.1
-
 pub next_has : (k : Keyword) (ts before us rest : List Placed) (t : Placed) → ts ≡ before ++ us → us ≡ t ∷ rest → AllByRecursion (λ u. has_keyword k (bare u) ≡ true) ts → has_keyword k (bare t) ≡ true
 next_has k ts before us rest t e f h =
     let P : Placed → Type 0 = λ u. has_keyword k (bare u) ≡ true in
-    first_has k us rest t f (all_later P before us (subst (λ v. AllByRecursion P v) e h))
+    first_has k us rest t f (all_behind P before us (subst (λ v. AllByRecursion P v) e h))
 
 -- and it alone, where there is one at most
 pub one_alone : (ts us : List Placed) (t : Placed) → ts ≡ t ∷ us → length ts ≤ 1 → ts ≡ t ∷ []

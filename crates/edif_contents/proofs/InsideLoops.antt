@@ -3,6 +3,9 @@ use Rattle.std.proofs.Common.{◌≡◌, ℕ, ◌+◌, ◌<◌, ◌≤◌, List,
 use Rattle.std.specs.Prelude.{◌^◌, IfSome}
 use Rattle.std.specs.List.{All, AllByRecursion, AllZip, flat_map}
 use Rattle.std.proofs.lemmas.List.Elements.{All-from_recursion, recursion_from_All}
+use Rattle.std.proofs.lemmas.Grind.{flat_map-append}
+use Rattle.std.proofs.lemmas.List.{length-map}
+use Rattle.netlist_schema.proofs.Lists.{all_push}
 use Rattle.spelling_spec.specs.Tree.{Bare, Placed, bare}
 use Rattle.netlist_schema.specs.Names.{AreDistinct}
 use Rattle.netlist_schema.specs.Width.{IsWidth}
@@ -16,9 +19,9 @@ use Rattle.edif_spec.specs.declared.keyword.Keyword.{Keyword}
 use Rattle.edif_spec.specs.declared.keyword.Keyword.TheVariants as keywords
 use Rattle.edif_spec.specs.declared.fault.MeaningFault.{MeaningFault}
 use Rattle.edif_spec.specs.declared.fault.MeaningFault.TheVariants.{OverLimit}
-use Rattle.edif_spec.proofs.FaultForms.{filter_bare, map_length}
+use Rattle.edif_spec.proofs.FaultForms.{filter_bare}
 use Rattle.edif_spec.proofs.NetFaultsApart.{net_declares, zip_append, zip_flat, zip_length}
-use Rattle.edif_spec.proofs.RowForms.{GivesName, flat_append, length_numbered, net_names_are, nets_counted, rows_fine}
+use Rattle.edif_spec.proofs.RowForms.{GivesName, length_numbered, net_names_are, nets_counted, rows_fine}
 use Rattle.edif_tree.specs.Handles.{all}
 use Rattle.edif_parts.specs.Names.{DefinesName, ids}
 use Rattle.edif_parts.proofs.NamedForms.{NamedForms, forms_again, forms_distinct, forms_each, forms_push, forms_skip, forms_start, forms_valid}
@@ -33,11 +36,11 @@ use Rattle.edif_contents.specs.declared.insts.InstAt.{InstAt}
 use Rattle.edif_contents.specs.declared.insts.Insts.{Insts}
 use Rattle.edif_contents.specs.declared.nets.NetAt.{NetAt}
 use Rattle.edif_contents.proofs.NetLemmas.{each_bare}
-use Rattle.edif_contents.proofs.NetRows.{all_fit, all_push, beyond_one, beyond_row, flat_here, flat_push, names_read, row_bits, wide_ends}
+use Rattle.edif_contents.proofs.NetRows.{all_fit, beyond_one, beyond_row, flat_here, flat_push, names_read, row_bits, wide_ends}
 
 -- as many forms as values
 forms_count : {A : Type 0} (M : Bare → A → Type 0) (V : A → Type 0) (g : A → List ℕ) (k : Keyword) (ts : List Placed) (xs : List A) (ns : List (List ℕ × ℕ)) → NamedForms M V g k ts xs ns → length (those_of k ts) ≡ length xs
-forms_count M V g k ts xs ns f = sym (map_length bare (those_of k ts)) ∙ zip_length M (map bare (those_of k ts)) xs f.means
+forms_count M V g k ts xs ns f = sym (length-map (those_of k ts) bare) ∙ zip_length M (map bare (those_of k ts)) xs f.means
 
 -- a form beyond the limit
 pub forms_beyond : {A : Type 0} (M : Bare → A → Type 0) (V : A → Type 0) (g : A → List ℕ) (k : Keyword) (ts before rest : List Placed) (t : Placed) (xs : List A) (ns : List (List ℕ × ℕ)) (limit place : ℕ)
@@ -165,7 +168,7 @@ nets_push s ts t xs ys r ss size ns ms js ks h a e d l b j f =
     let refs : refs_in (ts ++ t ∷ []) ≡ refs_in ts ++ row_of size (ends_in t) =
     ap (flat_map row_ends) more ∙ (flat_push row_ends (those_of keywords.Net ts) t ∙ ap (λ v. refs_in ts ++ v) (row_refs s t r.form size a.mean d)) in
     let ends : ends_of ys ≡ ends_of xs ++ bits_of_row size ss =
-    ap ends_of b.nets ∙ (flat_append (λ (n : design.Net). n.ends) xs (nets_of r.form) ∙ ap (λ v. ends_of xs ++ v) (row_ends_joined r.form ss size e d)) in
+    ap ends_of b.nets ∙ (flat_map-append (λ (n : design.Net). n.ends) xs (nets_of r.form) ∙ ap (λ v. ends_of xs ++ v) (row_ends_joined r.form ss size e d)) in
     let names : names_in (ts ++ t ∷ []) ≡ names_in ts ++ row_names r.form r.place =
     ap (flat_map net_names_in) more ∙ (flat_push net_names_in (those_of keywords.Net ts) t
     ∙ ap (λ v. names_in ts ++ v) (names_read s.libs.now.libs s.ports.now s.insts.now t r.form r.place a.mean a.named)) in
@@ -259,7 +262,7 @@ nets_end s ts xs ns js g =
     let N : List (List ℕ) → Type 0 = AreDistinct in
     let R : List Bare → Type 0 = λ v. Each (MeansNetIn s) v g.forms in
     let F : List design.Net → Type 0 = λ v. AllByRecursion IsFine v in
-    let l : length (bits js) ≡ length js = map_length (λ (j : design.End × ℕ). j.0) js in
+    let l : length (bits js) ≡ length js = length-map js (λ (j : design.End × ℕ). j.0) in
     let m : length (bits js) ≡ length (ends_of xs) = ap length g.joins.ends in
     let n : length js ≤ 4194304 = g.joins.count in
     let z : AllZip GivesName (names_in ts) (flat_map nets_of g.forms) =

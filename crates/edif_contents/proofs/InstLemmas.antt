@@ -12,10 +12,10 @@ use Rattle.edif_spec.specs.Stands.{InstFault}
 use Rattle.edif_spec.specs.Stands as stands
 use Rattle.edif_spec.specs.declared.fault.MeaningFault.{MeaningFault}
 use Rattle.edif_spec.specs.declared.keyword.Keyword.TheVariants as keywords
+use Rattle.edif_spec.proofs.FaultsApart.{defined_first}
 use Rattle.edif_grammar.specs.Forms.{ArePartsOf}
 use Rattle.edif_grammar.specs.declared.lent.Form.{Form}
 use Rattle.edif_grammar.proofs.FormLemmas.{once_fits}
-use Rattle.edif_parts.proofs.NameForms.{defined_first}
 use Rattle.edif_parts.proofs.PartLemmas.{TwoNodes, two_nodes}
 use Rattle.edif_contents.specs.Inners.{DetailsFault, ReadInst, ReadDetails}
 use Rattle.edif_contents.specs.declared.insts.InstDetails.{InstDetails}

@@ -3,9 +3,10 @@ use Rattle.std.proofs.Common.{◌≡◌, ℕ, zero, suc, ◌+◌, ◌*◌, ◌-�
 use Rattle.std.specs.Prelude.{slice_get}
 use Rattle.std.specs.List.{All, AllZip, Contains, flat_map}
 use Rattle.std.proofs.lemmas.Grind.{flat_map-append}
-use Rattle.std.proofs.lemmas.List.{length-replicate, map-append}
+use Rattle.std.proofs.lemmas.List.{length-map, length-replicate, map-append}
 use Rattle.std.proofs.lemmas.List.Elements.{All-weaker}
 use Rattle.std.proofs.Math.Nat.{add-mul, mul_comm, suc-mul}
+use Rattle.netlist_schema.proofs.Lists.{get_behind}
 use Rattle.spelling_spec.specs.Tree.{Placed, bare}
 use Rattle.netlist_schema.specs.Names.{AreDistinct}
 use Rattle.bus_spec.specs.Members.{numbered}
@@ -17,6 +18,8 @@ use Rattle.edif_spec.specs.Stands.{MeansRowEnd, SameEnd}
 use Rattle.edif_spec.specs.declared.fault.ClashKind.TheVariants.{EndTwice}
 use Rattle.edif_spec.specs.declared.fault.MeaningFault.{MeaningFault}
 use Rattle.edif_spec.specs.declared.fault.MeaningFault.TheVariants.{Clash, OverLimit}
+use Rattle.edif_spec.proofs.NetFaultsApart.{zip_length}
+use Rattle.edif_parts.proofs.NamedForms.{each_push}
 use Rattle.edif_contents.specs.Joins.{bits, row_of, Joined, IsTwice, AreJoined}
 use Rattle.edif_parts.proofs.NameLists.{none_distinct, distinct_push}
 
@@ -43,26 +46,9 @@ end_step libs ports insts k size (u ∷ us) (s ∷ ss) (suc i) t z m e =
     let r = end_step libs ports insts k size us ss i t z m.1 e in
     record { mean = r.mean; taken = ap (λ v. (u, k, size) ∷ v) r.taken; whole = ap (λ v. (u, k, size) ∷ v) r.whole; ends_taken = ap (λ v. end_of k s ∷ v) r.ends_taken }
 
--- Lists.
-pub zip_push : {A B : Type 0} (R : A → B → Type 0) (xs : List A) (ys : List B) (x : A) (y : B) → AllZip R xs ys → R x y → AllZip R (xs ++ x ∷ []) (ys ++ y ∷ [])
-zip_push R [] [] x y h r = (r, tt)
-zip_push R [] (w ∷ ys) x y h r = absurd h
-zip_push R (w ∷ xs) [] x y h r = absurd h
-zip_push R (v ∷ xs) (w ∷ ys) x y h r = (h.0, zip_push R xs ys x y h.1 r)
-
-pub zip_count : {A B : Type 0} (R : A → B → Type 0) (xs : List A) (ys : List B) → AllZip R xs ys → length xs ≡ length ys
-zip_count R [] [] h = refl
-zip_count R [] (y ∷ ys) h = absurd h
-zip_count R (x ∷ xs) [] h = absurd h
-zip_count R (x ∷ xs) (y ∷ ys) h = ap suc (zip_count R xs ys h.1)
-
 pub take_whole : {A : Type 0} (xs : List A) → take (length xs) xs ≡ xs
 take_whole [] = refl
 take_whole (x ∷ xs) = ap (λ v. x ∷ v) (take_whole xs)
-
-map_count : {A B : Type 0} (f : A → B) (xs : List A) → length (map f xs) ≡ length xs
-map_count f [] = refl
-map_count f (x ∷ xs) = ap suc (map_count f xs)
 
 -- one of the list, and then this one
 two_here : {A : Type 0} (R : A → A → Type 0) (xs ys : List A) (y : A) → AtOne (λ x. R x y) xs → AtTwo R (xs ++ y ∷ ys)
@@ -92,7 +78,7 @@ pub joined_start : (libs : List design.Lib) (ports : List design.Port) (insts : 
 joined_start libs ports insts = record { mean = tt; ends = refl; distinct = none_distinct; count = omega arith }
 
 pub joined_length : (libs : List design.Lib) (ports : List design.Port) (insts : List design.Inst) (ts : List (Placed × ℕ × ℕ)) (es : List design.End) (js : List (design.End × ℕ)) → AreJoined libs ports insts ts es js → length ts ≡ length js
-joined_length libs ports insts ts es js h = zip_count (StandsFor libs ports insts) ts js h.mean
+joined_length libs ports insts ts es js h = zip_length (StandsFor libs ports insts) ts js h.mean
 
 joined_push : (libs : List design.Lib) (ports : List design.Port) (insts : List design.Inst) (ts : List (Placed × ℕ × ℕ)) (es : List design.End) (js new : List (design.End × ℕ)) (t : Placed × ℕ × ℕ) (e : design.End) (place : ℕ)
     → AreJoined libs ports insts ts es js → MeansRowEnd libs ports insts t e → place ≡ place_of t.0 → Joined js e place new → length js < 4194304 → AreJoined libs ports insts (ts ++ t ∷ []) (es ++ e ∷ []) new
@@ -101,7 +87,7 @@ joined_push libs ports insts ts es js new t e place h m p n l =
     let more : bits (js ++ (e, place) ∷ []) ≡ bits js ++ e ∷ [] = map-append (λ (j : design.End × ℕ). j.0) js ((e, place) ∷ []) in
     let D : List design.End → Type 0 = AreDistinct in
     subst P (sym n.1) (record {
-      mean = zip_push (StandsFor libs ports insts) ts js t (e, place) h.mean (m, p);
+      mean = each_push (StandsFor libs ports insts) ts js t (e, place) h.mean (m, p);
       ends = more ∙ ap (λ v. v ++ e ∷ []) h.ends;
       distinct = subst D (sym more) (distinct_push (bits js) e h.distinct n.0);
       count = let c = length-append js ((e, place) ∷ []) in omega (arith, c, l);
@@ -141,8 +127,8 @@ joined_twice libs ports insts k size ts rest us es ss js i place t s f x h p w =
 pub joined_all : (libs : List design.Lib) (ports : List design.Port) (insts : List design.Inst) (k size : ℕ) (ts : List (Placed × ℕ × ℕ)) (us : List Placed) (es : List design.End) (ss : List Stretch) (js : List (design.End × ℕ)) (i : ℕ) → MeanRow libs ports insts size us ss → i ≡ length ss
     → AreJoined libs ports insts (ts ++ take i (net_row k size us)) (es ++ take i (map (end_of k) ss)) js → AreJoined libs ports insts (ts ++ net_row k size us) (es ++ map (end_of k) ss) js
 joined_all libs ports insts k size ts us es ss js i m e h =
-    let n : i ≡ length (net_row k size us) = e ∙ (sym (zip_count (λ u s. MeansEnd libs ports insts (bare u) s × (s.width ≡ size)) us ss m) ∙ sym (map_count (λ u. (u, k, size)) us)) in
-    let o : i ≡ length (map (end_of k) ss) = e ∙ sym (map_count (end_of k) ss) in
+    let n : i ≡ length (net_row k size us) = e ∙ (sym (zip_length (λ u s. MeansEnd libs ports insts (bare u) s × (s.width ≡ size)) us ss m) ∙ sym (length-map us (λ u. (u, k, size)))) in
+    let o : i ≡ length (map (end_of k) ss) = e ∙ sym (length-map ss (end_of k)) in
     let P : List (Placed × ℕ × ℕ) → Type 0 = λ v. AreJoined libs ports insts (ts ++ v) (es ++ take i (map (end_of k) ss)) js in
     let Q : List design.End → Type 0 = λ v. AreJoined libs ports insts (ts ++ net_row k size us) (es ++ v) js in
     subst Q (ap (λ v. take v (map (end_of k) ss)) o ∙ take_whole (map (end_of k) ss)) (subst P (ap (λ v. take v (net_row k size us)) n ∙ take_whole (net_row k size us)) h)
@@ -209,11 +195,6 @@ room_next joined n size k h l =
 pub within_next : (ss : List Stretch) (k size : ℕ) → k < size → All (λ s. s.first + size ≤ 4294967296) ss → All (λ s. k + s.first < 4294967296) ss
 within_next ss k size l h = All-weaker (λ (s : Stretch). s.first + size ≤ 4294967296) (λ (s : Stretch). k + s.first < 4294967296) (λ s w. omega (arith, l, w)) ss h
 
--- the form that the first end beyond the limit has
-skip_front : {A : Type 0} (xs ys : List A) (n : ℕ) → slice_get (xs ++ ys) (length xs + n) ≡ slice_get ys n
-skip_front [] ys n = let e : 0 + n ≡ n = omega arith in ap (slice_get ys) e
-skip_front (x ∷ xs) ys n = let e : suc (length xs) + n ≡ suc (length xs + n) = omega arith in ap (slice_get (x ∷ (xs ++ ys))) e ∙ skip_front xs ys n
-
 get_repeated : {A : Type 0} (x : A) (size n : ℕ) (ys : List A) → n < size → slice_get (replicate size x ++ ys) n ≡ Some x
 get_repeated x zero n ys l = absurd (omega (arith, l))
 get_repeated x (suc size) zero ys l = refl
@@ -248,4 +229,4 @@ room_beyond limit joined size place us seen left before rest t whole told low hi
     let b : length A ≡ length seen * size = count_repeated size seen in
     let e : limit ≡ length (before ++ A) + n = omega (arith, a, b, told, low) in
     let l : n < size = omega (arith, low, high) in
-    (t, ap (λ v. slice_get ((before ++ R us) ++ rest) v) e ∙ (ap (λ v. slice_get v (length (before ++ A) + n)) all ∙ (skip_front (before ++ A) (B ++ (C ++ rest)) n ∙ get_repeated t size n (C ++ rest) l)), ap (λ v. OverLimit limit v) p)
+    (t, ap (λ v. slice_get ((before ++ R us) ++ rest) v) e ∙ (ap (λ v. slice_get v (length (before ++ A) + n)) all ∙ (get_behind (before ++ A) (B ++ (C ++ rest)) n ∙ get_repeated t size n (C ++ rest) l)), ap (λ v. OverLimit limit v) p)

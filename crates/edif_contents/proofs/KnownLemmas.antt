@@ -2,7 +2,8 @@
 use Rattle.std.proofs.Common.{◌≡◌, ℕ, zero, suc, ◌-◌, ◌<◌, ◌≤◌, List, [], ◌∷◌, ◌++◌, map, length, refl, sym, ap, ◌∙◌, subst, Option, None, Some, arith, Result, Ok, Err}
 use Rattle.std.specs.Prelude.{slice_get, slice_set, slice_index_or, option_map, unwrap_or, IfNone, IfOk, IfSome, OnErr}
 use Rattle.std.specs.List.{Contains}
-use Rattle.std.proofs.lemmas.List.{map-append}
+use Rattle.std.proofs.lemmas.List.{length-map, map-append}
+use Rattle.std.proofs.lemmas.Option.{slice_get_past, slice_get-map}
 use Rattle.edif_spec.specs.Design as design
 use Rattle.edif_spec.specs.Means.{meant}
 use Rattle.edif_names.specs.declared.scope.Meant.{Meant}
@@ -26,16 +27,6 @@ get_at [] i x l e = absurd (omega arith)
 get_at (y ∷ xs) zero x l e = ap Some (sym e)
 get_at (y ∷ xs) (suc i) x l e = get_at xs i x (omega arith) e
 
-pub none_at : {A : Type 0} (xs : List A) (i : ℕ) → length xs ≤ i → slice_get xs i ≡ None
-none_at [] i l = refl
-none_at (y ∷ xs) zero l = absurd (omega arith)
-none_at (y ∷ xs) (suc i) l = none_at xs i (omega arith)
-
-map_get : {A B : Type 0} (f : A → B) (xs : List A) (i : ℕ) → slice_get (map f xs) i ≡ option_map f (slice_get xs i)
-map_get f [] i = refl
-map_get f (x ∷ xs) zero = refl
-map_get f (x ∷ xs) (suc i) = map_get f xs i
-
 -- the names of libraries, and of the cells of one
 pub heads_are : (ls : List NamedLib) → map (λ (l : NamedLib). l.lib.head.name.id) ls ≡ design.lib_ids (map (λ (l : NamedLib). l.lib) ls)
 heads_are [] = refl
@@ -48,13 +39,13 @@ pub tells_cell : (ls : List NamedLib) (i : ℕ) (l : NamedLib) (name : List ℕ)
     → Tells (meant (ids l.names) name) r → Tells (meant (design.cell_ids (map (λ (l : NamedLib). l.lib) ls) i) name) r
 tells_cell ls i l name r b e k h =
     let P : List (List ℕ) → Type 0 = λ v. Tells (meant v name) r in
-    let at : slice_get (map (λ (l : NamedLib). l.lib) ls) i ≡ Some l.lib = map_get (λ (l : NamedLib). l.lib) ls i ∙ ap (option_map (λ (l : NamedLib). l.lib)) (get_at ls i l b e) in
+    let at : slice_get (map (λ (l : NamedLib). l.lib) ls) i ≡ Some l.lib = slice_get-map (λ (l : NamedLib). l.lib) ls i ∙ ap (option_map (λ (l : NamedLib). l.lib)) (get_at ls i l b e) in
     subst P (k ∙ sym (ap cells_of at)) h
 
 pub tells_none : (ls : List NamedLib) (i : ℕ) (name : List ℕ) → length ls ≤ i → Tells (meant (design.cell_ids (map (λ (l : NamedLib). l.lib) ls) i) name) answers.Absent
 tells_none ls i name b =
     let P : List (List ℕ) → Type 0 = λ v. Tells (meant v name) answers.Absent in
-    let at : slice_get (map (λ (l : NamedLib). l.lib) ls) i ≡ None = map_get (λ (l : NamedLib). l.lib) ls i ∙ ap (option_map (λ (l : NamedLib). l.lib)) (none_at ls i b) in
+    let at : slice_get (map (λ (l : NamedLib). l.lib) ls) i ≡ None = slice_get-map (λ (l : NamedLib). l.lib) ls i ∙ ap (option_map (λ (l : NamedLib). l.lib)) (slice_get_past ls i b) in
     subst P (sym (ap cells_of at)) tt
 
 -- the last one
@@ -187,15 +178,10 @@ heads_stay ls n names l m c b e h i =
     ∙ sym (map-append (λ (l : NamedLib). l.lib.head.name.id) r.front (m ∷ []))
     ∙ sym (ap (map (λ (l : NamedLib). l.lib.head.name.id)) (r.set m))
 
--- the number of cells of the last library
-long : {A B : Type 0} (f : A → B) (xs : List A) → length (map f xs) ≡ length xs
-long f [] = refl
-long f (x ∷ xs) = ap suc (long f xs)
-
 pub counted : (old : KnownLibs) (ls : List NamedLib) (names : List (List ℕ × ℕ)) (l m : NamedLib) (n : ℕ) → seen ls names ≡ old → 0 < length ls → l ≡ slice_index_or ls (length ls - 1) l → m ≡ l → ids m.names ≡ map (λ (c : design.CellBody). c.name.id) m.lib.cells
     → n ≡ length m.lib.cells → n ≡ length old.cell_names
 counted old ls names l m n v b e k i c =
     let r = last_of ls (length ls - 1) l (omega (arith, b)) e in
     let last : last_names ls ≡ l.names = ap last_names r.is ∙ last_pushed r.front l in
-    let count : length m.lib.cells ≡ length m.names = sym (long (λ (c : design.CellBody). c.name.id) m.lib.cells) ∙ ap length (sym i) ∙ long (λ (x : List ℕ × ℕ). x.0) m.names in
+    let count : length m.lib.cells ≡ length m.names = sym (length-map m.lib.cells (λ (c : design.CellBody). c.name.id)) ∙ ap length (sym i) ∙ length-map m.names (λ (x : List ℕ × ℕ). x.0) in
     c ∙ count ∙ ap (λ (w : NamedLib). length w.names) k ∙ ap length (sym last) ∙ ap (λ (w : KnownLibs). length w.cell_names) v

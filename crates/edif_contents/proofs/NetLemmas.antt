@@ -19,13 +19,13 @@ use Rattle.edif_spec.specs.declared.fault.MeaningFault.TheVariants.{At}
 use Rattle.edif_spec.proofs.FaultPlaces.{one_later}
 use Rattle.edif_spec.proofs.KnownForms.{form_choice}
 use Rattle.edif_spec.proofs.NetFaultsApart.{joined_ends}
+use Rattle.edif_spec.proofs.FaultsApart.{defined_first}
 use Rattle.edif_tree.specs.Handles.{all}
 use Rattle.edif_grammar.specs.Forms.{ArePartsOf, FitsOwn}
 use Rattle.edif_grammar.specs.declared.lent.Form.{Form}
 use Rattle.edif_grammar.proofs.FormLemmas.{fit0, followers_fit}
 use Rattle.edif_parts.specs.Ports.{ReadBusName}
 use Rattle.edif_parts.specs.declared.ports.BusName.{BusName}
-use Rattle.edif_parts.proofs.NameForms.{defined_first}
 use Rattle.edif_parts.proofs.PartLemmas.{Argument, TwoNodes, two_nodes}
 use Rattle.edif_contents.specs.Ends.{EndFaultIn, MeansEndIn, ReadEnd, WidthFaultIn}
 use Rattle.edif_contents.specs.Nets.{MeansNetIn, NetFaultIn, ReadJoined, ReadNet, StretchesFaultIn}

@@ -54,10 +54,6 @@ pub flat_here : {A B : Type 0} (f : A → List B) (xs ys : List A) (x : A) → f
 flat_here f [] ys x = refl
 flat_here f (y ∷ xs) ys x = ap (λ v. f y ++ v) (flat_here f xs ys x) ∙ (sym (append_assoc (f y) (flat_map f xs ++ f x) (flat_map f ys)) ∙ ap (λ v. v ++ flat_map f ys) (sym (append_assoc (f y) (flat_map f xs) (f x))))
 
-pub all_push : {A : Type 0} (P : A → Type 0) (xs : List A) (x : A) → AllByRecursion P xs → P x → AllByRecursion P (xs ++ x ∷ [])
-all_push P [] x h p = (p, tt)
-all_push P (y ∷ xs) x h p = (h.0, all_push P xs x h.1 p)
-
 -- the bits that the nets of a row join, net by net
 pub row_bits : (n : NetForm) (k count : ℕ) → flat_map (λ (x : design.Net). x.ends) (numbered (net_at n) k count) ≡ flat_map (λ i. map (end_of i) n.joined) (numbered (λ i. i) k count)
 row_bits n k zero = refl

@@ -17,7 +17,7 @@ use Rattle.edif_spec.specs.declared.fault.Kind.TheVariants.{BadForm, Unresolved,
 use Rattle.edif_spec.specs.declared.fault.MeaningFault.{MeaningFault}
 use Rattle.edif_spec.specs.declared.fault.MeaningFault.TheVariants.{At}
 use Rattle.edif_spec.proofs.Both.{both}
-use Rattle.edif_spec.proofs.KnownCells.{parts_bare}
+use Rattle.edif_spec.proofs.KnownCells.{parts_bare, found_first}
 use Rattle.edif_spec.proofs.KnownRows.{follow_none}
 use Rattle.edif_spec.proofs.SameLemmas.{same_says, says_same}
 use Rattle.edif_parts.proofs.Answering.{names_more}
@@ -156,14 +156,6 @@ view_is_not v w h = by (equal w v) (same w v) h (equal_same w v)
     by true false h e = absurd (cc (e refl))
     by false true h e = absurd (cc h)
     by false false h e = refl
-
-pub found_first : (v w : List ℕ) (i : ℕ) → meant (v ∷ []) w ≡ Found i → i ≡ 0
-found_first v w i e = by (equal w v) (same w v) e
-  where
-    by : (b c : Bool) → equal_or (cond b (Some 0) None) (only_place (0 + cond c 1 0) (cond c (Some 0) None)) ≡ Found i → i ≡ 0
-    by true c e = let d : 0 ≡ i = cc e in sym d
-    by false true e = let d : 0 ≡ i = cc e in sym d
-    by false false e = absurd (cc e)
 
 -- what the answer is, by the test
 pub view_same : (v w : List ℕ) → map to_ascii_lowercase w ≡ map to_ascii_lowercase v → Tells (meant (v ∷ []) w) (answers.Found 0)

@@ -13,7 +13,8 @@ use Rattle.edif_spec.specs.Stands.{InstFault, PropertiesFault}
 use Rattle.edif_spec.specs.declared.fault.MeaningFault.{MeaningFault}
 use Rattle.edif_spec.specs.declared.fault.MeaningFault.TheVariants.{OverLimit}
 use Rattle.edif_spec.specs.declared.keyword.Keyword.TheVariants as keywords
-use Rattle.edif_parts.specs.Names.{DefinesName, IsAgain, ids}
+use Rattle.edif_parts.specs.Adding.{DefinesAgain}
+use Rattle.edif_parts.specs.Names.{DefinesName, ids}
 use Rattle.edif_contents.specs.declared.insts.InstAt.{InstAt}
 use Rattle.edif_contents.specs.declared.insts.InstDetails.{InstDetails}
 use Rattle.edif_contents.specs.declared.insts.Insts.{Insts}
@@ -62,13 +63,6 @@ pub record InstTaken (libs : List design.Lib) (own : Option ℕ) (t : Placed) (o
   pub added : InstAdded inst old_names old new_names new
   pub room : length old < MOST_INSTS
 
--- the name that a form defines is there already
-pub record NamesAgain (t : Placed) (names : List (List ℕ × ℕ)) (f : MeaningFault) : Type 0 where
-  pub name : List ℕ
-  pub place : ℕ
-  pub defines : defined t ≡ Some (name, place)
-  pub again : IsAgain names name place f
-
 -- what is wrong with a further instance: in itself, a name that is there already, no room behind those that are there
 abbrev pub InstTakenFault : List design.Lib → Option ℕ → Placed → List (List ℕ × ℕ) → List design.Inst → MeaningFault → Type 0
-InstTakenFault libs own t names old f = InstFault libs own t f ⊎ (NamesAgain t names f ⊎ ((MOST_INSTS ≤ length old) × (f ≡ OverLimit MOST_INSTS (place_of t))))
+InstTakenFault libs own t names old f = InstFault libs own t f ⊎ (DefinesAgain names t f ⊎ ((MOST_INSTS ≤ length old) × (f ≡ OverLimit MOST_INSTS (place_of t))))

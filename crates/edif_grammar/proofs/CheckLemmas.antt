@@ -12,12 +12,13 @@ use Rattle.edif_spec.specs.declared.fault.Kind.{Kind}
 use Rattle.edif_spec.specs.declared.fault.Kind.TheVariants.{BadForm}
 use Rattle.edif_spec.specs.declared.fault.MeaningFault.{MeaningFault}
 use Rattle.edif_spec.specs.declared.fault.MeaningFault.TheVariants.{At}
+use Rattle.edif_spec.proofs.FaultForms.{none_of_two}
 use Rattle.edif_grammar.specs.Forms.{HasOwnKind}
 use Rattle.edif_grammar.specs.Rules.{choices, is_plain}
 use Rattle.edif_grammar.specs.declared.rules.Wanted.{Wanted}
 use Rattle.std.proofs.lemmas.List.{length-map}
 use Rattle.edif_grammar.specs.Checks.{ArgumentFits, FixedFits, OnceFits}
-use Rattle.edif_grammar.proofs.FormLemmas.{none_of_two, second_plain}
+use Rattle.edif_grammar.proofs.FormLemmas.{second_plain}
 
 -- What holds below a place, and at it, holds below the next.
 pub below_next : {A B : Type 0} (P : A → B → Type 0) (xs : List A) (ys : List B) (i : ℕ) (x : A) (y : B) → slice_get xs i ≡ Some x → slice_get ys i ≡ Some y → P x y
@@ -47,11 +48,6 @@ pub map_get : {A B : Type 0} (f : A → B) (xs : List A) (i : ℕ) (d : A) → i
 map_get f [] i d l = absurd (omega arith)
 map_get f (x ∷ xs) zero d l = refl
 map_get f (x ∷ xs) (suc i) d l = map_get f xs i d (omega arith)
-
-pub get_within : {A : Type 0} (xs : List A) (i : ℕ) (x : A) → slice_get xs i ≡ Some x → i < length xs
-get_within [] i x e = absurd (cc e)
-get_within (y ∷ xs) zero x e = omega arith
-get_within (y ∷ xs) (suc i) x e = let l : i < length xs = get_within xs i x e in omega arith
 
 kept : (b : Bool) (x : Placed) (xs : List Placed) → b ≡ true → cond b (x ∷ xs) xs ≡ x ∷ xs
 kept true x xs e = refl

@@ -2,18 +2,22 @@
 use Rattle.std.proofs.Common.{◌≡◌, ℕ, zero, suc, ◌≤◌, List, [], ◌∷◌, ◌++◌, map, length, take, drop, refl, ap, sym, ◌∙◌, subst, ◌⊎◌, inl, inr, Bool, true, false, ◌&&◌, Option, Some, None, Result, Ok, Err, arith}
 use Rattle.std.specs.Prelude.{cond, slice_get, IfOk, IfErr}
 use Rattle.std.specs.List.{AllZip, AllByRecursion}
+use Rattle.std.proofs.lemmas.Bool.{and_parts, cases_Bool}
+use Rattle.std.proofs.lemmas.List.{length-map}
+use Rattle.netlist_schema.proofs.Lists.{take_front}
 use Rattle.spelling_spec.specs.Tree.{Bare, Placed, Form', Word', Integer', String', End, More, bare}
 use Rattle.edif_spec.specs.Keyword.{row, Row, Takes, Choice, Follower, Many, One, name_definition, the, integer}
 use Rattle.edif_spec.specs.Rows.{has_keyword, those, is_one_of, is_follower, AtMostOnce, FitsRow, IsFormOf}
-use Rattle.edif_spec.specs.Faults.{AtOne, AtTwo, place_of, arguments, fixed_count, followers, those_of, FixedFault, FollowerFault, SecondFault, second, Breaches, RowFault, token_kind, misplaced, row_has}
+use Rattle.edif_spec.specs.Faults.{AtTwo, place_of, arguments, fixed_count, followers, those_of, FixedFault, FollowerFault, SecondFault, second, Breaches, RowFault, token_kind, misplaced, row_has}
 use Rattle.edif_spec.specs.declared.keyword.Keyword.{Keyword}
 use Rattle.edif_spec.specs.declared.keyword.Keyword.TheVariants as keywords
 use Rattle.edif_spec.specs.declared.fault.Kind.{Kind}
 use Rattle.edif_spec.specs.declared.fault.Kind.TheVariants.{BadForm}
 use Rattle.edif_spec.specs.declared.fault.MeaningFault.{MeaningFault}
 use Rattle.edif_spec.specs.declared.fault.MeaningFault.TheVariants.{NotInProfile, At}
-use Rattle.edif_spec.proofs.FaultForms.{filter_bare, map_length}
+use Rattle.edif_spec.proofs.FaultForms.{filter_bare, none_of_two, none_of_one}
 use Rattle.edif_spec.proofs.KnownForms as known
+use Rattle.edif_spec.proofs.NetFaultsApart.{zip_length}
 use Rattle.edif_grammar.specs.Forms.{ArePartsOf, Fails, Fits, FitsOwn, HasOwnKind, HasParts, fault_of, row_above}
 use Rattle.edif_grammar.specs.declared.lent.Form.{Form}
 use Rattle.edif_grammar.specs.declared.lent.Breach.{Breach}
@@ -53,25 +57,10 @@ are_plain [] = true
 are_plain (Many k ∷ fs) = are_plain fs
 are_plain (One k ∷ fs) = is_plain k && are_plain fs
 
-both : (a b : Bool) → (a && b) ≡ true → (a ≡ true) × (b ≡ true)
-both true b h = (refl, h)
-both false b h = absurd (cc h)
-
 pub plain_fit : (fs : List Follower) (ts : List Placed) → are_plain fs ≡ true → SecondsFit fs ts
 plain_fit [] ts h = tt
 plain_fit (Many k ∷ fs) ts h = plain_fit fs ts h
-plain_fit (One k ∷ fs) ts h = let e = both (is_plain k) (are_plain fs) h in (inl e.0, plain_fit fs ts e.1)
-
-pub none_of_two : {A : Type 0} (R : A → A → Type 0) (xs : List A) → length xs ≤ 1 → AtTwo R xs → ⊥
-none_of_two R [] l h = h
-none_of_two R (x ∷ []) l (inl h) = h
-none_of_two R (x ∷ []) l (inr h) = h
-none_of_two R (x ∷ y ∷ xs) l h = omega arith
-
-none_of_one : {A : Type 0} (P : A → Type 0) (xs : List A) → ((x : A) → P x → ⊥) → AtOne P xs → ⊥
-none_of_one P [] n h = h
-none_of_one P (x ∷ xs) n (inl h) = n x h
-none_of_one P (x ∷ xs) n (inr h) = none_of_one P xs n h
+plain_fit (One k ∷ fs) ts h = let e = and_parts (is_plain k) (are_plain fs) h in (inl e.0, plain_fit fs ts e.1)
 
 one_of_two : {A : Type 0} (R : A → A → Type 0) (xs : List A) → ((x y : A) → R x y → ⊥) → AtTwo R xs → ⊥
 one_of_two R [] n h = h
@@ -105,7 +94,7 @@ fixed_step : (F : MeaningFault → Type 0) (kind : Kind) (r : Row) (place : ℕ)
     → AllZip (λ c u. (is_one_of c (bare u) ≡ true) ⊎ F (At kind (place_of u))) cs (take (length cs) ts)
 fixed_step F kind r place [] ts h o = tt
 fixed_step F kind r place (c ∷ cs) [] h o = o (At BadForm place) (h (At BadForm place) refl)
-fixed_step F kind r place (c ∷ cs) (t ∷ ts) h o = (go (known.test (is_one_of c (bare t))), fixed_step F kind r place cs ts (λ f b. h f (inr b)) o)
+fixed_step F kind r place (c ∷ cs) (t ∷ ts) h o = (go (cases_Bool (is_one_of c (bare t))), fixed_step F kind r place cs ts (λ f b. h f (inr b)) o)
   where
     go : (is_one_of c (bare t) ≡ true) ⊎ (is_one_of c (bare t) ≡ false) → (is_one_of c (bare t) ≡ true) ⊎ F (At kind (place_of t))
     go (inl e) = inl e
@@ -158,20 +147,9 @@ fits_bad k cs fs t r b h s =
 pub fits_plain : (k : Keyword) (cs : List (List Choice)) (fs : List Follower) (t : Placed) → row k ≡ Takes cs fs → token_kind k ≡ BadForm → are_plain fs ≡ true → FitsOwn k t → known.Fits k cs t
 fits_plain k cs fs t r b p h = fits_bad k cs fs t r b h (plain_fit fs (followers k t) p)
 
--- Its fixed arguments are the first of its arguments.
-take_front : {A : Type 0} (xs ys : List A) → take (length xs) (xs ++ ys) ≡ xs
-take_front [] ys = refl
-take_front (x ∷ xs) ys = ap (λ v. x ∷ v) (take_front xs ys)
-
-zip_count : {A B : Type 0} (R : A → B → Type 0) (xs : List A) (ys : List B) → AllZip R xs ys → length xs ≡ length ys
-zip_count R [] [] h = refl
-zip_count R [] (y ∷ ys) h = absurd h
-zip_count R (x ∷ xs) [] h = absurd h
-zip_count R (x ∷ xs) (y ∷ ys) h = ap suc (zip_count R xs ys h.1)
-
 pub fixed_are : (k : Keyword) (cs : List (List Choice)) (fs : List Follower) (t : Placed) → row k ≡ Takes cs fs → (h : known.Fits k cs t) → take (fixed_count (row k)) (arguments t) ≡ h.fixed
 fixed_are k cs fs t r h =
-    let n : fixed_count (row k) ≡ length h.fixed = ap fixed_count r ∙ zip_count (λ c u. is_one_of c (bare u) ≡ true) cs h.fixed h.choices in
+    let n : fixed_count (row k) ≡ length h.fixed = ap fixed_count r ∙ zip_length (λ c u. is_one_of c (bare u) ≡ true) cs h.fixed h.choices in
     ap (λ v. take v (arguments t)) n ∙ (ap (take (length h.fixed)) h.split ∙ take_front h.fixed (followers k t))
 
 pub is_form : (k : Keyword) (cs : List (List Choice)) (fs : List Follower) (t : Placed) → row k ≡ Takes cs fs → known.Fits k cs t → IsFormOf k (bare t) (map bare (take (fixed_count (row k)) (arguments t))) (map bare (followers k t))
@@ -411,7 +389,7 @@ once_bare k j cs fs t fixed r m h =
 
 pub once_placed : (k j : Keyword) (cs : List (List Choice)) (fs : List Follower) (t : Placed) (fixed : List Bare) → row k ≡ Takes cs fs → MayStandOnce j fs → IsFormOf k (bare t) fixed (map bare (followers k t)) → length (those_of j (followers k t)) ≤ 1
 once_placed k j cs fs t fixed r m h =
-    let l : length (those_of j (followers k t)) ≡ length (those j (map bare (followers k t))) = sym (map_length bare (those_of j (followers k t))) ∙ ap length (filter_bare (has_keyword j) (followers k t)) in
+    let l : length (those_of j (followers k t)) ≡ length (those j (map bare (followers k t))) = sym (length-map (those_of j (followers k t)) bare) ∙ ap length (filter_bare (has_keyword j) (followers k t)) in
     let o : length (those j (map bare (followers k t))) ≤ 1 = once_bare k j cs fs t fixed r m h in
     omega (arith, l, o)
 
@@ -450,12 +428,7 @@ followers_fit k cs fs t r h = go (followers k t) (λ f b. h.breaches f (in_follo
 
     go : (us : List Placed) → ((f : MeaningFault) → FollowerFault (misplaced BadForm (Takes cs fs)) fs us f → HasOwnKind f) → AllByRecursion (λ u. is_follower fs (bare u) ≡ true) us
     go [] o = tt
-    go (u ∷ us) o = (step u (known.test (is_follower fs (bare u))) (λ f b. o f (inl b)), go us (λ f b. o f (inr b)))
-
-pub all_at : {A : Type 0} (P : A → Type 0) (xs : List A) (i : ℕ) (x : A) → AllByRecursion P xs → slice_get xs i ≡ Some x → P x
-all_at P [] i x h e = absurd (cc e)
-all_at {A} P (y ∷ xs) zero x h e = let w : y ≡ x = cc e in let Q : A → Type 0 = P in subst Q w h.0
-all_at P (y ∷ xs) (suc i) x h e = all_at P xs i x h.1 e
+    go (u ∷ us) o = (step u (cases_Bool (is_follower fs (bare u))) (λ f b. o f (inl b)), go us (λ f b. o f (inr b)))
 
 -- a form that fits its place fits its own row
 pub own : (parent : Option Keyword) (k : Keyword) (t : Placed) → Fits parent k t → FitsOwn k t

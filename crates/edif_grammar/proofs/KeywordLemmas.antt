@@ -3,6 +3,7 @@ use Rattle.std.proofs.Common.{◌≡◌, ℕ, List, [], ◌∷◌, refl, sym, ap
 use Rattle.std.specs.Prelude.{◌||◌, cond}
 use Rattle.std.specs.List.{list_any}
 use Rattle.std.specs.Char.{to_ascii_lowercase}
+use Rattle.std.proofs.lemmas.Bool.{or_cases, or_right, or_left, and_parts}
 use Rattle.spelling_spec.specs.Tree.{Bare, Placed, Form', Word', Integer', String', End, More, bare}
 use Rattle.edif_spec.specs.Keyword.{keyword, first_spelled, all_keywords, same, spelling_of, Row, Takes, Skips, Choice, AnIdentifier, AnInteger, AString, AForm, Follower, Many, One}
 use Rattle.edif_spec.specs.Rows.{has_keyword, is_choice, is_one_of, is_follower}
@@ -14,22 +15,6 @@ use Rattle.edif_spec.specs.declared.fault.Kind.TheVariants.{BadForm}
 use Rattle.edif_spec.specs.declared.fault.MeaningFault.{MeaningFault}
 use Rattle.edif_grammar.specs.Forms.{Fails, Fits, has_form, row_above}
 
-both : (a b : Bool) → (a && b) ≡ true → (a ≡ true) × (b ≡ true)
-both true b h = (refl, h)
-both false b h = absurd (cc h)
-
-pub or_left : (a b : Bool) → a ≡ true → (a || b) ≡ true
-or_left true b h = refl
-or_left false b h = absurd (cc h)
-
-pub or_right : (a b : Bool) → b ≡ true → (a || b) ≡ true
-or_right true b h = refl
-or_right false b h = h
-
-either : (a b : Bool) → (a || b) ≡ true → (a ≡ true) ⊎ (b ≡ true)
-either true b h = inl refl
-either false b h = inr h
-
 -- names that one spelling spells are alike
 pub same_alike : (a b c s : List ℕ) → same a c ≡ true → same b c ≡ true → same a s ≡ same b s
 same_alike [] [] [] s h k = refl
@@ -39,8 +24,8 @@ same_alike [] b (z ∷ c) s h k = absurd (cc h)
 same_alike (x ∷ a) [] (z ∷ c) s h k = absurd (cc k)
 same_alike (x ∷ a) (y ∷ b) (z ∷ c) [] h k = refl
 same_alike (x ∷ a) (y ∷ b) (z ∷ c) (w ∷ s) h k =
-    let u = both (nat_eq (to_ascii_lowercase x) (to_ascii_lowercase z)) (same a c) h in
-    let v = both (nat_eq (to_ascii_lowercase y) (to_ascii_lowercase z)) (same b c) k in
+    let u = and_parts (nat_eq (to_ascii_lowercase x) (to_ascii_lowercase z)) (same a c) h in
+    let v = and_parts (nat_eq (to_ascii_lowercase y) (to_ascii_lowercase z)) (same b c) k in
     let e : to_ascii_lowercase x ≡ to_ascii_lowercase y = eqb-true _ _ u.0 ∙ sym (eqb-true _ _ v.0) in
     let r : same a s ≡ same b s = same_alike a b c s u.1 v.1 in
     ap (λ n. nat_eq n (to_ascii_lowercase w) && same a s) e ∙ ap (λ m. nat_eq (to_ascii_lowercase y) (to_ascii_lowercase w) && m) r
@@ -108,7 +93,7 @@ choice_holds j t [] h g = absurd (cc h)
 choice_holds j t (AnIdentifier ∷ c) h g = or_right (is_choice AnIdentifier t) (is_one_of c t) (choice_holds j t c h g)
 choice_holds j t (AnInteger ∷ c) h g = or_right (is_choice AnInteger t) (is_one_of c t) (choice_holds j t c h g)
 choice_holds j t (AString ∷ c) h g = or_right (is_choice AString t) (is_one_of c t) (choice_holds j t c h g)
-choice_holds j t (AForm k ∷ c) h g = go (either (same (spelling_of j) (spelling_of k)) (list_any (is_a_choice j) c) h) (λ e. choice_holds j t c e g)
+choice_holds j t (AForm k ∷ c) h g = go (or_cases (same (spelling_of j) (spelling_of k)) (list_any (is_a_choice j) c) h) (λ e. choice_holds j t c e g)
   where
     go : (same (spelling_of j) (spelling_of k) ≡ true) ⊎ (list_any (is_a_choice j) c ≡ true) → (list_any (is_a_choice j) c ≡ true → is_one_of c t ≡ true) → (has_keyword k t || is_one_of c t) ≡ true
     go (inl e) r = or_left (has_keyword k t) (is_one_of c t) (same_keyword j k t e g)
@@ -116,7 +101,7 @@ choice_holds j t (AForm k ∷ c) h g = go (either (same (spelling_of j) (spellin
 
 choices_hold : (j : Keyword) (t : Bare) (cs : List (List Choice)) → list_any (list_any (is_a_choice j)) cs ≡ true → has_keyword j t ≡ true → list_any (λ c. is_one_of c t) cs ≡ true
 choices_hold j t [] h g = absurd (cc h)
-choices_hold j t (c ∷ cs) h g = go (either (list_any (is_a_choice j) c) (list_any (list_any (is_a_choice j)) cs) h) (λ e. choices_hold j t cs e g)
+choices_hold j t (c ∷ cs) h g = go (or_cases (list_any (is_a_choice j) c) (list_any (list_any (is_a_choice j)) cs) h) (λ e. choices_hold j t cs e g)
   where
     go : (list_any (is_a_choice j) c ≡ true) ⊎ (list_any (list_any (is_a_choice j)) cs ≡ true) → (list_any (list_any (is_a_choice j)) cs ≡ true → list_any (λ c. is_one_of c t) cs ≡ true) → (is_one_of c t || list_any (λ c. is_one_of c t) cs) ≡ true
     go (inl e) r = or_left (is_one_of c t) (list_any (λ c. is_one_of c t) cs) (choice_holds j t c e g)
@@ -124,12 +109,12 @@ choices_hold j t (c ∷ cs) h g = go (either (list_any (is_a_choice j) c) (list_
 
 followers_hold : (j : Keyword) (t : Bare) (fs : List Follower) → list_any (is_a_follower j) fs ≡ true → has_keyword j t ≡ true → is_follower fs t ≡ true
 followers_hold j t [] h g = absurd (cc h)
-followers_hold j t (Many k ∷ fs) h g = go (either (same (spelling_of j) (spelling_of k)) (list_any (is_a_follower j) fs) h) (λ e. followers_hold j t fs e g)
+followers_hold j t (Many k ∷ fs) h g = go (or_cases (same (spelling_of j) (spelling_of k)) (list_any (is_a_follower j) fs) h) (λ e. followers_hold j t fs e g)
   where
     go : (same (spelling_of j) (spelling_of k) ≡ true) ⊎ (list_any (is_a_follower j) fs ≡ true) → (list_any (is_a_follower j) fs ≡ true → is_follower fs t ≡ true) → (has_keyword k t || is_follower fs t) ≡ true
     go (inl e) r = or_left (has_keyword k t) (is_follower fs t) (same_keyword j k t e g)
     go (inr e) r = or_right (has_keyword k t) (is_follower fs t) (r e)
-followers_hold j t (One k ∷ fs) h g = go (either (same (spelling_of j) (spelling_of k)) (list_any (is_a_follower j) fs) h) (λ e. followers_hold j t fs e g)
+followers_hold j t (One k ∷ fs) h g = go (or_cases (same (spelling_of j) (spelling_of k)) (list_any (is_a_follower j) fs) h) (λ e. followers_hold j t fs e g)
   where
     go : (same (spelling_of j) (spelling_of k) ≡ true) ⊎ (list_any (is_a_follower j) fs ≡ true) → (list_any (is_a_follower j) fs ≡ true → is_follower fs t ≡ true) → (has_keyword k t || is_follower fs t) ≡ true
     go (inl e) r = or_left (has_keyword k t) (is_follower fs t) (same_keyword j k t e g)
@@ -138,7 +123,7 @@ followers_hold j t (One k ∷ fs) h g = go (either (same (spelling_of j) (spelli
 -- A form of this keyword may stand in the row: `holds (row k) j ≡ true` is `refl` at two keywords.
 pub row_holds : (r : Row) (j : Keyword) (t : Bare) → holds r j ≡ true → has_keyword j t ≡ true → row_has r t ≡ true
 row_holds Skips j t h g = absurd (cc h)
-row_holds (Takes cs fs) j t h g = go (either (list_any (list_any (is_a_choice j)) cs) (list_any (is_a_follower j) fs) h)
+row_holds (Takes cs fs) j t h g = go (or_cases (list_any (list_any (is_a_choice j)) cs) (list_any (is_a_follower j) fs) h)
   where
     go : (list_any (list_any (is_a_choice j)) cs ≡ true) ⊎ (list_any (is_a_follower j) fs ≡ true) → (list_any (λ c. is_one_of c t) cs || is_follower fs t) ≡ true
     go (inl e) = or_left (list_any (λ c. is_one_of c t) cs) (is_follower fs t) (choices_hold j t cs e g)

@@ -1,7 +1,8 @@
 -- An argument that is not what its row wants in its place.
-use Rattle.std.proofs.Common.{◌≡◌, ℕ, List, [], ◌∷◌, refl, sym, ap, ◌∙◌, subst, inl, inr, Bool, true, false, ◌&&◌, Option, Some, None}
+use Rattle.std.proofs.Common.{◌≡◌, ℕ, List, [], ◌∷◌, refl, sym, ap, ◌∙◌, subst, inl, inr, Bool, true, false, Option, Some, None}
 use Rattle.std.specs.Prelude.{◌||◌, cond}
 use Rattle.std.specs.List.{list_any}
+use Rattle.std.proofs.lemmas.Bool.{and_right}
 use Rattle.spelling_spec.specs.Tree.{Bare, Placed, Form', Word', Integer', String', End, More, bare}
 use Rattle.edif_spec.specs.Keyword.{keyword, all_keywords, same, spelling_of, Row, Takes, Skips, Choice, AnIdentifier, AnInteger, AString, AForm, Follower, Many, One}
 use Rattle.edif_spec.specs.Rows.{has_keyword, is_one_of}
@@ -135,15 +136,11 @@ strange_row (Takes cs fs) = ap (λ b. b || follows fs arguments.Strange) (strang
 strange_out : (r : Row) (t : Bare) → argument_of t ≡ arguments.Strange → row_has r t ≡ false
 strange_out r t e = sym (row_fits_is r t) ∙ (ap (row_fits r) e ∙ strange_row r)
 
-and_false : (a b : Bool) → b ≡ false → (a && b) ≡ false
-and_false true b e = e
-and_false false b e = refl
-
 pub unknown_out : (r : Row) (t : Bare) (name : List ℕ) → first_word t ≡ Some name → keyword name ≡ None → row_has r t ≡ false
 unknown_out r t name e n = strange_out r t (told t name e ∙ ap with_keyword n)
 
 pub no_form : (r : Row) (t : Bare) → row_has r t ≡ false → has_form r t ≡ false
-no_form r t e = and_false (is_form t) (row_has r t) e
+no_form r t e = and_right (is_form t) (row_has r t) e
 
 pub nameless_out : (r : Row) (t : Bare) → first_word t ≡ None → has_form r t ≡ false
 nameless_out r (Form' p (More (Word' q x) ts)) e = absurd (cc e)

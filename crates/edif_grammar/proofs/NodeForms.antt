@@ -1,7 +1,8 @@
 -- What a form begins with, from what is lent of it.
 use Rattle.std.proofs.Common.{◌≡◌, ℕ, Bor, List, [], ◌∷◌, refl, sym, ap, ◌∙◌, Some, None}
-use Rattle.spelling_spec.specs.Tree.{Placed, Form', Word', Integer', String', More, bare, trees, items}
+use Rattle.spelling_spec.specs.Tree.{Placed, Form', Word', Integer', String', More, bare, trees}
 use Rattle.edif_spec.specs.Faults.{arguments}
+use Rattle.edif_spec.proofs.FaultExamples.{items_of}
 use Rattle.edif_tree.specs.Nodes.{place_of}
 use Rattle.edif_tree.specs.Handles.{Shows}
 use Rattle.edif_tree.specs.declared.node.Nodes.{Nodes}
@@ -9,10 +10,6 @@ use Rattle.edif_tree.specs.declared.node.Shape.{Shape}
 use Rattle.edif_tree.specs.declared.node.Shape.TheVariants as shapes
 use Rattle.edif_grammar.specs.Rules.{first_word, argument_of}
 use Rattle.edif_grammar.specs.declared.rules.Argument.TheVariants as arguments
-
-pub items_trees : (ts : List Placed) → items (trees ts) ≡ ts
-items_trees [] = refl
-items_trees (t ∷ ts) = ap (λ v. t ∷ v) (items_trees ts)
 
 -- what begins with this tree
 begins : (t u : Placed) (us vs : List Placed) → t ≡ Form' (place_of t) (trees us) → us ≡ u ∷ vs → t ≡ Form' (place_of t) (More u (trees vs))
@@ -22,7 +19,7 @@ begins t u us vs e f = e ∙ ap (λ v. Form' (place_of t) (trees v)) f
 pub opens : (t u : Placed) (us vs : List Placed) (name : List ℕ) → t ≡ Form' (place_of t) (trees us) → us ≡ u ∷ vs → u ≡ Word' (place_of u) name → (first_word (bare t) ≡ Some name) × (vs ≡ arguments t)
 opens t u us vs name e f w =
     let whole : t ≡ Form' (place_of t) (More (Word' (place_of u) name) (trees vs)) = begins t u us vs e f ∙ ap (λ v. Form' (place_of t) (More v (trees vs))) w in
-    (ap (λ v. first_word (bare v)) whole, sym (ap (λ v. arguments v) whole ∙ items_trees vs))
+    (ap (λ v. first_word (bare v)) whole, sym (ap (λ v. arguments v) whole ∙ items_of vs))
 
 -- a form of no arguments
 pub opens_empty : (t : Placed) (us : List Placed) → t ≡ Form' (place_of t) (trees us) → us ≡ [] → first_word (bare t) ≡ None

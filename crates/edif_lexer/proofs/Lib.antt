@@ -1,4 +1,3 @@
 pub mod CompleteLemmas
 pub mod NameLemmas
-pub mod ParseLemmas
 pub mod StepLemmas

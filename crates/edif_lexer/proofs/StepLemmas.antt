@@ -2,6 +2,7 @@
 use Rattle.std.proofs.Common.{◌≡◌, ℕ, ◌+◌, ◌<◌, true, false, not, List, [], ◌∷◌, ◌++◌, length, None, Some, Result, Ok, Err, refl, sym, ap, ◌∙◌, subst, arith, append_assoc, append-nil, length-append, eqb, drop, take, get_or, take-append-drop}
 use Rattle.std.specs.Prelude.{slice_get}
 use Rattle.std.proofs.Math.Seq.{take-add}
+use Rattle.spelling_spec.proofs.RowLemmas.{lexed_gap}
 use Rattle.edif_lexer.specs.declared.lexing.State.{State}
 use Rattle.edif_lexer.specs.declared.lexing.State.TheVariants.{Running, Failed, Finished}
 use Rattle.edif_lexer.proofs.CompleteLemmas.{are_complete, all_push}
@@ -68,19 +69,12 @@ fresh old bytes e = ap (λ p. lexed old.start 0 (p ++ bytes)) e
 pub continues_space : (old : Reading) (b : ℕ) → old.pending ≡ [] → is_space b ≡ true → Continues Anything old (b ∷ []) (record old { start = old.start + 1; pending = [] }) []
 continues_space old b e s = record { state = refl; pending = λ _. refl; count = let none = ap length e in omega arith; reads = λ more p. fresh old (b ∷ more) e ∙ lexed_space old.start b more s }
 
--- blanks, one after another
-lexed_spaces : (place : ℕ) (bs more : List ℕ) → list_all is_space bs ≡ true → lexed place 0 (bs ++ more) ≡ lexed (place + length bs) 0 more
-lexed_spaces place [] more s = ap (λ n. lexed n 0 more) (omega arith)
-lexed_spaces place (b ∷ bs) more s =
-    let p = and_parts (is_space b) (list_all is_space bs) s in
-    lexed_space place b (bs ++ more) p.0 ∙ lexed_spaces (place + 1) bs more p.1 ∙ ap (λ n. lexed n 0 more) (omega arith)
-
 pub continues_spaces : (old : Reading) (bs : List ℕ) (n : ℕ) → n ≡ length bs → old.pending ≡ [] → list_all is_space bs ≡ true → Continues Anything old bs (record old { start = old.start + n; pending = [] }) []
 continues_spaces old bs n size e s = record {
   state = refl;
   pending = λ _. refl;
   count = let none = ap length e in omega (arith, size);
-  reads = λ more p. fresh old (bs ++ more) e ∙ lexed_spaces old.start bs more s ∙ ap (λ m. lexed (old.start + m) 0 more) (sym size);
+  reads = λ more p. fresh old (bs ++ more) e ∙ lexed_gap old.start bs more s ∙ ap (λ m. lexed (old.start + m) 0 more) (sym size);
 }
 
 pub continues_left : (old : Reading) → old.pending ≡ [] → Continues Anything old (40 ∷ []) (record old { start = old.start + 1; pending = [] }) (record { kind = LeftParen; place = old.start } ∷ [])

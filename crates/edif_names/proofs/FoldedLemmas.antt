@@ -2,16 +2,17 @@
 use Rattle.std.proofs.Common.{nat_eq, eq-eqb, eqb-true, ◌≡◌, ℕ, List, [], ◌∷◌, ◌++◌, Bool, true, false, ◌||◌, not, cond, refl, sym, ap, ◌∙◌, Option, Some, None, true≢false}
 use Rattle.std.specs.List.{list_any}
 use Rattle.std.specs.Option.{option_map_or}
+use Rattle.netlist_schema.proofs.Lists.{same_test}
 use Rattle.edif_spec.specs.Keyword.{same}
 use Rattle.edif_names.specs.declared.folded.Numbered.{Numbered}
 use Rattle.edif_names.specs.declared.folded.Noted.{Noted}
 use Rattle.edif_names.specs.Folded.{noted, noted_after, one_more, are_several, hash_of, hash_from}
-use Rattle.edif_spec.proofs.SameLemmas.{one_test, same_says, says_same}
+use Rattle.edif_spec.proofs.SameLemmas.{same_says, says_same}
 
 -- two names that are the same are the same as the same names
 pub same_as : (a b : List ℕ) → same a b ≡ true → (x : List ℕ) → same a x ≡ same b x
 same_as a b h x = let e = same_says a b h in
-    one_test (same a x) (same b x)
+    same_test (same a x) (same b x)
     (λ f. says_same b x (sym e ∙ same_says a x f))
     (λ f. says_same a x (e ∙ same_says b x f))
 

@@ -5,8 +5,8 @@ use Rattle.std.specs.Map.{lookup}
 use Rattle.std.proofs.lemmas.List.Sums.{sum_by-cons}
 use Rattle.std.proofs.lemmas.List.{map-append}
 use Rattle.std.specs.Prelude.{OnOk}
-use Rattle.edif_spec.proofs.SameLemmas.{one_test}
 use Rattle.std.specs.Cmp.Lexicographic.{pointwise}
+use Rattle.netlist_schema.proofs.Lists.{same_test}
 use Rattle.edif_spec.specs.Keyword.{same}
 use Rattle.edif_spec.specs.Means.{equal, first_place, only_place, equal_or, meant}
 use Rattle.edif_spec.specs.Means as edif
@@ -106,7 +106,7 @@ no_more : (c k : ℕ) → nat_eq (0 + c) k ≡ nat_eq c k
 no_more c k = let e : 0 + c ≡ c = omega arith in ap (λ v. nat_eq v k) e
 
 one_alone : (c : ℕ) → nat_eq (1 + c) 1 ≡ nat_eq c 0
-one_alone c = one_test (nat_eq (1 + c) 1) (nat_eq c 0)
+one_alone c = same_test (nat_eq (1 + c) 1) (nat_eq c 0)
     (λ h. let e : 1 + c ≡ 1 = eqb-true (1 + c) 1 h in let z : c ≡ 0 = omega arith in eq-eqb c 0 z)
     (λ h. let e : c ≡ 0 = eqb-true c 0 h in let z : 1 + c ≡ 1 = omega arith in eq-eqb (1 + c) 1 z)
 

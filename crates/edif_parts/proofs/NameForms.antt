@@ -1,6 +1,7 @@
 -- What a rename means, and the name in a rename or an array.
 use Rattle.std.proofs.Common.{◌≡◌, ℕ, List, [], ◌∷◌, map, refl, ap, ◌∙◌, subst, inr, true, None, Some}
 use Rattle.std.specs.Prelude.{cond, slice_get}
+use Rattle.std.proofs.lemmas.Bool.{or_right, or_left}
 use Rattle.netlist_schema.specs.Ident.{IsIdentifier}
 use Rattle.netlist_schema.specs.Typed.{IsBytes, IsTypedName}
 use Rattle.netlist_schema.specs.declared.property.Name.{Name}
@@ -8,10 +9,9 @@ use Rattle.spelling_spec.specs.Tree.{Placed, Trees, Form', Word', Integer', Stri
 use Rattle.edif_spec.specs.Keyword.{spelling_of, same, identifier, string}
 use Rattle.edif_spec.specs.Means.{MeansName}
 use Rattle.edif_spec.specs.Rows.{has_keyword, IsFormOf}
-use Rattle.edif_spec.specs.Faults.{arguments, followers, name_of, holds_name, defined}
+use Rattle.edif_spec.specs.Faults.{arguments, followers, name_of, holds_name}
 use Rattle.edif_spec.specs.declared.keyword.Keyword.TheVariants as keywords
 use Rattle.edif_spec.proofs.KnownRows.{follow_none}
-use Rattle.edif_grammar.proofs.KeywordLemmas.{or_left, or_right}
 
 -- the name, typed, with the place of its identifier
 pub record NamedAt (t : Placed) (n : Name) (p : ℕ) : Type 0 where
@@ -43,15 +43,6 @@ array_names (Form' p End) u h e = absurd (cc h)
 array_names (Word' p w) u h e = absurd (cc h)
 array_names (Integer' p z) u h e = absurd (cc h)
 array_names (String' p s) u h e = absurd (cc h)
-
--- the name that a form defines is that of its first argument
-pub defined_first : (t u : Placed) → slice_get (arguments t) 0 ≡ Some u → defined t ≡ name_of u
-defined_first (Form' p (More k (More v ts))) u e = let s : v ≡ u = cc e in ap name_of s
-defined_first (Form' p (More k End)) u e = absurd (cc e)
-defined_first (Form' p End) u e = absurd (cc e)
-defined_first (Word' p w) u e = absurd (cc e)
-defined_first (Integer' p z) u e = absurd (cc e)
-defined_first (String' p s) u e = absurd (cc e)
 
 -- a rename
 pub rename_named : (t u v : Placed) (w s : List ℕ) (p q : ℕ) → has_keyword keywords.Rename (bare t) ≡ true → IsFormOf keywords.Rename (bare t) (bare u ∷ bare v ∷ []) (map bare (followers keywords.Rename t)) → slice_get (arguments t) 0 ≡ Some u → u ≡ Word' p w → v ≡ String' q s → IsIdentifier w → IsBytes s

@@ -1,11 +1,12 @@
 -- A table of names by their definitions, numbered in order.
-use Rattle.std.proofs.Common.{◌≡◌, ℕ, zero, suc, ◌+◌, ◌<◌, List, [], ◌∷◌, ◌++◌, Bool, true, false, ◌&&◌, map, length, refl, sym, ap, ◌∙◌, subst, None, Some, arith, get_or, true≢false, length-append}
+use Rattle.std.proofs.Common.{◌≡◌, ℕ, zero, suc, ◌+◌, ◌<◌, List, [], ◌∷◌, ◌++◌, Bool, true, false, map, length, refl, sym, ap, ◌∙◌, subst, None, Some, arith, get_or, true≢false, length-append}
 use Rattle.std.specs.Prelude.{cond, option_map, slice_get, nat_eq}
 use Rattle.std.specs.List.{Contains}
 use Rattle.std.proofs.lemmas.Bool.Decides.{nat_tests}
 use Rattle.std.proofs.lemmas.List.{map-append}
 use Rattle.edif_spec.specs.Means.{equal, meant, Found, Absent, Several}
 use Rattle.edif_spec.specs.Means as edif
+use Rattle.edif_spec.proofs.FromValid.{equal_says}
 use Rattle.edif_names.specs.Scope.{Definition, names, equal_to, Defines, Says}
 use Rattle.edif_names.specs.declared.scope.Defined.TheVariants as outcomes
 use Rattle.edif_names.specs.declared.scope.Meant.{Meant}
@@ -19,22 +20,6 @@ placed ds = map (λ (d : Definition). (d.name, d.place)) ds
 placed_ids : (ds : List Definition) → ids (placed ds) ≡ names ds
 placed_ids [] = refl
 placed_ids (d ∷ ds) = ap (λ v. d.name ∷ v) (placed_ids ds)
-
--- equal names are the same list
-both_true : (a b : Bool) → (a && b) ≡ true → (a ≡ true) × (b ≡ true)
-both_true true b h = (refl, h)
-both_true false b h = absurd (true≢false (sym h))
-
-equal_is : (a b : List ℕ) → equal a b ≡ true → a ≡ b
-equal_is [] [] h = refl
-equal_is [] (y ∷ b) h = absurd (true≢false (sym h))
-equal_is (x ∷ a) [] h = absurd (true≢false (sym h))
-equal_is (x ∷ a) (y ∷ b) h =
-    let s = both_true (nat_eq x y) (equal a b) h in
-    let head : nat_eq x y ≡ true = s.0 in
-    let e : x ≡ y = grind (arith, nat_tests) in
-    let r = equal_is a b s.1 in
-    λ i. e i ∷ r i
 
 equal_self : (a : List ℕ) → equal a a ≡ true
 equal_self [] = refl
@@ -61,7 +46,7 @@ present name place (d ∷ ds) h = by (equal name d.name) refl (present name plac
         let P : Bool → Type 0 = λ v. option_map (λ (d : Definition). d.place) (cond v (Some d) (equal_to name ds)) ≡ Some place in
         let w = subst P q h in
         let p : d.place ≡ place = cc w in
-        let n : name ≡ d.name = equal_is name d.name q in
+        let n : name ≡ d.name = equal_says name d.name q in
         (0, omega arith, λ i. (sym n i, p i))
     by false q rest =
         let P : Bool → Type 0 = λ v. option_map (λ (d : Definition). d.place) (cond v (Some d) (equal_to name ds)) ≡ Some place in

@@ -3,6 +3,7 @@ use Rattle.std.proofs.Common.{◌≡◌, ℕ, List, [], ◌∷◌, ◌++◌, map
 use Rattle.std.specs.List.{All, AllZip, AllByRecursion}
 use Rattle.std.proofs.lemmas.List.{map-append}
 use Rattle.std.proofs.lemmas.List.Elements.{All-from_recursion}
+use Rattle.netlist_schema.proofs.Lists.{all_push}
 use Rattle.spelling_spec.specs.Tree.{Bare, Placed, bare}
 use Rattle.netlist_schema.specs.Names.{AreDistinct}
 use Rattle.edif_spec.specs.Faults.{Repeats, those_of, defined}
@@ -25,15 +26,11 @@ pub record NamedForms {A : Type 0} (M : Bare → A → Type 0) (V : A → Type 0
   pub named : ids ns ≡ map g xs
   pub distinct : AreDistinct (ids ns)
 
-each_push : {A B : Type 0} (R : A → B → Type 0) (ts : List A) (xs : List B) (t : A) (x : B) → AllZip R ts xs → R t x → AllZip R (ts ++ t ∷ []) (xs ++ x ∷ [])
+pub each_push : {A B : Type 0} (R : A → B → Type 0) (ts : List A) (xs : List B) (t : A) (x : B) → AllZip R ts xs → R t x → AllZip R (ts ++ t ∷ []) (xs ++ x ∷ [])
 each_push R [] [] t x h r = (r, tt)
 each_push R [] (y ∷ xs) t x h r = absurd h
 each_push R (u ∷ ts) [] t x h r = absurd h
 each_push R (u ∷ ts) (y ∷ xs) t x h r = (h.0, each_push R ts xs t x h.1 r)
-
-all_push : {A : Type 0} (V : A → Type 0) (xs : List A) (x : A) → AllByRecursion V xs → V x → AllByRecursion V (xs ++ x ∷ [])
-all_push V [] x h v = (v, tt)
-all_push V (y ∷ xs) x h v = (h.0, all_push V xs x h.1 v)
 
 pub forms_start : {A : Type 0} (M : Bare → A → Type 0) (V : A → Type 0) (g : A → List ℕ) (k : Keyword) → NamedForms M V g k [] [] []
 forms_start M V g k = record { means = tt; valid = tt; defines = tt; named = refl; distinct = none_distinct }
@@ -84,7 +81,7 @@ forms_again M V g k all before rest t xs ns name place f e d r n =
 
 pub forms_twice : {A : Type 0} (M : Bare → A → Type 0) (V : A → Type 0) (g : A → List ℕ) (k : Keyword) (all before rest : List Placed) (t : Placed) (xs : List A) (ns : List (List ℕ × ℕ)) (f : MeaningFault)
     → those_of k all ≡ those_of k before ++ t ∷ those_of k rest → NamedForms M V g k before xs ns → DefinesAgain ns t f → Repeats (those_of k all) f
-forms_twice M V g k all before rest t xs ns f e r d = forms_again M V g k all before rest t xs ns d.0 d.1 f e d.2 r d.3
+forms_twice M V g k all before rest t xs ns f e r d = forms_again M V g k all before rest t xs ns d.name d.place f e d.defines r d.again
 
 pub forms_each : {A : Type 0} (M : Bare → A → Type 0) (V : A → Type 0) (g : A → List ℕ) (k : Keyword) (ts : List Placed) (xs : List A) (ns : List (List ℕ × ℕ)) → NamedForms M V g k ts xs ns → Each M (those k (map bare ts)) xs
 forms_each M V g k ts xs ns f = let P : List Bare → Type 0 = λ w. Each M w xs in subst P (filter_bare (has_keyword k) ts) f.means

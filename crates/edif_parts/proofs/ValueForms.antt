@@ -2,6 +2,7 @@
 use Rattle.std.proofs.Common.{◌≡◌, ℕ, ℤ, List, [], ◌∷◌, map, refl, ap, subst, inl, inr, Bool, true, false, Some}
 use Rattle.std.specs.Prelude.{FitsSigned, IsTrue, slice_get, ◌||◌}
 use Rattle.std.specs.Int.{w32}
+use Rattle.std.proofs.lemmas.Bool.{or_cases}
 use Rattle.spelling_spec.specs.Tree.{Bare, Placed, Integer', bare}
 use Rattle.netlist_schema.specs.declared.property.Num.{Num}
 use Rattle.netlist_schema.specs.declared.property.Num.TheVariants as numbers
@@ -16,7 +17,7 @@ use Rattle.edif_spec.specs.Stands as stands
 use Rattle.edif_spec.specs.declared.keyword.Keyword.TheVariants as keywords
 use Rattle.edif_spec.specs.declared.fault.Kind.TheVariants.{BadForm}
 use Rattle.edif_spec.specs.declared.fault.MeaningFault.TheVariants.{At}
-use Rattle.edif_spec.proofs.KnownForms.{only, either}
+use Rattle.edif_spec.proofs.KnownForms.{only}
 use Rattle.edif_spec.proofs.KnownRows.{follow_none}
 use Rattle.edif_grammar.specs.Forms.{ArePartsOf}
 use Rattle.edif_parts.specs.Values.{value_forms}
@@ -65,7 +66,7 @@ pub number_node : (t : Placed) (p : Form) → ArePartsOf keywords.Number t p →
 number_node t p a = one_node keywords.Number numbers_of [] t p refl refl refl a
 
 pub is_integer : (t : Bare) → is_one_of numbers_of t ≡ true → has_keyword keywords.E t ≡ false → IsTrue (is_choice AnInteger t)
-is_integer t h n = elim (either (is_choice AnInteger t) (has_keyword keywords.E t || false) h) [
+is_integer t h n = elim (or_cases (is_choice AnInteger t) (has_keyword keywords.E t || false) h) [
   | inl e ↦ e
   | inr e ↦ (let y : has_keyword keywords.E t ≡ true = only (has_keyword keywords.E t) e in absurd (cc))
 ]

@@ -16,5 +16,8 @@ pub record Adds {A : Type 0} (M : Bare → A → Type 0) (V : A → Type 0) (g :
   pub list : new ≡ old ++ value ∷ []
 
 -- the form defines a name that another has
-abbrev pub DefinesAgain : List (List ℕ × ℕ) → Placed → MeaningFault → Type 0
-DefinesAgain names t f = (name : List ℕ) × (place : ℕ) × (defined t ≡ Some (name, place)) × IsAgain names name place f
+pub record DefinesAgain (names : List (List ℕ × ℕ)) (t : Placed) (f : MeaningFault) : Type 0 where
+  pub name : List ℕ
+  pub place : ℕ
+  pub defines : defined t ≡ Some (name, place)
+  pub again : IsAgain names name place f

@@ -6,7 +6,7 @@ use Rattle.std.specs.Option.{option_map_or}
 use Rattle.std.proofs.lemmas.Bool.{eqb-true, eq-eqb, cases_order, or_parts}
 use Rattle.std.proofs.lemmas.List.{length-map}
 use Rattle.std.proofs.lemmas.List.Elements.{All-from_recursion, All-map, All-weaker}
-use Rattle.std.proofs.lemmas.Option.{get_or_from_slice_get, slice_get-map}
+use Rattle.std.proofs.lemmas.Option.{get_or_from_slice_get, slice_get-map, slice_get_within}
 use Rattle.std.proofs.Math.ListN.{get_or-map}
 use Rattle.netlist_schema.specs.Design.{insts_in, nets_in, nets_of, ends_of}
 use Rattle.netlist_schema.specs.Hierarchy.{IsCell, HasInst, insts_at, NoCellIsBelowItself, Resolves}
@@ -16,10 +16,11 @@ use Rattle.netlist_schema.specs.Typed.{IsTyped, IsTypedCell, IsTypedInst, IsType
 use Rattle.netlist_schema.specs.Valid.{HasBit, IsEndAt, IsEndOf, IsValidCell, IsNoteBelow, IsValid}
 use Rattle.netlist_schema.proofs.Cells.{All-slice_get, All-cell_at, cell_of_inst, ranked_has_no_cycle}
 use Rattle.netlist_schema.proofs.Ranks.{valid_is_ranked}
+use Rattle.netlist_schema.proofs.Lists.{all_from_places, some_of}
 use Rattle.edif_spec.specs.Arranged.{first_ready, order_from, order_of, orders_from, place_in, new_id, new_inst, new_contents, new_cell, new_top, new_cells, new_libs, arranged}
 use Rattle.edif_spec.specs.Defined.{AllAfter}
 use Rattle.edif_spec.specs.Design as design
-use Rattle.edif_spec.proofs.CellPlaces.{get_below, some_of, some_and, lib_of_cell, all_from_places, cell_found}
+use Rattle.edif_spec.proofs.CellPlaces.{some_and, lib_of_cell, cell_found}
 use Rattle.order_spec.proofs.Ready.{StepReady, order_covers, order_ready}
 use Rattle.order_spec.proofs.WholeOrder.{IsNew, new_after, valid_rank, id_at}
 
@@ -134,7 +135,7 @@ pub cell_moved : (libs : List design.Lib) (id : design.CellId) (c : design.CellB
 cell_moved libs id c r e =
     let l = lib_of_cell libs id c e in
     let whole = r id.lib.0 l.0 l.1 in
-    let full = whole.covers id.slot (get_below l.0.cells id.slot c l.2) in
+    let full = whole.covers id.slot (slice_get_within l.0.cells id.slot c l.2) in
     let at_place = new_there (orders_from 0 libs) l.0.cells (order_of id.lib.0 l.0.cells) (place_in id.slot (order_of id.lib.0 l.0.cells)) id.slot c whole.there (place_found id.slot (order_of id.lib.0 l.0.cells) full) l.2 in
     rw (own_new_lib libs id.lib.0 l.0 l.1) (rw (own_order libs id.lib.0 l.0 l.1) at_place)
 
@@ -271,8 +272,8 @@ apart : (ns : List (List ℕ)) (i j : ℕ) (a b : List ℕ) → AreDistinct ns �
 apart ns i j a b h e f n = λ same. ⊎_elim
     (λ (q : i ≡ j). n q)
     (λ (q : (i < j) ⊎ (j < i)). ⊎_elim
-    (λ (l : i < j). h i j a l (get_below ns j b f) (get_or_from_slice_get ns i a a e ∙ (same ∙ sym (get_or_from_slice_get ns j b a f))))
-    (λ (l : j < i). h j i a l (get_below ns i a e) (get_or_from_slice_get ns j b a f ∙ (sym same ∙ sym (get_or_from_slice_get ns i a a e)))) q)
+    (λ (l : i < j). h i j a l (slice_get_within ns j b f) (get_or_from_slice_get ns i a a e ∙ (same ∙ sym (get_or_from_slice_get ns j b a f))))
+    (λ (l : j < i). h j i a l (slice_get_within ns i a e) (get_or_from_slice_get ns j b a f ∙ (sym same ∙ sym (get_or_from_slice_get ns i a a e)))) q)
     (cases_order i j)
 
 name_at : (cells : List design.CellBody) (k : ℕ) (c : design.CellBody) → slice_get cells k ≡ Some c → slice_get (cell_names cells) k ≡ Some c.name.id
@@ -306,7 +307,7 @@ order_short own cells (suc fuel) written = go (first_ready own written 0 cells) 
     go None more = omega arith
     go (Some k) more = let r = more k in omega (arith, r)
 
-libs_length : (orders : List (List ℕ)) (own : ℕ) (libs : List design.Lib) → length (new_libs orders own libs) ≡ length libs
+pub libs_length : (orders : List (List ℕ)) (own : ℕ) (libs : List design.Lib) → length (new_libs orders own libs) ≡ length libs
 libs_length orders own [] = refl
 libs_length orders own (l ∷ libs) = ap suc (libs_length orders (suc own) libs)
 
@@ -384,7 +385,7 @@ before_new libs id r h =
     let c = some_of (design.cell_at libs id) h in
     let l = lib_of_cell libs id c.0 c.1 in
     let o = own_order libs id.lib.0 l.0 l.1 in
-    let full = (r id.lib.0 l.0 l.1).covers id.slot (get_below l.0.cells id.slot c.0 l.2) in
+    let full = (r id.lib.0 l.0 l.1).covers id.slot (slice_get_within l.0.cells id.slot c.0 l.2) in
     let slot : slot_before (slice_get (orders_from 0 libs) id.lib.0) (unwrap_or (option_map (place_in id.slot) (slice_get (orders_from 0 libs) id.lib.0)) id.slot) ≡ id.slot =
     ap (λ v. slot_before v (unwrap_or (option_map (place_in id.slot) v) id.slot)) o ∙ ap (λ v. unwrap_or v (place_in id.slot (order_of id.lib.0 l.0.cells))) (place_found id.slot (order_of id.lib.0 l.0.cells) full) in
     λ i. record { lib = id.lib; slot = slot i }

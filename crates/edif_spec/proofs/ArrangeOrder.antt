@@ -8,11 +8,12 @@ use Rattle.std.proofs.lemmas.List.Elements.{recursion_from_All}
 use Rattle.netlist_schema.specs.Hierarchy.{IsCell}
 use Rattle.netlist_schema.specs.Names.{HasDistinctKeys}
 use Rattle.netlist_schema.specs.Valid.{IsValid}
+use Rattle.netlist_schema.proofs.Lists.{get_front, all_at, all_from_places, some_of}
 use Rattle.edif_spec.specs.Arranged.{is_written, order_of, orders_from, place_in, new_id, new_inst, new_cell, new_cells, new_libs, arranged}
 use Rattle.edif_spec.specs.Defined.{AllAfter, DefinedBefore}
 use Rattle.edif_spec.specs.Design as design
 use Rattle.edif_spec.proofs.Arrange.{AllThere, AreWhole, valid_whole, place_found, new_there, own_order, cell_moved, insts_new, arranged_valid}
-use Rattle.edif_spec.proofs.CellPlaces.{get_after, get_front, length_last, some_of, lib_of_cell, all_at, all_from_places, cell_found}
+use Rattle.edif_spec.proofs.CellPlaces.{get_after, length_last, lib_of_cell, cell_found}
 use Rattle.edif_spec.proofs.Order.{ArePlaced, EachPlaced, stays}
 use Rattle.order_spec.proofs.Ready.{StepReady, order_ready}
 use Rattle.order_spec.proofs.WholeOrder.{id_at}
@@ -136,7 +137,7 @@ after_from_places P before (x ∷ xs) f =
     let n : length (before ++ x ∷ []) ≡ suc (length before) = length_last before x in
     (subst (λ k. P k x) z (f 0 x refl), after_from_places P (before ++ x ∷ []) xs (λ i y e. let s : length before + suc i ≡ length (before ++ x ∷ []) + i = omega arith in subst (λ k. P k y) s (f (suc i) y e)))
 
-zip_all : {A : Type 0} (P Q : A → Type 0) (xs : List A) → AllByRecursion P xs → AllByRecursion Q xs → AllByRecursion (λ x. P x × Q x) xs
+pub zip_all : {A : Type 0} (P Q : A → Type 0) (xs : List A) → AllByRecursion P xs → AllByRecursion Q xs → AllByRecursion (λ x. P x × Q x) xs
 zip_all P Q [] h k = tt
 zip_all P Q (x ∷ xs) h k = ((h.0, k.0), zip_all P Q xs h.1 k.1)
 

@@ -3,6 +3,7 @@ use Rattle.std.proofs.Common.{◌≡◌, ℕ, ◌≤◌, List, [], ◌∷◌, ma
 use Rattle.std.specs.Prelude.{IfSome}
 use Rattle.std.specs.List.{AllZip, AllByRecursion, All, flat_map}
 use Rattle.std.proofs.lemmas.List.Elements.{recursion_from_All}
+use Rattle.std.proofs.lemmas.List.{length-map}
 use Rattle.netlist_schema.specs.Design.{insts_of, ends_of}
 use Rattle.netlist_schema.specs.Design as schema
 use Rattle.netlist_schema.specs.Limits.{IsCellWithinLimits}
@@ -23,7 +24,7 @@ use Rattle.edif_spec.specs.declared.fault.MeaningFault.{MeaningFault}
 use Rattle.netlist_schema.specs.declared.cell.CellKind.TheVariants as kinds
 use Rattle.edif_spec.proofs.Once.{each_once, port_once}
 use Rattle.edif_spec.proofs.OnceFile.{inst_once, end_once}
-use Rattle.edif_spec.proofs.FaultForms.{part_is, parts_are, row_apart, each_apart, perhaps_apart, just_apart, each_length, map_length, beyond_apart, each_with, IsNamed, repeats_apart, two_apart, differ, Differ}
+use Rattle.edif_spec.proofs.FaultForms.{part_is, parts_are, row_apart, each_apart, perhaps_apart, just_apart, each_length, beyond_apart, each_with, IsNamed, repeats_apart, two_apart, differ, Differ}
 pub use Rattle.edif_spec.proofs.NetFaultsApart.{dangles_apart, library_ref_apart, cell_ref_apart, view_ref_apart, inst_apart, inst_named, all_kept, net_apart, net_named, net_declares, joined_ends, ends_of_form, map_same, net_ends, net_shape_apart, zip_flat, zip_length}
 use Rattle.edif_spec.proofs.RowForms.{GivesName, ends_counted, keys_of_rows, net_names_are, nets_counted, row_ends_of}
 use Rattle.edif_spec.proofs.FaultsApart.{name_apart, properties_apart, word_apart, three, form_named, interface_apart, FineInterface}
@@ -52,7 +53,7 @@ contents_apart : (libs : List design.Lib) (own : Option ℕ) (ports : List desig
 contents_apart libs own ports t c f h v b =
     let e : map bare (insts_in t) ≡ those keywords.Instance h.inner = parts_are keywords.Contents keywords.Instance t [] h.inner h.form in
     let d : map bare (nets_in t) ≡ those keywords.Net h.inner = parts_are keywords.Contents keywords.Net t [] h.inner h.form in
-    let l : length (insts_in t) ≡ length c.insts = sym (map_length bare (insts_in t)) ∙ (ap length e ∙ each_length (MeansInst libs own) (those keywords.Instance h.inner) c.insts h.insts) in
+    let l : length (insts_in t) ≡ length c.insts = sym (length-map (insts_in t) bare) ∙ (ap length e ∙ each_length (MeansInst libs own) (those keywords.Instance h.inner) c.insts h.insts) in
     let rows : AllZip (λ u n. MeansNet libs ports c.insts (bare u) n) (nets_in t) h.rows = each_with (MeansNet libs ports c.insts) (λ u n. MeansNet libs ports c.insts (bare u) n) (λ u n k. k) (nets_in t) (those keywords.Net h.inner) h.rows d h.written in
     let m : length (repeated declared_width (nets_in t)) ≡ length c.nets = nets_counted libs ports c.insts (nets_in t) h.rows rows ∙ ap length (sym h.nets) in
     let P : List design.Net → Type 0 = λ v. AllZip GivesName (flat_map net_names_in (nets_in t)) v in

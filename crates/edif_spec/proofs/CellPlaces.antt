@@ -1,9 +1,11 @@
 -- Elements at places of lists, and cells at ids.
-use Rattle.std.proofs.Common.{◌≡◌, ◌∙◌, ℕ, zero, suc, ◌<◌, List, [], ◌∷◌, ◌++◌, length, refl, ap, subst, Option, Some, None, arith, slice_get}
+use Rattle.std.proofs.Common.{◌≡◌, ◌∙◌, ℕ, suc, List, [], ◌∷◌, ◌++◌, length, refl, ap, Option, Some, None, slice_get}
 use Rattle.std.specs.Prelude.{IsSomeAnd}
 use Rattle.std.specs.Option.{option_map_or}
 use Rattle.std.specs.List.{AllByRecursion}
-pub use Rattle.order_spec.proofs.Places.{get_below, get_there, some_of, all_weaker, any_append}
+use Rattle.std.proofs.lemmas.Option.{slice_get_within}
+use Rattle.netlist_schema.proofs.Lists.{some_of, get_there, all_weaker}
+pub use Rattle.order_spec.proofs.Places.{any_append}
 use Rattle.order_spec.proofs.WholeOrder.{id_at}
 use Rattle.edif_spec.specs.Design as design
 
@@ -11,19 +13,9 @@ pub get_after : {A : Type 0} (front : List A) (x : A) (rest : List A) → slice_
 get_after [] x rest = refl
 get_after (y ∷ front) x rest = get_after front x rest
 
-pub get_front : {A : Type 0} (xs ys : List A) (i : ℕ) → i < length xs → slice_get (xs ++ ys) i ≡ slice_get xs i
-get_front [] ys i l = absurd (omega arith)
-get_front (x ∷ xs) ys zero l = refl
-get_front (x ∷ xs) ys (suc i) l = get_front xs ys i (omega arith)
-
 pub length_last : {A : Type 0} (xs : List A) (x : A) → length (xs ++ x ∷ []) ≡ suc (length xs)
 length_last [] x = refl
 length_last (y ∷ xs) x = ap suc (length_last xs x)
-
-pub all_at : {A : Type 0} (P : A → Type 0) (xs : List A) (i : ℕ) (x : A) → AllByRecursion P xs → slice_get xs i ≡ Some x → P x
-all_at P [] i x h e = absurd (cc e)
-all_at P (y ∷ xs) zero x h e = let w : y ≡ x = cc e in subst P w h.0
-all_at P (y ∷ xs) (suc i) x h e = all_at P xs i x h.1 e
 
 -- the library in which a cell stands
 pub lib_of_cell : (libs : List design.Lib) (id : design.CellId) (c : design.CellBody) → design.cell_at libs id ≡ Some c → (l : design.Lib) × (slice_get libs id.lib.0 ≡ Some l) × (slice_get l.cells id.slot ≡ Some c)
@@ -36,10 +28,6 @@ lib_of_cell libs id c e = go (slice_get libs id.lib.0) refl e
 pub some_and : {A : Type 0} (o : Option A) (P : A → Type 0) → IsSomeAnd o P → (x : A) × (o ≡ Some x) × P x
 some_and None P h = absurd h
 some_and (Some x) P h = (x, refl, h)
-
-pub all_from_places : {A : Type 0} (P : A → Type 0) (xs : List A) → ((i : ℕ) (x : A) → slice_get xs i ≡ Some x → P x) → AllByRecursion P xs
-all_from_places P [] f = tt
-all_from_places P (x ∷ xs) f = (f 0 x refl, all_from_places P xs (λ i. f (suc i)))
 
 pub all_append_parts : {A : Type 0} (P : A → Type 0) (xs ys : List A) → AllByRecursion P (xs ++ ys) → AllByRecursion P xs × AllByRecursion P ys
 all_append_parts P [] ys h = (tt, h)

@@ -1,8 +1,11 @@
 -- The canonical tree of a contents means it, where each placed cell is defined before.
-use Rattle.std.proofs.Common.{◌≡◌, ℕ, zero, suc, ◌<◌, List, [], ◌∷◌, map, length, refl, ap, sym, ◌∙◌, subst, inl, inr, true, Option, Some, None, arith}
+use Rattle.std.proofs.Common.{◌≡◌, ℕ, ◌<◌, List, [], ◌∷◌, map, length, refl, ap, sym, ◌∙◌, subst, inl, inr, true, Option, Some, None, arith}
 use Rattle.std.specs.Prelude.{IsTrue, IfSome, IsSome, IsSomeAnd, codes, slice_get, option_map, unwrap_or}
 use Rattle.std.specs.List.{AllByRecursion}
+use Rattle.netlist_schema.proofs.Lists.{some_of, get_there, get_mapped, all_weaker, all_at}
 use Rattle.spelling_spec.specs.Tree.{Bare, word}
+use Rattle.edif_spec.proofs.CellPlaces.{lib_of_cell}
+use Rattle.edif_spec.proofs.ArrangeOrder.{zip_all}
 use Rattle.edif_spec.specs.Keyword.{Many, One, AnIdentifier, AForm}
 use Rattle.edif_spec.specs.Rows.{is_one_of, Perhaps}
 use Rattle.edif_spec.specs.Canonical.{make, perhaps, name_tree, text_tree, property_tree, cell_ref_tree, inst_tree, ports_of_end, bit_tree, bits_tree, port_name_tree, end_tree, net_tree, contents_tree}
@@ -12,14 +15,13 @@ use Rattle.netlist_schema.specs.Width.{IsWidth}
 use Rattle.edif_spec.specs.Nets.{NetForm, Stretch, net_forms, row_size}
 use Rattle.edif_spec.proofs.WrittenNets.{Covers, HasPort, IsPlacedForm, IsPlacedStretch, forms_are_nets, forms_placed, forms_properties}
 use Rattle.edif_spec.proofs.ValidForms.{distinct, ValidProperties, ValidInst, ValidEnd, ValidNet, ValidContents}
-use Rattle.edif_spec.proofs.FromValid.{all_at, weaker, both_all}
 use Rattle.edif_spec.specs.declared.keyword.Keyword.{Keyword}
 use Rattle.edif_spec.specs.declared.keyword.Keyword.TheVariants as keywords
 use Rattle.edif_spec.specs.Design as design
 use Rattle.edif_spec.proofs.Groups.{joined, Grouped, those_joined, joined_follows}
 use Rattle.edif_spec.proofs.Followers.{at_most_one, each_map, perhaps_one}
 use Rattle.edif_spec.proofs.Meanings.{name_fits, name_meant, port_name_fits, port_name_meant, text_form, group_of, option_group, properties_meant}
-use Rattle.edif_spec.proofs.Scopes.{meant_self, get_map, some_of, lib_of_cell, IsScope, cell_in_all}
+use Rattle.edif_spec.proofs.Scopes.{meant_self, IsScope, cell_in_all}
 
 abbrev name_of_cell : design.CellBody → List ℕ
 name_of_cell c = c.name.id
@@ -47,10 +49,10 @@ cell_ref_meant scope all own id c s e =
     let whole : design.cell_at all id ≡ Some c = cell_in_all scope all id c s e in
     let lib_there : design.lib_id all id.lib.0 ≡ l.0.head.name.id = lib_name all id.lib.0 m.0 m.1 ∙ ap (λ (h : design.LibHead). h.name.id) m.2 in
     let found_lib : meant (design.lib_ids scope) (design.lib_id all id.lib.0) ≡ Found id.lib.0 =
-    ap (meant (design.lib_ids scope)) lib_there ∙ meant_self (design.lib_ids scope) id.lib.0 l.0.head.name.id s.lib_names (get_map (λ (x : design.Lib). x.head.name.id) scope id.lib.0 l.0 l.1) in
+    ap (meant (design.lib_ids scope)) lib_there ∙ meant_self (design.lib_ids scope) id.lib.0 l.0.head.name.id s.lib_names (get_mapped (λ (x : design.Lib). x.head.name.id) scope id.lib.0 l.0 l.1) in
     let found_cell : meant (design.cell_ids scope id.lib.0) (design.cell_id all id) ≡ Found id.slot =
     ap (λ v. meant v (design.cell_id all id)) (cells_there scope id.lib.0 l.0 l.1) ∙ (ap (meant (map name_of_cell l.0.cells)) (cell_name all id c whole)
-    ∙ meant_self (map name_of_cell l.0.cells) id.slot c.name.id (s.cell_names id.lib.0 l.0 l.1) (get_map name_of_cell l.0.cells id.slot c l.2)) in
+    ∙ meant_self (map name_of_cell l.0.cells) id.slot c.name.id (s.cell_names id.lib.0 l.0 l.1) (get_mapped name_of_cell l.0.cells id.slot c l.2)) in
     record {
       spelled = design.cell_id all id;
       inner = make keywords.LibraryRef (word (design.lib_id all id.lib.0) ∷ []) ∷ [];
@@ -98,11 +100,6 @@ inst_meant scope all o i s h =
       properties = rw (those_joined keywords.Property gs grouped) (properties_meant i.properties h.0.properties);
     }
 
-pub some_at : {A : Type 0} (xs : List A) (i : ℕ) → i < length xs → (x : A) × (slice_get xs i ≡ Some x)
-some_at [] i h = absurd (omega arith)
-some_at (x ∷ xs) zero h = (x, refl)
-some_at (x ∷ xs) (suc i) h = some_at xs i (omega arith)
-
 -- the ports of each cell have different names
 abbrev pub PortsDiffer : List design.Lib → Type 0
 PortsDiffer libs = (id : design.CellId) (c : design.CellBody) → design.cell_at libs id ≡ Some c → distinct (design.port_ids c.ports) ≡ true
@@ -120,7 +117,7 @@ ports_same scope all own insts (Some i) s h = go (slice_get insts i) refl
 ports_differ : (all : List design.Lib) (own : List design.Port) (insts : List design.Inst) (o : Option ℕ) → PortsDiffer all → distinct (design.port_ids own) ≡ true → AllByRecursion (λ i. IsSome (design.cell_at all i.of)) insts → IfSome o (λ i. i < length insts) → distinct (design.port_ids (ports_of_end all own insts o)) ≡ true
 ports_differ all own insts None p d h l = d
 ports_differ all own insts (Some i) p d h l =
-    let x = some_at insts i l in
+    let x = get_there insts i l in
     let c = some_of (design.cell_at all x.0.of) (all_at (λ j. IsSome (design.cell_at all j.of)) insts i x.0 h x.1) in
     let there : ports_of_end all own insts (Some i) ≡ c.0.ports = ap (λ o. unwrap_or (option_map (λ (y : design.Inst). design.ports_at all y.of) o) []) x.1 ∙ ports_there all x.0.of c.0 c.1 in
     ap (λ v. distinct (design.port_ids v)) there ∙ p x.0.of c.0 c.1
@@ -161,11 +158,11 @@ pub record ContentsScope (scope all : List design.Lib) (own : List design.Port) 
 inst_ref_meant : (insts : List design.Inst) (o : Option ℕ) → distinct (design.inst_ids insts) ≡ true → IfSome o (λ i. i < length insts) → Perhaps (MeansInstRef insts) (perhaps (λ i. make keywords.InstanceRef (word (design.inst_id insts i) ∷ [])) o) o
 inst_ref_meant insts None d l = tt
 inst_ref_meant insts (Some i) d l =
-    let x = some_at insts i l in
+    let x = get_there insts i l in
     let n : design.inst_id insts i ≡ x.0.name.id = ap (λ o. unwrap_or (option_map (λ (y : design.Inst). y.name.id) o) []) x.1 in (
       design.inst_id insts i,
       record { spelled = codes "instanceRef"; is = refl; keyword = refl; fits = ((refl, tt), refl, tt) },
-      ap (meant (design.inst_ids insts)) n ∙ meant_self (design.inst_ids insts) i x.0.name.id d (get_map (λ (y : design.Inst). y.name.id) insts i x.0 x.1),
+      ap (meant (design.inst_ids insts)) n ∙ meant_self (design.inst_ids insts) i x.0.name.id d (get_mapped (λ (y : design.Inst). y.name.id) insts i x.0 x.1),
     )
 
 -- a stretch of a net with or without an array, at a port that is there and at an instance that is there
@@ -185,7 +182,7 @@ end_meant scope all own insts array e s h =
     let T : Bare → Type 0 = λ v. MeansBits ports v e.port e.first e.width in
     let F : Bare → Type 0 = λ v. IsTrue (is_one_of (AnIdentifier ∷ AForm keywords.Member ∷ []) v) in
     let U : List design.Port → Type 0 = λ v. MeansBits v (bits_tree array (slice_get ports e.port) e.first) e.port e.first e.width in
-    let named : meant (design.port_ids ports) p.name.id ≡ Found e.port = meant_self (design.port_ids ports) e.port p.name.id (ports_differ all own insts e.inst s.ports s.own_ports s.there h.inst) (get_map (λ (y : design.Port). y.name.id) ports e.port p there) in
+    let named : meant (design.port_ids ports) p.name.id ≡ Found e.port = meant_self (design.port_ids ports) e.port p.name.id (ports_differ all own insts e.inst s.ports s.own_ports s.there h.inst) (get_mapped (λ (y : design.Port). y.name.id) ports e.port p there) in
     let width : width_at ports e.port ≡ design.port_width p = ap (λ o. unwrap_or (option_map design.port_width o) 0) there in
     record {
       bits_part = bits_tree array (slice_get ports e.port) e.first;
@@ -229,7 +226,7 @@ net_meant scope all own insts n s h =
       joined = record { spelled = codes "joined"; is = refl; keyword = refl; fits = (tt, joined_follows (Many keywords.PortRef ∷ []) es refl ends_grouped, tt) };
       name = port_name_meant n.name n.array h.array;
       ends = each_map (ValidStretch all own insts n.array) (MeansEnd scope own insts) (end_tree all own insts n.array) n.joined h.joined (λ e v. end_meant scope all own insts n.array e s v);
-      wide = weaker (ValidStretch all own insts n.array) (λ (x : Stretch). x.width ≡ row_size n.array) n.joined (λ x v. as_wide (ports_of_end all own insts) n.array x v.placed) h.joined;
+      wide = all_weaker (ValidStretch all own insts n.array) (λ (x : Stretch). x.width ≡ row_size n.array) n.joined (λ x v. as_wide (ports_of_end all own insts) n.array x v.placed) h.joined;
       properties = rw (those_joined keywords.Property gs grouped) (properties_meant n.properties h.properties);
     }
 
@@ -252,20 +249,20 @@ written_valid : (all : List design.Lib) (ports : List design.Port) (insts : List
 written_valid all ports insts nets h =
     forms_valid all ports insts (net_forms (ports_of_end all ports insts) nets)
     (forms_placed (ports_of_end all ports insts) (ValidEnd all ports insts) 0 nets
-    (weaker (ValidNet all ports insts) (λ (n : design.Net). AllByRecursion (HasPort (ports_of_end all ports insts)) n.ends) nets (λ n v. weaker (ValidEnd all ports insts) (HasPort (ports_of_end all ports insts)) n.ends (has_port all ports insts) v.ends) h)
-    (weaker (ValidNet all ports insts) (λ (n : design.Net). AllByRecursion (ValidEnd all ports insts) n.ends) nets (λ n v. v.ends) h))
-    (forms_properties (ports_of_end all ports insts) ValidProperties 0 nets (weaker (ValidNet all ports insts) (λ (n : design.Net). ValidProperties n.properties) nets (λ n v. v.properties) h))
+    (all_weaker (ValidNet all ports insts) (λ (n : design.Net). AllByRecursion (HasPort (ports_of_end all ports insts)) n.ends) nets (λ n v. all_weaker (ValidEnd all ports insts) (HasPort (ports_of_end all ports insts)) n.ends (has_port all ports insts) v.ends) h)
+    (all_weaker (ValidNet all ports insts) (λ (n : design.Net). AllByRecursion (ValidEnd all ports insts) n.ends) nets (λ n v. v.ends) h))
+    (forms_properties (ports_of_end all ports insts) ValidProperties 0 nets (all_weaker (ValidNet all ports insts) (λ (n : design.Net). ValidProperties n.properties) nets (λ n v. v.properties) h))
 
 pub contents_meant : (scope all : List design.Lib) (o : Option ℕ) (ports : List design.Port) (c : design.Contents) → IsScope scope all → PortsDiffer all → distinct (design.port_ids ports) ≡ true → AllByRecursion (DefinedIn scope) c.insts → ValidContents all ports c → MeansContents scope o ports (contents_tree all ports c) c
 contents_meant scope all o ports c s p d f h =
-    let cs : ContentsScope scope all ports c.insts = record { within = s; defined = f; there = weaker (ValidInst all) (λ i. IsSome (design.cell_at all i.of)) c.insts (λ x v. v.of) h.insts; ports = p; own_ports = d; names = h.inst_names } in
+    let cs : ContentsScope scope all ports c.insts = record { within = s; defined = f; there = all_weaker (ValidInst all) (λ i. IsSome (design.cell_at all i.of)) c.insts (λ x v. v.of) h.insts; ports = p; own_ports = d; names = h.inst_names } in
     let fs : List NetForm = net_forms (ports_of_end all ports c.insts) c.nets in
     let gs : List (Keyword × List Bare) = (keywords.Instance, map (inst_tree all) c.insts) ∷ (keywords.Net, map (net_tree all ports c.insts) fs) ∷ [] in
     let grouped : Grouped gs = (group_of keywords.Instance (inst_tree all) c.insts (λ x. refl), (group_of keywords.Net (net_tree all ports c.insts) fs (λ x. refl), tt)) in
     record {
       inner = joined gs;
       form = record { spelled = codes "contents"; is = refl; keyword = refl; fits = (tt, joined_follows (Many keywords.Instance ∷ Many keywords.Net ∷ Many keywords.Comment ∷ Many keywords.UserData ∷ []) gs refl grouped, tt) };
-      insts = rw (those_joined keywords.Instance gs grouped) (each_map (λ i. ValidInst all i × DefinedIn scope i) (MeansInst scope o) (inst_tree all) c.insts (both_all (ValidInst all) (DefinedIn scope) c.insts h.insts f) (λ i v. inst_meant scope all o i s v));
+      insts = rw (those_joined keywords.Instance gs grouped) (each_map (λ i. ValidInst all i × DefinedIn scope i) (MeansInst scope o) (inst_tree all) c.insts (zip_all (ValidInst all) (DefinedIn scope) c.insts h.insts f) (λ i v. inst_meant scope all o i s v));
       rows = fs;
       written = rw (those_joined keywords.Net gs grouped) (each_map (ValidForm all ports c.insts) (MeansNet scope ports c.insts) (net_tree all ports c.insts) fs (written_valid all ports c.insts c.nets h.nets) (λ n v. net_meant scope all ports c.insts n cs v));
       nets = sym (forms_are_nets (ports_of_end all ports c.insts) c.nets);

@@ -188,7 +188,7 @@ pub empty_path_stands : Stands Examples.empty_path (At BadPath 237)
 empty_path_stands = stands.in_file refl (stands.edif_design (record { libs = with_leaf; means = (library_means, tt); first = Examples.empty_path_179; there = refl; fault = stands.design_notes (stands.one_note top (Examples.empty_path_189, refl, top_means) (inl (stands.note_path (Examples.empty_path_237, refl, refl, stands.no_steps refl refl)))) }))
 
 -- the arguments of a form are the list that they are made from
-items_of : (ts : List Placed) → items (trees ts) ≡ ts
+pub items_of : (ts : List Placed) → items (trees ts) ≡ ts
 items_of [] = refl
 items_of (t ∷ ts) = ap (λ v. t ∷ v) (items_of ts)
 

@@ -1,9 +1,12 @@
 -- A form that fits its row, seen with places: its parts, and that no breach of the row stands in it.
-use Rattle.std.proofs.Common.{◌≡◌, ◌≢◌, ℕ, zero, suc, ◌<◌, ◌≤◌, List, [], ◌∷◌, ◌++◌, map, length, refl, ap, sym, ◌∙◌, subst, inl, inr, Bool, true, false, Option, Some, None, arith}
+use Rattle.std.proofs.Common.{◌≡◌, ◌≢◌, ℕ, suc, ◌<◌, ◌≤◌, List, [], ◌∷◌, ◌++◌, map, length, refl, ap, sym, ◌∙◌, subst, inl, inr, Bool, true, false, Option, Some, None, arith}
 use Rattle.std.specs.Prelude.{IsTrue, cond, filter, drop, slice_get, IfSome}
 use Rattle.std.specs.List.{list_all, AllZip, AllByRecursion, All}
 use Rattle.std.proofs.lemmas.List.Elements.{recursion_from_All}
+use Rattle.std.proofs.lemmas.Option.{slice_get_within}
+use Rattle.std.proofs.lemmas.List.{length-map}
 use Rattle.netlist_schema.specs.Names.{AreDistinct}
+use Rattle.netlist_schema.proofs.Lists.{drop_front, map_drop, get_mapped, get_unmapped}
 use Rattle.spelling_spec.specs.Tree.{Bare, Placed, Trees, Form', Word', Integer', String', End, More, form, word, items, bare, bares}
 use Rattle.edif_spec.specs.Keyword.{row, Row, Takes, Skips, Choice, Follower, Many, One}
 use Rattle.edif_spec.specs.Rows.{has_keyword, those, is_one_of, is_follower, AtMostOnce, FitsRow, IsFormOf, Each, EachAfter, Perhaps, Just}
@@ -15,26 +18,11 @@ use Rattle.edif_spec.specs.declared.fault.MeaningFault.{MeaningFault}
 use Rattle.edif_spec.specs.declared.fault.Kind.TheVariants.{BadForm}
 use Rattle.edif_spec.proofs.Both.{both}
 use Rattle.edif_spec.proofs.Once.{items_trees}
-use Rattle.edif_spec.proofs.Scopes.{get_map}
 
 -- Lists.
 pub items_bares : (ts : Trees ℕ) → items (bares ts) ≡ map bare (items ts)
 items_bares End = refl
 items_bares (More t ts) = ap (λ v. bare t ∷ v) (items_bares ts)
-
-pub get_unmap : {A B : Type 0} (f : A → B) (xs : List A) (i : ℕ) (y : B) → slice_get (map f xs) i ≡ Some y → (x : A) × (slice_get xs i ≡ Some x) × (f x ≡ y)
-get_unmap f [] i y e = absurd (cc e)
-get_unmap f (x ∷ xs) zero y e = let w : f x ≡ y = cc e in (x, refl, w)
-get_unmap f (x ∷ xs) (suc i) y e = get_unmap f xs i y e
-
-pub map_drop : {A B : Type 0} (f : A → B) (n : ℕ) (xs : List A) → map f (drop n xs) ≡ drop n (map f xs)
-map_drop f zero xs = refl
-map_drop f (suc n) [] = refl
-map_drop f (suc n) (x ∷ xs) = map_drop f n xs
-
-pub drop_front : {A : Type 0} (xs ys : List A) → drop (length xs) (xs ++ ys) ≡ ys
-drop_front [] ys = refl
-drop_front (x ∷ xs) ys = drop_front xs ys
 
 pub filter_bare : (p : Bare → Bool) (ts : List Placed) → map bare (filter (λ u. p (bare u)) ts) ≡ filter p (map bare ts)
 filter_bare p [] = refl
@@ -43,15 +31,6 @@ filter_bare p (t ∷ ts) = go (p (bare t)) (filter_bare p ts)
     go : (b : Bool) → map bare (filter (λ u. p (bare u)) ts) ≡ filter p (map bare ts) → map bare (cond b (t ∷ filter (λ u. p (bare u)) ts) (filter (λ u. p (bare u)) ts)) ≡ cond b (bare t ∷ filter p (map bare ts)) (filter p (map bare ts))
     go true e = ap (λ v. bare t ∷ v) e
     go false e = e
-
-pub map_length : {A B : Type 0} (f : A → B) (xs : List A) → length (map f xs) ≡ length xs
-map_length f [] = refl
-map_length f (x ∷ xs) = ap suc (map_length f xs)
-
-pub get_below : {A : Type 0} (xs : List A) (i : ℕ) (x : A) → slice_get xs i ≡ Some x → i < length xs
-get_below [] i x e = absurd (cc e)
-get_below (y ∷ xs) zero x e = omega arith
-get_below (y ∷ xs) (suc i) x e = let l : i < length xs = get_below xs i x e in omega arith
 
 -- The arguments of a form.
 behind : Bare → List Bare
@@ -79,10 +58,10 @@ arguments_are k t fixed inner h = arguments_of_form h.spelled t (fixed ++ inner)
 -- an argument of the form, without its place
 pub part_is : (k : Keyword) (t : Placed) (fixed inner : List Bare) (i : ℕ) (u : Placed) (b : Bare) → IsFormOf k (bare t) fixed inner → slice_get (arguments t) i ≡ Some u → slice_get (fixed ++ inner) i ≡ Some b → bare u ≡ b
 part_is k t fixed inner i u b h e f =
-    let w : Some (bare u) ≡ Some b = sym (get_map bare (arguments t) i u e) ∙ (ap (λ v. slice_get v i) (arguments_are k t fixed inner h) ∙ f) in cc w
+    let w : Some (bare u) ≡ Some b = sym (get_mapped bare (arguments t) i u e) ∙ (ap (λ v. slice_get v i) (arguments_are k t fixed inner h) ∙ f) in cc w
 
 pub part_there : (k : Keyword) (t : Placed) (fixed inner : List Bare) (i : ℕ) (b : Bare) → IsFormOf k (bare t) fixed inner → slice_get (fixed ++ inner) i ≡ Some b → (u : Placed) × (slice_get (arguments t) i ≡ Some u) × (bare u ≡ b)
-part_there k t fixed inner i b h f = get_unmap bare (arguments t) i b (ap (λ v. slice_get v i) (arguments_are k t fixed inner h) ∙ f)
+part_there k t fixed inner i b h f = get_unmapped bare (arguments t) i b (ap (λ v. slice_get v i) (arguments_are k t fixed inner h) ∙ f)
 
 zip_length : (cs : List (List Choice)) (ts : List Bare) → AllZip (λ cs t. IsTrue (is_one_of cs t)) cs ts → length cs ≡ length ts
 zip_length [] [] h = refl
@@ -109,7 +88,7 @@ none_of_one P [] n h = h
 none_of_one P (x ∷ xs) n (inl h) = n x h
 none_of_one P (x ∷ xs) n (inr h) = none_of_one P xs n h
 
-none_of_two : {A : Type 0} (R : A → A → Type 0) (xs : List A) → length xs ≤ 1 → AtTwo R xs → ⊥
+pub none_of_two : {A : Type 0} (R : A → A → Type 0) (xs : List A) → length xs ≤ 1 → AtTwo R xs → ⊥
 none_of_two R [] l h = h
 none_of_two R (x ∷ []) l (inl h) = h
 none_of_two R (x ∷ []) l (inr h) = h
@@ -133,7 +112,7 @@ pub seconds_apart : (fs : List Follower) (ts : List Placed) (f : MeaningFault) �
 seconds_apart [] ts f h b = b
 seconds_apart (Many k ∷ fs) ts f h b = seconds_apart fs ts f h b
 seconds_apart (One k ∷ fs) ts f h (inl b) =
-    let l : length (those_of k ts) ≡ length (those k (map bare ts)) = sym (map_length bare (those_of k ts)) ∙ ap length (filter_bare (has_keyword k) ts) in
+    let l : length (those_of k ts) ≡ length (those k (map bare ts)) = sym (length-map (those_of k ts) bare) ∙ ap length (filter_bare (has_keyword k) ts) in
     let m : length (those k (map bare ts)) ≤ 1 = h.0 in
     none_of_two (λ x y. f ≡ second k x y) (those_of k ts) (omega (arith, l, m)) b
 seconds_apart (One k ∷ fs) ts f h (inr b) = seconds_apart fs ts f h.1 b
@@ -209,7 +188,7 @@ after_length M before (t ∷ ts) [] h = absurd h
 after_length M before (t ∷ ts) (x ∷ xs) h = ap suc (after_length M (before ++ x ∷ []) ts xs h.1)
 
 pub beyond_apart : (limit : ℕ) (ts : List Placed) (f : MeaningFault) → length ts ≤ limit → Beyond limit ts f → ⊥
-beyond_apart limit ts f l b = let m : limit < length ts = get_below ts limit b.0 b.1 in omega (arith, l, m)
+beyond_apart limit ts f l b = let m : limit < length ts = slice_get_within ts limit b.0 b.1 in omega (arith, l, m)
 
 -- Lists whose elements differ, by recursion.
 abbrev pub Differ : {A : Type 0} → List A → Type 0

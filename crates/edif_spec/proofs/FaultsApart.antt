@@ -4,6 +4,8 @@ use Rattle.std.proofs.lemmas.Bool.Decides.{nat_tests}
 use Rattle.std.specs.Prelude.{IsTrue, cond, ◌&&◌, ◌||◌, nat_le, slice_get, IfSome, sum_by, FitsSigned, unwrap_or}
 use Rattle.std.specs.Int.{w32}
 use Rattle.std.specs.List.{AllZip, AllByRecursion, fold}
+use Rattle.std.proofs.lemmas.Bool.{or_right, or_left}
+use Rattle.std.proofs.lemmas.List.{length-map}
 use Rattle.netlist_schema.specs.Names.{AreDistinct, HasDistinctKeys}
 use Rattle.netlist_schema.specs.Design.{port_width}
 use Rattle.spelling_spec.specs.Tree.{Bare, Placed, Form', Word', Integer', String', End, More, form, word, integer, string, bare, bares}
@@ -25,7 +27,7 @@ use Rattle.netlist_schema.specs.declared.property.Num.TheVariants as numbers
 use Rattle.netlist_schema.specs.declared.property.Value.TheVariants as values
 use Rattle.netlist_schema.specs.declared.cell.Direction.TheVariants as directions
 use Rattle.edif_spec.proofs.Groups.{same_left}
-use Rattle.edif_spec.proofs.FaultForms.{part_is, part_there, parts_are, row_apart, each_apart, perhaps_apart, each_length, map_length, beyond_apart, each_with, IsNamed, repeats_apart}
+use Rattle.edif_spec.proofs.FaultForms.{part_is, part_there, parts_are, row_apart, each_apart, perhaps_apart, each_length, beyond_apart, each_with, IsNamed, repeats_apart}
 
 -- a form that means something has its keyword
 pub keyword_of : (k : Keyword) (t : Bare) (fixed inner : List Bare) → IsFormOf k t fixed inner → has_keyword k t ≡ true
@@ -188,18 +190,10 @@ word_apart fine kind u w f e h b =
     let d : word b.0 ≡ word w = sym (ap bare b.2) ∙ e in let c : b.0 ≡ w = cc d in
     let yes' : fine b.0 ≡ true = ap fine c ∙ h in let no' : fine b.0 ≡ false = b.3 in absurd (cc)
 
-pub or_second : (a b : Bool) → b ≡ true → (a || b) ≡ true
-or_second true b e = refl
-or_second false b e = e
-
-pub or_first : (a b : Bool) → a ≡ true → (a || b) ≡ true
-or_first true b e = refl
-or_first false b e = absurd (cc e)
-
 one_of_three : (a b c : Bool) → (a ≡ true) ⊎ ((b ≡ true) ⊎ (c ≡ true)) → (a || (b || c)) ≡ true
-one_of_three a b c (inl e) = or_first a (b || c) e
-one_of_three a b c (inr (inl e)) = or_second a (b || c) (or_first b c e)
-one_of_three a b c (inr (inr e)) = or_second a (b || c) (or_second b c e)
+one_of_three a b c (inl e) = or_left a (b || c) e
+one_of_three a b c (inr (inl e)) = or_right a (b || c) (or_left b c e)
+one_of_three a b c (inr (inr e)) = or_right a (b || c) (or_right b c e)
 
 pub three : (w : List ℕ) (x y z : List ℕ) → (same w x ≡ true) ⊎ ((same w y ≡ true) ⊎ (same w z ≡ true)) → (same w x || (same w y || same w z)) ≡ true
 three w x y z h = one_of_three (same w x) (same w y) (same w z) h
@@ -304,7 +298,7 @@ pub record FineInterface (c : design.CellBody) : Type 0 where
 pub interface_apart : (t : Placed) (c : design.CellBody) (f : MeaningFault) → MeansInterface (bare t) c → FineInterface c → InterfaceFault t f → ⊥
 interface_apart t c f h v b =
     let e : map bare (ports_in t) ≡ those keywords.Port h.inner = parts_are keywords.Interface keywords.Port t [] h.inner h.form in
-    let l : length (ports_in t) ≡ length c.ports = sym (map_length bare (ports_in t)) ∙ (ap length e ∙ each_length MeansPort (those keywords.Port h.inner) c.ports h.ports) in
+    let l : length (ports_in t) ≡ length c.ports = sym (length-map (ports_in t) bare) ∙ (ap length e ∙ each_length MeansPort (those keywords.Port h.inner) c.ports h.ports) in
     go e l b
   where
     go : map bare (ports_in t) ≡ those keywords.Port h.inner → length (ports_in t) ≡ length c.ports → InterfaceFault t f → ⊥

@@ -4,9 +4,12 @@ use Rattle.std.specs.Prelude.{IsTrue, cond, filter, slice_get, IfSome, take, dro
 use Rattle.std.specs.List.{AllByRecursion, list_all}
 use Rattle.std.specs.Option.{option_map_or}
 use Rattle.std.proofs.lemmas.List.Elements.{recursion_from_All}
+use Rattle.std.proofs.lemmas.Bool.{or_left}
+use Rattle.std.proofs.lemmas.List.{length-map}
 use Rattle.netlist_schema.specs.Hierarchy.{IsCell}
 use Rattle.netlist_schema.specs.Names.{AreDistinct, HasDistinctKeys, note_key, cell_names}
 use Rattle.netlist_schema.specs.Valid.{IsValid}
+use Rattle.netlist_schema.proofs.Lists.{map_drop, get_mapped, all_at, all_from_places}
 use Rattle.spelling_spec.specs.Tree.{Bare, Placed, form, word, integer, bare}
 use Rattle.edif_spec.specs.Keyword.{same, spelling_of, the}
 use Rattle.edif_spec.specs.Rows.{has_keyword, those, is_one_of, is_follower, IsFormOf, EachAfter}
@@ -23,11 +26,9 @@ use Rattle.edif_spec.specs.declared.fault.Kind.TheVariants.{BadLevel, BadVersion
 use Rattle.edif_spec.specs.declared.fault.MeaningFault.{MeaningFault}
 use Rattle.edif_spec.proofs.Once.{each_after_once, name_once}
 use Rattle.edif_spec.proofs.OnceFile.{cell_ref_once, cell_once, library_once, path_once}
-use Rattle.edif_spec.proofs.FromValid.{all_at, all_by_place}
-use Rattle.edif_spec.proofs.FaultForms.{part_is, parts_are, followers_are, row_apart, each_apart, perhaps_apart, after_apart, each_length, after_length, map_length, map_drop, filter_bare, beyond_apart, each_with, after_with, IsNamed, repeats_apart, two_apart, differ, arguments_of_form, fixed_apart, followers_apart, first_same}
-use Rattle.edif_spec.proofs.FaultsApart.{keyword_of, other_form, or_first, name_apart, property_apart, properties_apart, property_named, form_named, free_all}
+use Rattle.edif_spec.proofs.FaultForms.{part_is, parts_are, followers_are, row_apart, each_apart, perhaps_apart, after_apart, each_length, after_length, filter_bare, beyond_apart, each_with, after_with, IsNamed, repeats_apart, two_apart, differ, arguments_of_form, fixed_apart, followers_apart, first_same}
+use Rattle.edif_spec.proofs.FaultsApart.{keyword_of, other_form, name_apart, property_apart, properties_apart, property_named, form_named, free_all}
 use Rattle.edif_spec.proofs.CellFaultsApart.{cell_ref_apart, cell_apart, cell_named, FineCell}
-use Rattle.edif_spec.proofs.Scopes.{get_map}
 
 -- numbers
 value_apart : (wanted : ℤ) (kind : Kind) (u : Placed) (f : MeaningFault) → bare u ≡ integer wanted → ValueFault wanted kind u f → ⊥
@@ -97,7 +98,7 @@ library_apart before t l f h v b = go (cells_are l.head.external t h.name_part h
         (after_with (λ cells. MeansCell (before ++ record { head = l.head; cells = cells } ∷ []) (Some (length before))) (λ u c. IsNamed u c.name.id) (λ cells u c m. cell_named (before ++ record { head = l.head; cells = cells } ∷ []) (Some (length before)) u c m)
         [] (cells_in t) (those keywords.Cell h.inner) l.cells e h.cells) v.names b
     go e (stands.many_cells b) =
-        let n : length (cells_in t) ≡ length l.cells = sym (map_length bare (cells_in t)) ∙ (ap length e ∙ after_length (λ cells. MeansCell (before ++ record { head = l.head; cells = cells } ∷ []) (Some (length before))) [] (those keywords.Cell h.inner) l.cells h.cells) in
+        let n : length (cells_in t) ≡ length l.cells = sym (length-map (cells_in t) bare) ∙ (ap length e ∙ after_length (λ cells. MeansCell (before ++ record { head = l.head; cells = cells } ∷ []) (Some (length before))) [] (those keywords.Cell h.inner) l.cells h.cells) in
         let k : length l.cells ≤ 65536 = v.count in beyond_apart 65536 (cells_in t) f (omega (arith, n, k)) b
 
 pub library_named : (before : List design.Lib) (t : Placed) (l : design.Lib) → MeansLibrary before (bare t) l → IsNamed t l.head.name.id
@@ -126,7 +127,7 @@ pub note_arguments : (libs : List design.Lib) (top : design.CellId) (t : Placed)
 note_arguments libs top t n h = arguments_of_form h.spelled t (word h.mark ∷ form (word h.path_word ∷ h.steps) ∷ h.property_part ∷ []) h.is
 
 argument_is : (t u : Placed) (bs : List Bare) (i : ℕ) (b : Bare) → map bare (arguments t) ≡ bs → slice_get (arguments t) i ≡ Some u → slice_get bs i ≡ Some b → bare u ≡ b
-argument_is t u bs i b e g k = let w : Some (bare u) ≡ Some b = sym (get_map bare (arguments t) i u g) ∙ (ap (λ v. slice_get v i) e ∙ k) in cc w
+argument_is t u bs i b e g k = let w : Some (bare u) ≡ Some b = sym (get_mapped bare (arguments t) i u g) ∙ (ap (λ v. slice_get v i) e ∙ k) in cc w
 
 pub note_path : (libs : List design.Lib) (top : design.CellId) (t u : Placed) (n : design.Note) → MeansNote libs top (bare t) n → slice_get (arguments t) 1 ≡ Some u → MeansPath libs top (map bare (arguments u)) n.path
 note_path libs top t u n h e =
@@ -162,8 +163,8 @@ path_apart libs top t ns f l h (stands.bad_step b) = steps_apart libs top (argum
 
 note_apart : (libs : List design.Lib) (top : design.CellId) (t : Placed) (n : design.Note) (f : MeaningFault) → MeansNote libs top (bare t) n → NoteFault libs top t f → ⊥
 note_apart libs top t n f h (stands.note_part b) =
-    let path_fits : is_one_of (the keywords.Path) (form (word h.path_word ∷ h.steps)) ≡ true = or_first (same h.path_word (spelling_of keywords.Path)) false h.path_keyword in
-    let property_fits : is_one_of (the keywords.Property) h.property_part ≡ true = or_first (has_keyword keywords.Property h.property_part) false (keyword_of keywords.Property h.property_part (h.property.key_part ∷ h.property.value_part ∷ []) h.property.inner h.property.form) in
+    let path_fits : is_one_of (the keywords.Path) (form (word h.path_word ∷ h.steps)) ≡ true = or_left (same h.path_word (spelling_of keywords.Path)) false h.path_keyword in
+    let property_fits : is_one_of (the keywords.Property) h.property_part ≡ true = or_left (has_keyword keywords.Property h.property_part) false (keyword_of keywords.Property h.property_part (h.property.key_part ∷ h.property.value_part ∷ []) h.property.inner h.property.form) in
     fixed_apart bad_form (place_of t) note_parts (arguments t) (word h.mark ∷ form (word h.path_word ∷ h.steps) ∷ h.property_part ∷ []) [] f (note_arguments libs top t n h) (refl, (path_fits, (property_fits, tt))) b
 note_apart libs top t n f h (stands.note_surplus b) =
     let rest : map bare (drop 3 (arguments t)) ≡ [] = map_drop bare 3 (arguments t) ∙ ap (drop 3) (note_arguments libs top t n h) in
@@ -219,7 +220,7 @@ design_apart libs notes t d f h v (stands.design_notes (stands.note_again top m 
     (each_with (MeansNote libs d.cell) (λ u n. HasKey libs d.cell u (note_key n)) (λ u n q. (n, q, refl)) (notes_in t) (filter is_note h.inner) notes (notes_are libs notes t d h) h.noted) (differ (map note_key notes) v.differ)
     (subst (λ w. AtTwo (SameNote libs w f) (notes_in t)) i b)
 design_apart libs notes t d f h v (stands.many_notes b) =
-    let l : length (notes_in t) ≡ length notes = sym (map_length bare (notes_in t)) ∙ (ap length (notes_are libs notes t d h) ∙ each_length (MeansNote libs d.cell) (filter is_note h.inner) notes h.noted) in
+    let l : length (notes_in t) ≡ length notes = sym (length-map (notes_in t) bare) ∙ (ap length (notes_are libs notes t d h) ∙ each_length (MeansNote libs d.cell) (filter is_note h.inner) notes h.noted) in
     let k : length notes ≤ 1048576 = v.count in beyond_apart 1048576 (notes_in t) f (omega (arith, l, k)) b
 
 -- what stands before the design
@@ -251,7 +252,7 @@ front_after M before (t ∷ ts) us (x ∷ xs) h = (h.0, front_after M (before ++
 -- what a valid design owes to each part
 fine_library : (d : design.Design) (i : ℕ) (l : design.Lib) → IsValid d → slice_get d.libs i ≡ Some l → FineLibrary l
 fine_library d i l v e = record {
-  cells = all_by_place FineCell l.cells (λ j c g. let k = v.cells (record { lib = record { 0 = i }; slot = j }) c (ap (λ (o : Option design.Lib). slice_get (option_map_or (λ lib. lib.cells) o []) j) e ∙ g) in record { limits = k.limits; names = k.names; joined_once = k.joined_once });
+  cells = all_from_places FineCell l.cells (λ j c g. let k = v.cells (record { lib = record { 0 = i }; slot = j }) c (ap (λ (o : Option design.Lib). slice_get (option_map_or (λ lib. lib.cells) o []) j) e ∙ g) in record { limits = k.limits; names = k.names; joined_once = k.joined_once });
   names = all_at (λ (x : design.Lib). AreDistinct (cell_names x.cells)) d.libs i l (recursion_from_All (λ (x : design.Lib). AreDistinct (cell_names x.cells)) d.libs v.names.cells) e;
   count = all_at (λ (x : design.Lib). length x.cells ≤ 65536) d.libs i l (recursion_from_All (λ (x : design.Lib). length x.cells ≤ 65536) d.libs v.limits.cells) e;
 }
@@ -280,11 +281,11 @@ file_apart t d f h b =
     go e (stands.edif_level b) = level_apart keywords.EdifLevel b.0 f (subst (IsLevel keywords.EdifLevel) (sym (part_is keywords.Edif t (h.name_part ∷ h.version_part ∷ h.level_part ∷ h.map_part ∷ []) h.inner 2 b.0 h.level_part h.form b.1 refl)) h.level) b.3
     go e (stands.edif_map b) = map_apart b.0 h.keyword_level_part h.map_inner f (subst (λ u. IsFormOf keywords.KeywordMap u (h.keyword_level_part ∷ []) h.map_inner) (sym (part_is keywords.Edif t (h.name_part ∷ h.version_part ∷ h.level_part ∷ h.map_part ∷ []) h.inner 3 b.0 h.map_part h.form b.1 refl)) h.keyword_map) h.keyword_level b.3
     go e (stands.edif_library b) = after_apart MeansLibrary FineLibrary LibraryFault f (λ before u l m q k. library_apart before u l f m q k) library_once [] (libraries (followers keywords.Edif t)) (filter is_library h.inner) d.libs e h.libs
-        (all_by_place FineLibrary d.libs (λ i l g. fine_library d i l h.valid g)) b
+        (all_from_places FineLibrary d.libs (λ i l g. fine_library d i l h.valid g)) b
     go e (stands.library_again b) = repeats_apart (λ (l : design.Lib). l.head.name.id) f (libraries (followers keywords.Edif t)) d.libs
         (after_with MeansLibrary (λ u l. IsNamed u l.head.name.id) library_named [] (libraries (followers keywords.Edif t)) (filter is_library h.inner) d.libs e h.libs) h.valid.names.libs b
     go e (stands.many_libraries b) =
-        let n : length (libraries (followers keywords.Edif t)) ≡ length d.libs = sym (map_length bare (libraries (followers keywords.Edif t))) ∙ (ap length e ∙ after_length MeansLibrary [] (filter is_library h.inner) d.libs h.libs) in
+        let n : length (libraries (followers keywords.Edif t)) ≡ length d.libs = sym (length-map (libraries (followers keywords.Edif t)) bare) ∙ (ap length e ∙ after_length MeansLibrary [] (filter is_library h.inner) d.libs h.libs) in
         let k : length d.libs ≤ 1024 = h.valid.limits.libs in beyond_apart 1024 (libraries (followers keywords.Edif t)) f (omega (arith, n, k)) b
     go e (stands.edif_design b) =
         let ts = followers keywords.Edif t in

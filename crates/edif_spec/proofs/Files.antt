@@ -1,9 +1,10 @@
 -- The canonical tree of a whole design.
-use Rattle.std.proofs.Common.{◌≡◌, suc, pos, List, [], ◌∷◌, ◌++◌, map, length, take, refl, ap, sym, ◌∙◌, subst, Bool, true, false, Option, Some, None, append-nil}
+use Rattle.std.proofs.Common.{◌≡◌, pos, List, [], ◌∷◌, ◌++◌, map, length, take, refl, ap, sym, ◌∙◌, subst, Bool, true, false, Option, Some, None, append-nil}
 use Rattle.std.specs.Prelude.{IsTrue, filter, codes}
 use Rattle.std.specs.List.{list_all}
 use Rattle.std.proofs.lemmas.List.Elements.{filter-append}
 use Rattle.std.proofs.Math.Seq.{take-length}
+use Rattle.std.proofs.lemmas.List.{length-map}
 use Rattle.spelling_spec.specs.Tree.{Bare, form, word, integer}
 use Rattle.edif_spec.specs.Keyword.{Follower, Many, One, name_definition}
 use Rattle.edif_spec.specs.Rows.{has_keyword, those, is_follower, is_one_of, IsFormOf, Perhaps, EachAfter}
@@ -67,10 +68,6 @@ front f g [] None h k = refl
 front f g [] (Some y) h k = rw (k y) refl
 front f g (x ∷ xs) o h k = rw (h x) (ap (λ v. f x ∷ v) (front f g xs o h k))
 
-length_map : {A B : Type 0} (f : A → B) (xs : List A) → length (map f xs) ≡ length xs
-length_map f [] = refl
-length_map f (x ∷ xs) = ap suc (length_map f xs)
-
 -- The design's part of the file.
 pub record FileMeant (d : design.Design) : Type 0 where
   pub libs : AllAfter (λ before l. AllAfter (CellMeant d.libs before l.head) [] l.cells) [] d.libs
@@ -91,7 +88,7 @@ file_meant d h =
     let all_before : libs_before_design (libs ++ tops) d.libs ≡ d.libs =
     ap (λ v. take (length (filter is_library v)) d.libs) (front (library_tree d.libs) (design_tree d.libs d.notes) d.libs d.top (library_test d.libs (has_keyword keywords.Design) false (λ a. (refl, refl))) (λ y. refl))
     ∙ (ap (λ v. take (length v) d.libs) (all_kept is_library (library_tree d.libs) d.libs (library_test d.libs is_library true (λ a. (refl, refl))))
-    ∙ (ap (λ n. take n d.libs) (length_map (library_tree d.libs) d.libs) ∙ take-length d.libs)) in
+    ∙ (ap (λ n. take n d.libs) (length-map d.libs (library_tree d.libs)) ∙ take-length d.libs)) in
     let P : List design.Lib → Type 0 = λ v. Perhaps (MeansDesign v d.notes) tops d.top in
     record {
       name_part = name_tree d.title;

@@ -1,14 +1,12 @@
 -- The tree of a valid design can be written, and is not deep.
-use Rattle.std.proofs.Common.{◌≡◌, ℕ, suc, ◌<◌, ◌≤◌, ◌^◌, max, ℤ, pos, negsuc, List, [], ◌∷◌, ◌++◌, map, length, refl, ap, sym, ◌∙◌, subst, Bool, true, false, not, Option, Some, None, arith, slice_get, slice_index_or}
+use Rattle.std.proofs.Common.{◌≡◌, ℕ, suc, ◌<◌, ◌≤◌, ◌^◌, max, ℤ, pos, negsuc, List, [], ◌∷◌, ◌++◌, map, refl, ap, sym, ◌∙◌, subst, Bool, true, false, Option, Some, None, arith, slice_get, slice_index_or}
 use Rattle.std.specs.Prelude.{IfSome, IsSome, IsSomeAnd, codes, option_map, unwrap_or, FitsSigned}
 use Rattle.std.specs.Int.{w32, w64}
-use Rattle.std.specs.List.{All, AllByRecursion, list_all, flat_map}
+use Rattle.std.specs.List.{All, AllByRecursion, flat_map}
 use Rattle.std.specs.Option.{option_map_or}
-use Rattle.std.proofs.lemmas.Bool.{and_parts}
 use Rattle.std.proofs.lemmas.List.Elements.{recursion_from_All}
-use Rattle.std.proofs.lemmas.List.Recursion.{and_at}
 use Rattle.netlist_schema.specs.Design.{insts_in, nets_in}
-use Rattle.netlist_schema.specs.Ident.{is_identifier_byte, IsIdentifier}
+use Rattle.netlist_schema.specs.Ident.{IsIdentifier}
 use Rattle.netlist_schema.specs.Hierarchy.{IsCell}
 use Rattle.netlist_schema.specs.Names.{HasDistinctKeys}
 use Rattle.netlist_schema.specs.Typed.{IsBytes, IsTypedNum, IsTypedValue, IsTypedName, IsTypedProperty, IsTypedPort, IsTypedInst, IsTypedNet, IsTypedCell, IsTypedNote}
@@ -19,9 +17,12 @@ use Rattle.netlist_schema.specs.declared.cell.Direction.TheVariants as direction
 use Rattle.netlist_schema.specs.declared.property.Num.TheVariants as numbers
 use Rattle.netlist_schema.specs.declared.property.Value.TheVariants as values
 use Rattle.netlist_schema.proofs.Cells.{All-slice_get, All-cell_at}
-use Rattle.spelling_spec.specs.Names.{is_empty, is_name}
+use Rattle.netlist_schema.proofs.Lists.{all_weaker, all_at, all_from_places, some_of}
+use Rattle.spelling_spec.specs.Names.{is_name}
 use Rattle.spelling_spec.specs.Spelling.{Spells}
 use Rattle.spelling_spec.specs.Tree.{Bare, form, word, integer, string, trees, depth, depths}
+use Rattle.spelling_spec.proofs.RowLemmas.{identifier-from_is_name}
+use Rattle.edif_spec.proofs.ArrangeOrder.{zip_all}
 use Rattle.edif_spec.specs.Canonical.{make, perhaps, name_tree, name_with, number_tree, boolean_tree, value_tree, text_tree, property_tree, direction_word, direction_tree, port_name_tree, port_tree, cell_ref_tree, inst_tree, ports_of_end, bit_tree, bits_tree, end_tree, net_tree, contents_tree, kind_word, interface_tree, view_tree, cell_tree, zero_tree, library_keyword, library_tree, note_tree, design_tree, tree_of, text_as_listed}
 use Rattle.edif_spec.specs.Design as design
 use Rattle.edif_spec.specs.Nets.{NetForm, Stretch, net_forms}
@@ -29,19 +30,9 @@ use Rattle.edif_spec.specs.Keyword.{spelling_of}
 use Rattle.edif_spec.specs.Writable.{IsWritable, AreWritable}
 use Rattle.edif_spec.specs.declared.keyword.Keyword.{Keyword}
 use Rattle.edif_spec.specs.declared.keyword.Keyword.TheVariants as keywords
-use Rattle.edif_spec.proofs.CellPlaces.{some_of, lib_of_cell, all_at, some_and, all_from_places, all_append_parts}
+use Rattle.edif_spec.proofs.CellPlaces.{lib_of_cell, some_and, all_append_parts}
 use Rattle.edif_spec.proofs.Layouts.{layout_spells}
 use Rattle.edif_spec.proofs.WrittenNets.{Covers, HasPort, IsPlacedForm, IsPlacedStretch, forms_named, forms_placed, forms_properties}
-
--- a name that passes the test is an identifier
-identifier : (w : List ℕ) → is_name w ≡ true → IsIdentifier w
-identifier w h =
-    let p = and_parts (not (is_empty w)) (list_all is_identifier_byte w) h in
-    (some w p.0, λ k d l. and_at (list_all is_identifier_byte) is_identifier_byte refl (λ _ _. refl) w k d l p.1)
-  where
-    some : (w : List ℕ) → not (is_empty w) ≡ true → 0 < length w
-    some [] h = absurd (cc h)
-    some (b ∷ w) h = omega arith
 
 keyword_is_name : (k : Keyword) → is_name (spelling_of k) ≡ true
 keyword_is_name keywords.Edif = refl
@@ -59,7 +50,7 @@ fine_list n [] h = (tt, omega arith)
 fine_list n (t ∷ ts) h = let r = fine_list n ts h.1 in ((h.0.0, r.0), (let a : depth t ≤ n = h.0.1 in let b : depths (trees ts) ≤ n = r.1 in let c : max (depth t) (depths (trees ts)) ≤ n = omega arith in c))
 
 fine_form : (n : ℕ) (k : Keyword) (ts : List Bare) → FineAll n ts → Fine (suc n) (make k ts)
-fine_form n k ts h = let r = fine_list n ts h in ((identifier (spelling_of k) (keyword_is_name k), r.0), (let b : depths (trees ts) ≤ n = r.1 in let c : suc (max 0 (depths (trees ts))) ≤ suc n = omega arith in c))
+fine_form n k ts h = let r = fine_list n ts h in ((identifier-from_is_name (spelling_of k) (keyword_is_name k), r.0), (let b : depths (trees ts) ≤ n = r.1 in let c : suc (max 0 (depths (trees ts))) ≤ suc n = omega arith in c))
 
 fine_word : (n : ℕ) (w : List ℕ) → IsIdentifier w → Fine n (word w)
 fine_word n w h = (h, omega arith)
@@ -96,7 +87,7 @@ fine_name name h = go name.shown h.shown
     go (Some s) k = fine_form 0 keywords.Rename (word name.id ∷ string s ∷ []) (fine_word 0 name.id h.id, (fine_string 0 s k, tt))
 
 -- a number of 32 bits fits 64 bits
-wide : (z : ℤ) → FitsSigned w32 z → FitsSigned w64 z
+pub wide : (z : ℤ) → FitsSigned w32 z → FitsSigned w64 z
 wide (pos n) h = let b : n < 2 ^ 31 = h.sfits in record { sfits = omega arith }
 wide (negsuc n) h = let b : n < 2 ^ 31 = h.sfits in record { sfits = omega arith }
 
@@ -128,7 +119,7 @@ fine_properties : (n : ℕ) (ps : List design.Property) → 3 ≤ n → All IsTy
 fine_properties n ps l h = fine_map IsTypedProperty n property_tree ps (recursion_from_All IsTypedProperty ps h) (λ p v. fine_more 3 n (property_tree p) l (fine_property p v))
 
 fine_direction : (d : design.Direction) → Fine 3 (direction_tree d)
-fine_direction d = fine_form 2 keywords.Direction (word (direction_word d) ∷ []) (fine_word 2 (direction_word d) (identifier (direction_word d) (is_word d)), tt)
+fine_direction d = fine_form 2 keywords.Direction (word (direction_word d) ∷ []) (fine_word 2 (direction_word d) (identifier-from_is_name (direction_word d) (is_word d)), tt)
   where
     is_word : (d : design.Direction) → is_name (direction_word d) ≡ true
     is_word directions.Input = refl
@@ -260,10 +251,6 @@ fine_end libs own insts array s n t k h =
     fine_form 1 keywords.PortRef (bits_tree array (slice_get ports s.port) s.first ∷ perhaps (λ i. make keywords.InstanceRef (word (design.inst_id insts i) ∷ [])) s.inst)
     (subst F tree (fine_bits array p s q h.0.covers), subst (λ (o : Option ℕ). FineAll 1 (perhaps (λ i. make keywords.InstanceRef (word (design.inst_id insts i) ∷ [])) o)) h.1.1 (end_inst libs own insts e.inst e.port e.bit k h.1.2))
 
-zip_all : {A : Type 0} (P Q : A → Type 0) (xs : List A) → AllByRecursion P xs → AllByRecursion Q xs → AllByRecursion (λ x. P x × Q x) xs
-zip_all P Q [] h k = tt
-zip_all P Q (x ∷ xs) h k = ((h.0, k.0), zip_all P Q xs h.1 k.1)
-
 -- a net of the right types, whose ends are there
 abbrev IsFineNet : List design.Lib → List design.Port → List design.Inst → design.Net → Type 0
 IsFineNet libs own insts x = IsTypedNet x × AllByRecursion (IsFineEnd libs own insts) x.ends
@@ -291,18 +278,14 @@ forms_fine : (libs : List design.Lib) (own : List design.Port) (insts : List des
 forms_fine libs own insts [] h k g = tt
 forms_fine libs own insts (f ∷ fs) h k g = (record { placed = h.0; name = k.0; properties = g.0 }, forms_fine libs own insts fs h.1 k.1 g.1)
 
-each_weaker : {A : Type 0} (P Q : A → Type 0) (xs : List A) → ((x : A) → P x → Q x) → AllByRecursion P xs → AllByRecursion Q xs
-each_weaker P Q [] f h = tt
-each_weaker P Q (x ∷ xs) f h = (f x h.0, each_weaker P Q xs f h.1)
-
 written_fine : (libs : List design.Lib) (own : List design.Port) (insts : List design.Inst) (nets : List design.Net) → AreNamed libs → AllByRecursion IsTypedPort own → AllByRecursion (IsFineNet libs own insts) nets → AllByRecursion (IsFineForm libs own insts) (net_forms (ports_of_end libs own insts) nets)
 written_fine libs own insts nets n t h =
     forms_fine libs own insts (net_forms (ports_of_end libs own insts) nets)
     (forms_placed (ports_of_end libs own insts) (IsFineEnd libs own insts) 0 nets
-    (each_weaker (IsFineNet libs own insts) (λ (x : design.Net). AllByRecursion (HasPort (ports_of_end libs own insts)) x.ends) nets (λ x w. each_weaker (IsFineEnd libs own insts) (HasPort (ports_of_end libs own insts)) x.ends (λ e v. has_port libs own insts e n t v) w.1) h)
-    (each_weaker (IsFineNet libs own insts) (λ (x : design.Net). AllByRecursion (IsFineEnd libs own insts) x.ends) nets (λ x w. w.1) h))
-    (forms_named (ports_of_end libs own insts) 0 nets (each_weaker (IsFineNet libs own insts) (λ (x : design.Net). IsTypedName x.name) nets (λ x w. w.0.name) h))
-    (forms_properties (ports_of_end libs own insts) (λ ps. All IsTypedProperty ps) 0 nets (each_weaker (IsFineNet libs own insts) (λ (x : design.Net). All IsTypedProperty x.properties) nets (λ x w. w.0.properties) h))
+    (all_weaker (IsFineNet libs own insts) (λ (x : design.Net). AllByRecursion (HasPort (ports_of_end libs own insts)) x.ends) nets (λ x w. all_weaker (IsFineEnd libs own insts) (HasPort (ports_of_end libs own insts)) x.ends (λ e v. has_port libs own insts e n t v) w.1) h)
+    (all_weaker (IsFineNet libs own insts) (λ (x : design.Net). AllByRecursion (IsFineEnd libs own insts) x.ends) nets (λ x w. w.1) h))
+    (forms_named (ports_of_end libs own insts) 0 nets (all_weaker (IsFineNet libs own insts) (λ (x : design.Net). IsTypedName x.name) nets (λ x w. w.0.name) h))
+    (forms_properties (ports_of_end libs own insts) (λ ps. All IsTypedProperty ps) 0 nets (all_weaker (IsFineNet libs own insts) (λ (x : design.Net). All IsTypedProperty x.properties) nets (λ x w. w.0.properties) h))
 
 fine_contents : (libs : List design.Lib) (own : List design.Port) (c : design.Contents) → AreNamed libs → AllByRecursion IsTypedPort own → AllByRecursion (IsFineInst libs) c.insts → AllByRecursion IsTypedInst c.insts → AllByRecursion (IsFineNet libs own c.insts) c.nets → Fine 5 (contents_tree libs own c)
 fine_contents libs own c n t i k x =
@@ -322,7 +305,7 @@ fine_inside libs own None n t i k x = tt
 fine_inside libs own (Some c) n t i k x = (fine_contents libs own c n t i k x, tt)
 
 fine_kind : (k : design.CellKind) → Fine 7 (make keywords.CellType (word (kind_word k) ∷ []))
-fine_kind k = fine_form 6 keywords.CellType (word (kind_word k) ∷ []) (fine_word 6 (kind_word k) (identifier (kind_word k) (is_word k)), tt)
+fine_kind k = fine_form 6 keywords.CellType (word (kind_word k) ∷ []) (fine_word 6 (kind_word k) (identifier-from_is_name (kind_word k) (is_word k)), tt)
   where
     is_word : (k : design.CellKind) → is_name (kind_word k) ≡ true
     is_word kinds.Generic = refl
@@ -337,7 +320,7 @@ fine_view : (libs : List design.Lib) (c : design.CellBody) → AreNamed libs →
 fine_view libs c n h = fine_form 5 keywords.View (name_tree c.view ∷ make keywords.ViewType (word (codes "NETLIST") ∷ []) ∷ interface_tree c ∷ (map property_tree c.view_properties ++ perhaps (contents_tree libs c.ports) c.contents)) (
   fine_more 1 5 (name_tree c.view) (omega arith) (fine_name c.view h.typed.view),
   (
-    fine_form 4 keywords.ViewType (word (codes "NETLIST") ∷ []) (fine_word 4 (codes "NETLIST") (identifier (codes "NETLIST") refl), tt),
+    fine_form 4 keywords.ViewType (word (codes "NETLIST") ∷ []) (fine_word 4 (codes "NETLIST") (identifier-from_is_name (codes "NETLIST") refl), tt),
     (
       fine_interface c h.typed,
       fine_append 5 (map property_tree c.view_properties) (perhaps (contents_tree libs c.ports) c.contents) (fine_properties 5 c.view_properties (omega arith) h.typed.view_properties)
@@ -361,7 +344,7 @@ fine_library libs l n name cells = fine_form 8 (library_keyword l.head.external)
   (
     fine_zero 7 keywords.EdifLevel,
     (
-      fine_form 7 keywords.Technology (form (word (codes "numberDefinition") ∷ []) ∷ []) (((identifier (codes "numberDefinition") refl, tt), omega arith), tt),
+      fine_form 7 keywords.Technology (form (word (codes "numberDefinition") ∷ []) ∷ []) (((identifier-from_is_name (codes "numberDefinition") refl, tt), omega arith), tt),
       fine_map (IsFineCell libs) 8 (cell_tree libs) l.cells cells (λ c w. fine_cell libs c n w),
     ),
   ),
@@ -399,7 +382,7 @@ fine_path path h = fine_map IsIdentifier 0 word path h (fine_word 0)
 
 fine_note : (n : design.Note) → IsTypedNote n → Fine 4 (note_tree n)
 fine_note n h = fine_form 3 keywords.UserData (word (codes "netdb_note") ∷ make keywords.Path (map word n.path) ∷ property_tree n.property ∷ [])
-    (fine_word 3 (codes "netdb_note") (identifier (codes "netdb_note") refl), (fine_more 1 3 (make keywords.Path (map word n.path)) (omega arith) (fine_form 0 keywords.Path (map word n.path) (fine_path n.path (recursion_from_All IsIdentifier n.path h.path))), (fine_property n.property h.property, tt)))
+    (fine_word 3 (codes "netdb_note") (identifier-from_is_name (codes "netdb_note") refl), (fine_more 1 3 (make keywords.Path (map word n.path)) (omega arith) (fine_form 0 keywords.Path (map word n.path) (fine_path n.path (recursion_from_All IsIdentifier n.path h.path))), (fine_property n.property h.property, tt)))
 
 fine_top : (d : design.Design) (t : design.TopHead) → IsValid d → IsTypedName t.name × All IsTypedProperty t.properties → IsSome (design.cell_at d.libs t.cell) → Fine 5 (design_tree d.libs d.notes t)
 fine_top d t v h k = fine_form 4 keywords.Design (name_tree t.name ∷ cell_ref_tree d.libs t.cell ∷ (map property_tree t.properties ++ map note_tree d.notes)) (

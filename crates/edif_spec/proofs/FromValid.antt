@@ -1,5 +1,5 @@
 -- A valid design is valid by recursion on its lists.
-use Rattle.std.proofs.Common.{◌≡◌, ◌≢◌, ℕ, zero, suc, ◌<◌, List, [], ◌∷◌, ◌++◌, length, refl, ap, sym, ◌∙◌, subst, Bool, true, false, Option, Some, None, arith, slice_index_or}
+use Rattle.std.proofs.Common.{◌≡◌, ◌≢◌, ℕ, zero, suc, ◌<◌, List, [], ◌∷◌, length, refl, ap, sym, ◌∙◌, subst, Bool, true, false, Option, Some, None, arith, slice_index_or}
 use Rattle.std.specs.Prelude.{IfSome, IsSomeAnd, nat_eq, slice_get, option_map, unwrap_or}
 use Rattle.std.specs.List.{All, AllByRecursion, list_any, flat_map}
 use Rattle.std.specs.Option.{option_map_or}
@@ -10,6 +10,9 @@ use Rattle.netlist_schema.specs.Hierarchy.{IsCell, insts_at, Resolves}
 use Rattle.netlist_schema.specs.Names.{AreDistinct, HasDistinctKeys, cell_names}
 use Rattle.netlist_schema.specs.Typed.{IsTypedName, IsTypedProperty, IsTypedPort, IsTypedInst, IsTypedNet, IsTypedCell, IsTypedNote}
 use Rattle.netlist_schema.specs.Valid.{IsValid, IsValidCell, IsEndAt, IsEndOf, HasBit, IsNoteBelow}
+use Rattle.netlist_schema.proofs.Lists.{all_weaker, all_at, all_from_places}
+use Rattle.edif_spec.proofs.ArrangeOrder.{zip_all}
+use Rattle.edif_spec.proofs.CellPlaces.{all_append_parts}
 use Rattle.edif_spec.specs.Canonical.{ports_of_end}
 use Rattle.edif_spec.specs.Means.{equal}
 use Rattle.edif_spec.specs.Design as design
@@ -17,7 +20,7 @@ use Rattle.edif_spec.proofs.Both.{both}
 use Rattle.edif_spec.proofs.ValidForms.{distinct, ValidPort, ValidInst, ValidEnd, ValidNet, ValidContents, ValidCell, ValidLib, ValidPath, ValidNote, ValidRoot, Valid}
 
 -- Names that differ, as a test.
-equal_says : (m n : List ℕ) → equal m n ≡ true → m ≡ n
+pub equal_says : (m n : List ℕ) → equal m n ≡ true → m ≡ n
 equal_says [] [] h = refl
 equal_says [] (c ∷ n) h = absurd (cc h)
 equal_says (b ∷ m) [] h = absurd (cc h)
@@ -51,39 +54,17 @@ pub distinct_names : (ns : List (List ℕ)) → AreDistinct ns → distinct ns �
 distinct_names [] h = refl
 distinct_names (n ∷ ns) h = rw (none_equal n ns (recursion_from_All (λ m. n ≢ m) ns (differs_head n ns h))) (distinct_names ns (differs_tail n ns h))
 
--- Lists by their places.
-pub all_by_place : {A : Type 0} (P : A → Type 0) (xs : List A) → ((i : ℕ) (x : A) → slice_get xs i ≡ Some x → P x) → AllByRecursion P xs
-all_by_place P [] f = tt
-all_by_place P (x ∷ xs) f = (f 0 x refl, all_by_place P xs (λ i y e. f (suc i) y e))
-
-pub all_at : {A : Type 0} (P : A → Type 0) (xs : List A) (i : ℕ) (x : A) → AllByRecursion P xs → slice_get xs i ≡ Some x → P x
-all_at P [] i x h e = absurd (cc e)
-all_at {A} P (y ∷ xs) zero x h e = let w : y ≡ x = cc e in let Q : A → Type 0 = P in subst Q w h.0
-all_at P (y ∷ xs) (suc i) x h e = all_at P xs i x h.1 e
-
-pub weaker : {A : Type 0} (P Q : A → Type 0) (xs : List A) → ((x : A) → P x → Q x) → AllByRecursion P xs → AllByRecursion Q xs
-weaker P Q [] f h = tt
-weaker P Q (x ∷ xs) f h = (f x h.0, weaker P Q xs f h.1)
-
-pub both_all : {A : Type 0} (P Q : A → Type 0) (xs : List A) → AllByRecursion P xs → AllByRecursion Q xs → AllByRecursion (λ x. P x × Q x) xs
-both_all P Q [] h k = tt
-both_all P Q (x ∷ xs) h k = ((h.0, k.0), both_all P Q xs h.1 k.1)
-
 -- what holds of all elements, and what follows of each
 each_from : {A : Type 0} (P Q : A → Type 0) (xs : List A) → ((x : A) → P x → Q x) → All P xs → AllByRecursion Q xs
-each_from P Q xs f h = weaker P Q xs f (recursion_from_All P xs h)
+each_from P Q xs f h = all_weaker P Q xs f (recursion_from_All P xs h)
 
 both_from : {A : Type 0} (P Q R : A → Type 0) (xs : List A) → ((x : A) → P x → Q x → R x) → All P xs → All Q xs → AllByRecursion R xs
-both_from P Q R xs f h k = weaker (λ x. P x × Q x) R xs (λ x b. f x b.0 b.1) (both_all P Q xs (recursion_from_All P xs h) (recursion_from_All Q xs k))
+both_from P Q R xs f h k = all_weaker (λ x. P x × Q x) R xs (λ x b. f x b.0 b.1) (zip_all P Q xs (recursion_from_All P xs h) (recursion_from_All Q xs k))
 
 within : {A : Type 0} (xs : List A) (i : ℕ) (P : A → Type 0) → IsSomeAnd (slice_get xs i) P → i < length xs
 within [] i P h = absurd h
 within (x ∷ xs) zero P h = omega arith
 within (x ∷ xs) (suc i) P h = let l : i < length xs = within xs i P h in omega arith
-
-front_all : {A : Type 0} (P : A → Type 0) (xs ys : List A) → AllByRecursion P (xs ++ ys) → AllByRecursion P xs × AllByRecursion P ys
-front_all P [] ys h = (tt, h)
-front_all P (x ∷ xs) ys h = let r = front_all P xs ys h.1 in ((h.0, r.0), r.1)
 
 -- Cells.
 valid_port : (p : design.Port) → IsTypedPort p → ValidPort p
@@ -115,7 +96,7 @@ valid_end d body insts is e h = let r = valid_end_at d body insts is e.inst e.po
 valid_nets : (libs : List design.Lib) (ports : List design.Port) (insts : List design.Inst) (nets : List design.Net) → AllByRecursion IsTypedNet nets → AllByRecursion (ValidEnd libs ports insts) (flat_map (λ net. net.ends) nets) → AllByRecursion (ValidNet libs ports insts) nets
 valid_nets libs ports insts [] t h = tt
 valid_nets libs ports insts (n ∷ nets) t h =
-    let r = front_all (ValidEnd libs ports insts) n.ends (flat_map (λ net. net.ends) nets) h in
+    let r = all_append_parts (ValidEnd libs ports insts) n.ends (flat_map (λ net. net.ends) nets) h in
     (record { ends = r.0; properties = recursion_from_All IsTypedProperty n.properties t.0.properties }, valid_nets libs ports insts nets t.1 r.1)
 
 valid_contents : (d : design.Design) (id : design.CellId) (body : design.CellBody) (o : Option design.Contents) → body.contents ≡ o → IsTypedCell body → IsValidCell d id body → IfSome o (ValidContents d.libs body.ports)
@@ -156,7 +137,7 @@ valid_lib d i l v e =
     let typed : AllByRecursion IsTypedCell l.cells = recursion_from_All IsTypedCell l.cells (all_at (λ (x : design.Lib). All IsTypedCell x.cells) d.libs i l (recursion_from_All (λ (x : design.Lib). All IsTypedCell x.cells) d.libs v.typed.cells) e) in
     let names : AreDistinct (cell_names l.cells) = all_at (λ (x : design.Lib). AreDistinct (cell_names x.cells)) d.libs i l (recursion_from_All (λ (x : design.Lib). AreDistinct (cell_names x.cells)) d.libs v.names.cells) e in
     record {
-      cells = all_by_place (ValidCell d.libs) l.cells (λ j c f.
+      cells = all_from_places (ValidCell d.libs) l.cells (λ j c f.
           valid_cell d (place i j) c (all_at IsTypedCell l.cells j c typed f) (v.cells (place i j) c (ap (λ (o : Option design.Lib). slice_get (option_map_or (λ lib. lib.cells) o []) j) e ∙ f)));
       cell_names = distinct_names (cell_names l.cells) names;
     }
@@ -194,7 +175,7 @@ valid_root d (Some top) t c n m = record {
 -- a valid design
 pub from_valid : (d : design.Design) → IsValid d → Valid d
 from_valid d v = record {
-  libs = all_by_place (ValidLib d.libs) d.libs (λ i l e. valid_lib d i l v e);
+  libs = all_from_places (ValidLib d.libs) d.libs (λ i l e. valid_lib d i l v e);
   lib_names = distinct_names (design.lib_ids d.libs) v.names.libs;
   root = valid_root d d.top v.typed.top v.top v.notes v.typed.notes;
   valid = v;

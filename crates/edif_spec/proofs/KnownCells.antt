@@ -4,6 +4,8 @@ use Rattle.std.specs.Prelude.{IsTrue, cond, ◌||◌, IfSome, nat_lt}
 use Rattle.std.specs.List.{AllZip, AllByRecursion, All, flat_map}
 use Rattle.std.proofs.lemmas.List.Elements.{All-from_recursion, recursion_from_All}
 use Rattle.std.proofs.lemmas.Bool.Decides.{nat_tests}
+use Rattle.std.proofs.lemmas.Bool.{cases_Bool, or_cases}
+use Rattle.std.proofs.lemmas.List.{length-map}
 use Rattle.netlist_schema.specs.Design.{insts_of, nets_of as nets_of_cell, insts_in as insts_inside, nets_in as nets_inside}
 use Rattle.netlist_schema.specs.Names.{AreDistinct, HasDistinctKeys}
 use Rattle.netlist_schema.specs.Typed.{IsBytes, IsTypedName, IsTypedProperty, IsTypedPort, IsTypedInst, IsTypedNet, IsTypedContents, IsTypedCell}
@@ -24,11 +26,11 @@ use Rattle.edif_spec.specs.declared.fault.Kind.TheVariants.{BadForm, NotNetlist,
 use Rattle.edif_spec.specs.declared.fault.ClashKind.TheVariants.{Duplicate, EndTwice}
 use Rattle.edif_spec.specs.declared.fault.MeaningFault.TheVariants.{At, Clash}
 use Rattle.netlist_schema.specs.declared.cell.CellKind.TheVariants as kinds
-use Rattle.edif_spec.proofs.FaultForms.{filter_bare, map_length, part_there, each_with, IsNamed}
+use Rattle.edif_spec.proofs.FaultForms.{filter_bare, part_there, each_with, IsNamed}
 use Rattle.edif_spec.proofs.CellFaultsApart.{all_kept, ends_of_form, inst_named, zip_flat, zip_length, FineContents, FineCell}
 use Rattle.edif_spec.proofs.RowForms.{GivesName, ends_counted, net_names_are, nets_counted, row_ends_of, rows_fine}
 use Rattle.edif_spec.proofs.FaultsApart.{FineInterface}
-use Rattle.edif_spec.proofs.KnownForms.{Faulty, test, Written, IsOf, Meant, beyond_known, names_known, distinct_known, bytes_same, differ_distinct, nat_same, parts_of, word_choice, integer_choice, either, only, form_choice, known0, known1, known2, known3}
+use Rattle.edif_spec.proofs.KnownForms.{Faulty, Written, IsOf, Meant, beyond_known, names_known, distinct_known, bytes_same, differ_distinct, nat_same, parts_of, word_choice, integer_choice, only, form_choice, known0, known1, known2, known3}
 use Rattle.edif_spec.proofs.KnownRows.{follow_none, perhaps_in, each_in, name_known, bus_name_known, text_known, properties_known, interface_known, first_all, second_all, each_count}
 
 -- references
@@ -68,7 +70,7 @@ pub parts_bare : (k j : Keyword) (t : Placed) → map bare (parts k j t) ≡ tho
 parts_bare k j t = filter_bare (has_keyword j) (followers k t)
 
 parts_length : (k j : Keyword) (t : Placed) → length (parts k j t) ≡ length (those j (map bare (followers k t)))
-parts_length k j t = sym (map_length bare (parts k j t)) ∙ ap length (parts_bare k j t)
+parts_length k j t = sym (length-map (parts k j t) bare) ∙ ap length (parts_bare k j t)
 
 abbrev id_of : ℕ → ℕ → design.CellId
 id_of l slot = record { lib = record { 0 = l }; slot = slot }
@@ -98,7 +100,7 @@ cell_ref_known libs own t h = elim (known1 keywords.CellRef identifier (One keyw
 ]
 
 -- the only name of a scope is its first
-found_first : (name w : List ℕ) (i : ℕ) → meant (name ∷ []) w ≡ Found i → i ≡ 0
+pub found_first : (name w : List ℕ) (i : ℕ) → meant (name ∷ []) w ≡ Found i → i ≡ 0
 found_first name w i e = by_place (equal w name) (same w name) e
   where
     by_place : (b c : Bool) → equal_or (cond b (Some 0) None) (only_place (0 + cond c 1 0) (cond c (Some 0) None)) ≡ Found i → i ≡ 0
@@ -171,7 +173,7 @@ pub record KnownBits (ports : List design.Port) (t : Placed) : Type 0 where
 
 index_of : (z : ℤ) (width : ℕ) → ((n : ℕ) × (z ≡ pos n) × (n < width)) ⊎ ((n : ℕ) → z ≡ pos n → n < width → ⊥)
 index_of (negsuc m) width = inr (λ n e w. absurd (cc e))
-index_of (pos m) width = elim (test (nat_lt m width)) [ inl e ↦ inl (m, refl, grind (arith, nat_tests)) | inr e ↦ inr (λ n d l. let q : m ≡ n = cc d in grind (arith, nat_tests)) ]
+index_of (pos m) width = elim (cases_Bool (nat_lt m width)) [ inl e ↦ inl (m, refl, grind (arith, nat_tests)) | inr e ↦ inr (λ n d l. let q : m ≡ n = cc d in grind (arith, nat_tests)) ]
 
 whole_known : (ports : List design.Port) (t : Placed) → is_one_of identifier (bare t) ≡ true → KnownBits ports t ⊎ Faulty (BitFault ports t)
 whole_known ports t h = elim (reference_known (design.port_ids ports) t h) [
@@ -372,7 +374,7 @@ type_known t h = elim (known1 keywords.ViewType identifier [] t refl h) [
   | inr b ↦ inr (b.0, stands.view_type_row b.1)
   | inl s ↦ (let a = word_choice s.a s.is_a in
       let f : IsFormOf keywords.ViewType (bare t) (bare s.a ∷ []) [] = follow_none keywords.ViewType (identifier ∷ []) (bare t) (bare s.a ∷ []) (map bare (followers keywords.ViewType t)) refl s.form in
-      elim (test (is_netlist a.1)) [
+      elim (cases_Bool (is_netlist a.1)) [
         | inr e ↦ inr (At NotNetlist a.0, stands.other_view_type (s.a, s.at_a, (a.1, a.0, a.2, e, refl)))
         | inl e ↦ inl (a.1, subst (λ x. IsFormOf keywords.ViewType (bare t) (bare x ∷ []) []) a.2 f, e)
       ])
@@ -435,9 +437,9 @@ view_known libs own t h = elim (known3 keywords.View name_definition (the keywor
 
 -- cells
 kind_of : (w : List ℕ) → is_cell_type w ≡ true → (k : design.CellKind) × IsTrue (same w (kind_word k))
-kind_of w h = elim (either (same w (kind_word kinds.Generic)) (same w (kind_word kinds.Tie) || same w (kind_word kinds.Ripper)) h) [
+kind_of w h = elim (or_cases (same w (kind_word kinds.Generic)) (same w (kind_word kinds.Tie) || same w (kind_word kinds.Ripper)) h) [
   | inl e ↦ (kinds.Generic, e)
-  | inr e ↦ elim (either (same w (kind_word kinds.Tie)) (same w (kind_word kinds.Ripper)) e) [ inl g ↦ (kinds.Tie, g) | inr g ↦ (kinds.Ripper, g) ]
+  | inr e ↦ elim (or_cases (same w (kind_word kinds.Tie)) (same w (kind_word kinds.Ripper)) e) [ inl g ↦ (kinds.Tie, g) | inr g ↦ (kinds.Ripper, g) ]
 ]
 
 kind_known : (t : Placed) → IsOf (has_keyword keywords.CellType) t → ((k : design.CellKind) × MeansKind (bare t) k) ⊎ Faulty (CellTypeFault t)
@@ -445,7 +447,7 @@ kind_known t h = elim (known1 keywords.CellType identifier [] t refl h) [
   | inr b ↦ inr (b.0, stands.cell_type_row b.1)
   | inl s ↦ (let a = word_choice s.a s.is_a in
       let f : IsFormOf keywords.CellType (bare t) (bare s.a ∷ []) [] = follow_none keywords.CellType (identifier ∷ []) (bare t) (bare s.a ∷ []) (map bare (followers keywords.CellType t)) refl s.form in
-      elim (test (is_cell_type a.1)) [
+      elim (cases_Bool (is_cell_type a.1)) [
         | inr e ↦ inr (At BadForm a.0, stands.other_cell_type (s.a, s.at_a, (a.1, a.0, a.2, e, refl)))
         | inl e ↦ (let d = kind_of a.1 e in inl (d.0, (a.1, subst (λ x. IsFormOf keywords.CellType (bare t) (bare x ∷ []) []) a.2 f, d.1)))
       ])

@@ -3,10 +3,14 @@ use Rattle.std.proofs.Common.{◌≡◌, ℕ, zero, suc, ◌≤◌, List, [], �
 use Rattle.std.specs.Prelude.{filter, slice_get, IfSome, IfNone, IsSome, is_some, take}
 use Rattle.std.specs.List.{AllZip, AllByRecursion, All}
 use Rattle.std.proofs.lemmas.List.Elements.{All-from_recursion}
+use Rattle.std.proofs.lemmas.Bool.{cases_Bool}
+use Rattle.std.proofs.lemmas.List.{length-map}
 use Rattle.netlist_schema.specs.Hierarchy.{IsCell}
 use Rattle.netlist_schema.specs.Names.{AreDistinct, HasDistinctKeys, note_key, lib_names, cell_names}
 use Rattle.netlist_schema.specs.Typed.{IsTypedName, IsTypedProperty, IsTypedCell, IsTypedNote}
 use Rattle.netlist_schema.specs.Valid.{IsValid, IsNoteBelow}
+use Rattle.netlist_schema.proofs.Lists.{some_of, all_weaker}
+use Rattle.netlist_schema.proofs.WithCell.{IfSome-weaker}
 use Rattle.spelling_spec.specs.Tree.{Bare, Placed, bare}
 use Rattle.edif_spec.specs.Keyword.{Choice, Many, One, name_definition, the}
 use Rattle.edif_spec.specs.Rows.{has_keyword, those, is_one_of, IsFormOf, EachAfter, Perhaps}
@@ -19,11 +23,9 @@ use Rattle.edif_spec.specs.declared.keyword.Keyword.TheVariants as keywords
 use Rattle.edif_spec.specs.declared.fault.Kind.TheVariants.{BadForm}
 use Rattle.edif_spec.specs.declared.fault.MeaningFault.{MeaningFault}
 use Rattle.edif_spec.proofs.Defined.{meant_there, cell_there}
-use Rattle.edif_spec.proofs.FromValid.{weaker}
-use Rattle.edif_spec.proofs.Scopes.{some_of}
-use Rattle.edif_spec.proofs.FaultForms.{filter_bare, map_length, after_length, after_with, IsNamed}
+use Rattle.edif_spec.proofs.FaultForms.{filter_bare, after_length, after_with, IsNamed}
 use Rattle.edif_spec.proofs.FileFaultsApart.{library_named, before_bare, libraries_before, front_after, FineTop}
-use Rattle.edif_spec.proofs.KnownForms.{Faulty, test, Written, IsOf, after_known, beyond_known, names_known, differ_distinct, kept_of, parts_of, arguments_written, followers_written, form_choice, Fits, row_known}
+use Rattle.edif_spec.proofs.KnownForms.{Faulty, Written, IsOf, after_known, beyond_known, names_known, differ_distinct, kept_of, parts_of, arguments_written, followers_written, form_choice, Fits, row_known}
 use Rattle.edif_spec.proofs.KnownRows.{name_known}
 use Rattle.edif_spec.proofs.KnownCells.{parts_bare}
 use Rattle.edif_spec.proofs.KnownFile.{level_known, version_known, map_known, library_known, FineLib, NamesFit, FineNote, design_known}
@@ -121,10 +123,6 @@ tops d scope sub (t ∷ u ∷ ts) (Some x) h f n = absurd h
 tops d scope sub (t ∷ []) (Some x) h f n =
     ((top_cell d.libs scope sub h.cell_part x.cell h.cell, f.0.keys), All-from_recursion (IsNoteBelow d x.cell) d.notes (notes_below d scope sub x.cell (filter is_note h.inner) d.notes h.noted n), (f.1, f.2))
 
-some_weaker : {A : Type 0} (o : Option A) (P Q : A → Type 0) → ((x : A) → P x → Q x) → IfSome o P → IfSome o Q
-some_weaker None P Q f h = tt
-some_weaker (Some x) P Q f h = f x h
-
 pub design_is_valid : (d : design.Design) (ts us : List Bare) (n : ℕ) → IsTypedName d.title → EachAfter MeansLibrary [] ts d.libs → AllByRecursion FineLib d.libs → AreDistinct (lib_names d.libs) → length d.libs ≤ 1024
     → Perhaps (MeansDesign (take n d.libs) d.notes) us d.top → IfSome d.top (λ x. FineTop d.notes x × IsTypedName x.name × All IsTypedProperty x.properties) → IfNone d.top (d.notes ≡ []) → AllByRecursion FineNote d.notes → length d.notes ≤ 1048576 → AreDistinct (map note_key d.notes)
     → IsValid d
@@ -135,24 +133,24 @@ design_is_valid d ts us n title libs fine names count top ft none fn nc nd =
     record {
       typed = record {
         title = title;
-        libs = All-from_recursion (λ (l : design.Lib). IsTypedName l.head.name) d.libs (weaker FineLib (λ (l : design.Lib). IsTypedName l.head.name) d.libs (λ l h. h.name) fine);
-        cells = All-from_recursion (λ (l : design.Lib). All IsTypedCell l.cells) d.libs (weaker FineLib (λ (l : design.Lib). All IsTypedCell l.cells) d.libs (λ l h. All-from_recursion IsTypedCell l.cells h.typed) fine);
-        top = some_weaker d.top P (λ x. IsTypedName x.name × All IsTypedProperty x.properties) (λ x h. h.2) r;
-        notes = All-from_recursion IsTypedNote d.notes (weaker FineNote IsTypedNote d.notes (λ m h. h.typed) fn);
+        libs = All-from_recursion (λ (l : design.Lib). IsTypedName l.head.name) d.libs (all_weaker FineLib (λ (l : design.Lib). IsTypedName l.head.name) d.libs (λ l h. h.name) fine);
+        cells = All-from_recursion (λ (l : design.Lib). All IsTypedCell l.cells) d.libs (all_weaker FineLib (λ (l : design.Lib). All IsTypedCell l.cells) d.libs (λ l h. All-from_recursion IsTypedCell l.cells h.typed) fine);
+        top = IfSome-weaker d.top P (λ x. IsTypedName x.name × All IsTypedProperty x.properties) (λ x h. h.2) r;
+        notes = All-from_recursion IsTypedNote d.notes (all_weaker FineNote IsTypedNote d.notes (λ m h. h.typed) fn);
       };
       limits = record {
         libs = count;
-        cells = All-from_recursion (λ (l : design.Lib). length l.cells ≤ 65536) d.libs (weaker FineLib (λ (l : design.Lib). length l.cells ≤ 65536) d.libs (λ l h. h.count) fine);
+        cells = All-from_recursion (λ (l : design.Lib). length l.cells ≤ 65536) d.libs (all_weaker FineLib (λ (l : design.Lib). length l.cells ≤ 65536) d.libs (λ l h. h.count) fine);
         notes = nc;
       };
       names = record {
         libs = names;
-        cells = All-from_recursion (λ (l : design.Lib). AreDistinct (cell_names l.cells)) d.libs (weaker FineLib (λ (l : design.Lib). AreDistinct (cell_names l.cells)) d.libs (λ l h. h.names) fine);
+        cells = All-from_recursion (λ (l : design.Lib). AreDistinct (cell_names l.cells)) d.libs (all_weaker FineLib (λ (l : design.Lib). AreDistinct (cell_names l.cells)) d.libs (λ l h. h.names) fine);
       };
       cells = λ id body e. valid_cell d id body (k id body e);
       no_cycle = no_cycle d k;
-      top = some_weaker d.top P (λ x. IsCell d x.cell × HasDistinctKeys x.properties) (λ x h. h.0) r;
-      notes = some_weaker d.top P (λ x. All (IsNoteBelow d x.cell) d.notes) (λ x h. h.1) r;
+      top = IfSome-weaker d.top P (λ x. IsCell d x.cell × HasDistinctKeys x.properties) (λ x h. h.0) r;
+      notes = IfSome-weaker d.top P (λ x. All (IsNoteBelow d x.cell) d.notes) (λ x h. h.1) r;
       notes_need_top = none;
       notes_differ = nd;
     }
@@ -187,7 +185,7 @@ file_known t h = elim (row_known keywords.Edif FileChoices (Many keywords.Status
                     | inr b ↦ inr (b.0, stands.many_libraries b.1)
                     | inl c ↦ (let inner : List Bare = map bare (followers keywords.Edif t) in
                         let e : map bare (libraries (followers keywords.Edif t)) ≡ filter is_library (map bare (followers keywords.Edif t)) = filter_bare is_library (followers keywords.Edif t) in
-                        let z : length (libraries (followers keywords.Edif t)) ≡ length x.0 = sym (map_length bare (libraries (followers keywords.Edif t))) ∙ after_length MeansLibrary [] (map bare (libraries (followers keywords.Edif t))) x.0 x.1 in
+                        let z : length (libraries (followers keywords.Edif t)) ≡ length x.0 = sym (length-map (libraries (followers keywords.Edif t)) bare) ∙ after_length MeansLibrary [] (map bare (libraries (followers keywords.Edif t))) x.0 x.1 in
                         let ls : EachAfter MeansLibrary [] (filter is_library (map bare (followers keywords.Edif t))) x.0 = subst (λ w. EachAfter MeansLibrary [] w x.0) e x.1 in
                         let r = libraries_before (map bare (followers keywords.Edif t)) in
                         let g : EachAfter MeansLibrary [] (filter is_library (before_design (map bare (followers keywords.Edif t)))) (libs_before_design (map bare (followers keywords.Edif t)) x.0) =
@@ -196,7 +194,7 @@ file_known t h = elim (row_known keywords.Edif FileChoices (Many keywords.Status
                         let gp : EachAfter MeansLibrary [] (map bare (libraries (before_the_design (followers keywords.Edif t)))) (libs_before_design (map bare (followers keywords.Edif t)) x.0) = subst (λ w. EachAfter MeansLibrary [] w (libs_before_design (map bare (followers keywords.Edif t)) x.0)) (sym front) g in
                         let fit : NamesFit (libs_before_design (map bare (followers keywords.Edif t)) x.0) =
                         names_fit (libs_before_design (map bare (followers keywords.Edif t)) x.0) (filter is_library (before_design (map bare (followers keywords.Edif t)))) g (front_all FineLib (length (filter is_library (before_design (map bare (followers keywords.Edif t))))) x.0 x.2) in
-                        let o : length (parts keywords.Edif keywords.Design t) ≡ length (those keywords.Design (map bare (followers keywords.Edif t))) = sym (map_length bare (parts keywords.Edif keywords.Design t)) ∙ ap length (parts_bare keywords.Edif keywords.Design t) in
+                        let o : length (parts keywords.Edif keywords.Design t) ≡ length (those keywords.Design (map bare (followers keywords.Edif t))) = sym (length-map (parts keywords.Edif keywords.Design t) bare) ∙ ap length (parts_bare keywords.Edif keywords.Design t) in
                         let once : length (those keywords.Design (map bare (followers keywords.Edif t))) ≤ 1 = s.form.fits.2.0 in
                         elim (top_known (libs_before_design (map bare (followers keywords.Edif t)) x.0) fit (parts keywords.Edif keywords.Design t) (parts_of keywords.Edif keywords.Design t h.1) (omega (arith, o, once))) [
                           | inr b ↦ inr (b.0, stands.edif_design (in_first t (libs_before_design (map bare (followers keywords.Edif t)) x.0) b.0 gp (omega (arith, o, once)) b.1))
@@ -243,7 +241,7 @@ file_known t h = elim (row_known keywords.Edif FileChoices (Many keywords.Status
 
 -- A tree that can be written means a design, or a fault stands in it.
 pub stands_known : (t : Placed) → Written t → ((d : design.Design) × MeansFile (bare t) d) ⊎ ((f : MeaningFault) × Stands t f)
-stands_known t w = elim (test (has_keyword keywords.Edif (bare t))) [
+stands_known t w = elim (cases_Bool (has_keyword keywords.Edif (bare t))) [
   | inr e ↦ inr (misplaced BadForm file_row t, stands.no_file e refl)
   | inl e ↦ elim (file_known t (e, w)) [ inl x ↦ inl x | inr b ↦ inr (b.0, stands.in_file e b.1) ]
 ]

@@ -3,9 +3,12 @@ use Rattle.std.proofs.Common.{◌≡◌, ◌≢◌, ℕ, suc, ◌<◌, ◌≤◌
 use Rattle.std.specs.Prelude.{IsTrue, filter, slice_get, take, drop}
 use Rattle.std.specs.List.{AllByRecursion, All, list_all}
 use Rattle.std.proofs.lemmas.List.Elements.{All-from_recursion}
+use Rattle.std.proofs.lemmas.Bool.{or_cases}
+use Rattle.std.proofs.lemmas.List.{length-map}
 use Rattle.netlist_schema.specs.Ident.{IsIdentifier}
 use Rattle.netlist_schema.specs.Names.{AreDistinct, note_key, cell_names}
 use Rattle.netlist_schema.specs.Typed.{IsTypedName, IsTypedProperty, IsTypedCell, IsTypedNote}
+use Rattle.netlist_schema.proofs.Lists.{some_of, get_unmapped}
 use Rattle.spelling_spec.specs.Tree.{Bare, Placed, Form', Word', Integer', String', End, More, form, word, integer, bare}
 use Rattle.edif_spec.specs.Keyword.{same, spelling_of, Choice, AnInteger, Follower, Many, One, name_definition, identifier, the}
 use Rattle.edif_spec.specs.Keyword as keyword
@@ -24,12 +27,11 @@ use Rattle.edif_spec.specs.declared.fault.ClashKind.TheVariants.{Duplicate}
 use Rattle.edif_spec.specs.declared.fault.MeaningFault.TheVariants.{At, Clash}
 use Rattle.edif_spec.proofs.Both.{both}
 use Rattle.edif_spec.proofs.Defined.{meant_there, name_there}
-use Rattle.edif_spec.proofs.Scopes.{some_of}
-use Rattle.edif_spec.proofs.FaultForms.{filter_bare, map_length, after_length, after_with, each_with, IsNamed, get_unmap}
+use Rattle.edif_spec.proofs.FaultForms.{filter_bare, after_length, after_with, each_with, IsNamed}
 use Rattle.edif_spec.proofs.FaultsApart.{property_named}
 use Rattle.edif_spec.proofs.CellFaultsApart.{cell_named, FineCell}
 use Rattle.edif_spec.proofs.FileFaultsApart.{external_is, cells_are, note_property, note_arguments, notes_there, HasKey, FineTop}
-use Rattle.edif_spec.proofs.KnownForms.{Faulty, Written, IsOf, Meant, each_known, after_known, beyond_known, names_known, distinct_known, bytes_same, list_same, nat_same, kept_of, parts_of, arguments_written, followers_written, followers_known, fixed_known, FixedFit, trees_bares, integer_choice, word_choice, either, form_choice, Fits3, known1, known2, known3}
+use Rattle.edif_spec.proofs.KnownForms.{Faulty, Written, IsOf, Meant, each_known, after_known, beyond_known, names_known, distinct_known, bytes_same, list_same, nat_same, kept_of, parts_of, arguments_written, followers_written, followers_known, fixed_known, FixedFit, trees_bares, integer_choice, word_choice, form_choice, Fits3, known1, known2, known3}
 use Rattle.edif_spec.proofs.KnownRows.{follow_none, name_known, property_known, properties_known, first_all, second_all, each_count}
 use Rattle.edif_spec.proofs.KnownCells.{cell_ref_known, cell_known}
 
@@ -111,7 +113,7 @@ library_rest e before t w s = elim (name_known s.a s.written_a s.is_a) [
             | inr b ↦ inr (b.0, stands.cell_again b.1)
             | inl d ↦ elim (beyond_known 65536 (cells_in t)) [
               | inr b ↦ inr (b.0, stands.many_cells b.1)
-              | inl k ↦ (let m : length (cells_in t) ≡ length cs.0 = sym (map_length bare (cells_in t)) ∙ after_length (λ cells. MeansCell (In before head cells) (Some (length before))) [] (map bare (cells_in t)) cs.0 cs.1 in
+              | inl k ↦ (let m : length (cells_in t) ≡ length cs.0 = sym (length-map (cells_in t) bare) ∙ after_length (λ cells. MeansCell (In before head cells) (Some (length before))) [] (map bare (cells_in t)) cs.0 cs.1 in
                   inl (
                     record { head = head; cells = cs.0 },
                     record {
@@ -133,7 +135,7 @@ library_rest e before t w s = elim (name_known s.a s.written_a s.is_a) [
 ]
 
 pub library_known : (before : List design.Lib) (t : Placed) → IsOf is_library t → Meant (MeansLibrary before) FineLib t ⊎ Faulty (LibraryFault before t)
-library_known before t h = elim (either (has_keyword keywords.Library (bare t)) (has_keyword keywords.External (bare t)) h.0) [
+library_known before t h = elim (or_cases (has_keyword keywords.Library (bare t)) (has_keyword keywords.External (bare t)) h.0) [
   | inl k ↦ elim (known3 keywords.Library name_definition (the keywords.EdifLevel) (the keywords.Technology) (Many keywords.Status ∷ Many keywords.Cell ∷ Many keywords.Comment ∷ Many keywords.UserData ∷ []) t refl (k, h.1)) [ inr b ↦ inr (b.0, stands.library_row k b.1) | inl s ↦ library_rest false before t h.1 s ]
   | inr k ↦ elim (known3 keywords.External name_definition (the keywords.EdifLevel) (the keywords.Technology) (Many keywords.Status ∷ Many keywords.Cell ∷ Many keywords.Comment ∷ Many keywords.UserData ∷ []) t refl (k, h.1)) [ inr b ↦ inr (b.0, stands.external_row k b.1) | inl s ↦ library_rest true before t h.1 s ]
 ]
@@ -235,7 +237,7 @@ note_known libs fit top t h = elim (shape_known t) [
               let r = keyword_form keywords.Path s.b s.is_b in
               let e : map bare (arguments t) ≡ word m.1 ∷ form (word r.0 ∷ map bare (arguments s.b)) ∷ bare s.c ∷ [] =
               ap (map bare) s.are ∙ (ap (λ v. v ∷ bare s.b ∷ bare s.c ∷ []) (ap bare m.2) ∙ ap (λ v. word m.1 ∷ v ∷ bare s.c ∷ []) r.1) in
-              let l : length (map bare (arguments s.b)) ≡ length (arguments s.b) = map_length bare (arguments s.b) in
+              let l : length (map bare (arguments s.b)) ≡ length (arguments s.b) = length-map (arguments s.b) bare in
               inl (
                 record { path = p.0; property = q.0 },
                 record {
@@ -269,7 +271,7 @@ pair_same x y = elim (list_same bytes_same x.0 y.0) [
 ]
 
 note_part : (libs : List design.Lib) (top : design.CellId) (t : Placed) (n : design.Note) (h : MeansNote libs top (bare t) n) (i : ℕ) (b : Bare) → slice_get (word h.mark ∷ form (word h.path_word ∷ h.steps) ∷ h.property_part ∷ []) i ≡ Some b → (u : Placed) × (slice_get (arguments t) i ≡ Some u) × (bare u ≡ b)
-note_part libs top t n h i b e = get_unmap bare (arguments t) i b (ap (λ v. slice_get v i) (note_arguments libs top t n h) ∙ e)
+note_part libs top t n h i b e = get_unmapped bare (arguments t) i b (ap (λ v. slice_get v i) (note_arguments libs top t n h) ∙ e)
 
 noted_at : (libs : List design.Lib) (top : design.CellId) (t : Placed) (n : design.Note) (h : MeansNote libs top (bare t) n) → (p : ℕ) × Notes libs top t n.path n.property.key.id p
 noted_at libs top t n h =

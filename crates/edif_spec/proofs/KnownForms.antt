@@ -4,6 +4,8 @@ use Rattle.std.specs.Prelude.{IsTrue, cond, ◌||◌, filter, drop, take, slice_
 use Rattle.std.specs.List.{list_all, AllZip, AllByRecursion, All}
 use Rattle.std.proofs.lemmas.List.Elements.{All-from_recursion}
 use Rattle.std.proofs.lemmas.Bool.Decides.{nat_tests}
+use Rattle.std.proofs.lemmas.Bool.{cases_Bool}
+use Rattle.std.proofs.lemmas.List.{length-map}
 use Rattle.netlist_schema.specs.Names.{AreDistinct}
 use Rattle.spelling_spec.specs.Tree.{Bare, Placed, Trees, Form', Word', Integer', String', End, More, form, word, trees, items, bare, bares}
 use Rattle.edif_spec.specs.Keyword.{row, Row, Takes, Choice, AnIdentifier, AnInteger, AString, AForm, Follower, Many, One}
@@ -17,23 +19,19 @@ use Rattle.edif_spec.specs.declared.fault.MeaningFault.TheVariants.{At, Clash, O
 use Rattle.edif_spec.specs.declared.fault.ClashKind.TheVariants.{Duplicate}
 use Rattle.edif_spec.specs.declared.fault.Kind.TheVariants.{BadForm}
 use Rattle.edif_spec.proofs.Both.{and_true}
-use Rattle.edif_spec.proofs.FaultForms.{filter_bare, map_length, Differ, IsNamed}
+use Rattle.edif_spec.proofs.FaultForms.{filter_bare, Differ, IsNamed}
 
 -- some fault of these stands
 abbrev pub Faulty : (MeaningFault → Type 0) → Type 0
 Faulty F = (f : MeaningFault) × F f
 
-pub test : (b : Bool) → (b ≡ true) ⊎ (b ≡ false)
-test true = inl refl
-test false = inr refl
-
 -- Rows.
-split : {A : Type 0} (n : ℕ) (xs : List A) → take n xs ++ drop n xs ≡ xs
+pub split : {A : Type 0} (n : ℕ) (xs : List A) → take n xs ++ drop n xs ≡ xs
 split zero xs = refl
 split (suc n) [] = refl
 split (suc n) (x ∷ xs) = ap (λ v. x ∷ v) (split n xs)
 
-map_append : {A B : Type 0} (f : A → B) (xs ys : List A) → map f (xs ++ ys) ≡ map f xs ++ map f ys
+pub map_append : {A B : Type 0} (f : A → B) (xs ys : List A) → map f (xs ++ ys) ≡ map f xs ++ map f ys
 map_append f [] ys = refl
 map_append f (x ∷ xs) ys = ap (λ v. f x ∷ v) (map_append f xs ys)
 
@@ -48,7 +46,7 @@ FixedFit cs ts = AllZip (λ c u. is_one_of c (bare u) ≡ true) cs ts
 pub fixed_known : (wrong : Placed → MeaningFault) (place : ℕ) (cs : List (List Choice)) (ts : List Placed) → FixedFit cs (take (length cs) ts) ⊎ Faulty (FixedFault wrong place cs ts)
 fixed_known wrong place [] ts = inl tt
 fixed_known wrong place (c ∷ cs) [] = inr (At BadForm place, refl)
-fixed_known wrong place (c ∷ cs) (t ∷ ts) = go (test (is_one_of c (bare t))) (fixed_known wrong place cs ts)
+fixed_known wrong place (c ∷ cs) (t ∷ ts) = go (cases_Bool (is_one_of c (bare t))) (fixed_known wrong place cs ts)
   where
     go : (is_one_of c (bare t) ≡ true) ⊎ (is_one_of c (bare t) ≡ false) → FixedFit cs (take (length cs) ts) ⊎ Faulty (FixedFault wrong place cs ts) → FixedFit (c ∷ cs) (t ∷ take (length cs) ts) ⊎ Faulty (FixedFault wrong place (c ∷ cs) (t ∷ ts))
     go (inr e) r = inr (wrong t, inl (e, refl))
@@ -57,7 +55,7 @@ fixed_known wrong place (c ∷ cs) (t ∷ ts) = go (test (is_one_of c (bare t)))
 
 pub followers_known : (wrong : Placed → MeaningFault) (fs : List Follower) (ts : List Placed) → IsTrue (list_all (is_follower fs) (map bare ts)) ⊎ Faulty (FollowerFault wrong fs ts)
 followers_known wrong fs [] = inl refl
-followers_known wrong fs (t ∷ ts) = go (test (is_follower fs (bare t))) (followers_known wrong fs ts)
+followers_known wrong fs (t ∷ ts) = go (cases_Bool (is_follower fs (bare t))) (followers_known wrong fs ts)
   where
     go : (is_follower fs (bare t) ≡ true) ⊎ (is_follower fs (bare t) ≡ false) → IsTrue (list_all (is_follower fs) (map bare ts)) ⊎ Faulty (FollowerFault wrong fs ts) → IsTrue (list_all (is_follower fs) (map bare (t ∷ ts))) ⊎ Faulty (FollowerFault wrong fs (t ∷ ts))
     go (inr e) r = inr (wrong t, inl (e, refl))
@@ -77,7 +75,7 @@ seconds_known (One k ∷ fs) ts = go (one_known k (those_of k ts)) (seconds_know
     go : (length (those_of k ts) ≤ 1) ⊎ Faulty (λ f. AtTwo (λ a b. f ≡ second k a b) (those_of k ts)) → AtMostOnce fs (map bare ts) ⊎ Faulty (SecondFault fs ts) → AtMostOnce (One k ∷ fs) (map bare ts) ⊎ Faulty (SecondFault (One k ∷ fs) ts)
     go (inr h) r = inr (h.0, inl h.1)
     go (inl e) (inl h) =
-        let l : length (those_of k ts) ≡ length (those k (map bare ts)) = sym (map_length bare (those_of k ts)) ∙ ap length (filter_bare (has_keyword k) ts) in
+        let l : length (those_of k ts) ≡ length (those k (map bare ts)) = sym (length-map (those_of k ts) bare) ∙ ap length (filter_bare (has_keyword k) ts) in
         inl ((omega (arith, l, e)), h)
     go (inl e) (inr h) = inr (h.0, inr h.1)
 
@@ -316,10 +314,6 @@ string_choice (String' p s) h = (p, s, refl)
 string_choice (Form' p ts) h = absurd (cc h)
 string_choice (Word' p w) h = absurd (cc h)
 string_choice (Integer' p z) h = absurd (cc h)
-
-pub either : (a b : Bool) → (a || b) ≡ true → (a ≡ true) ⊎ (b ≡ true)
-either true b h = inl refl
-either false b h = inr h
 
 pub only : (b : Bool) → (b || false) ≡ true → b ≡ true
 only true h = refl

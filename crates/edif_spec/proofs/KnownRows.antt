@@ -5,6 +5,8 @@ use Rattle.std.specs.Int.{w32}
 use Rattle.std.specs.List.{AllZip, AllByRecursion, All, list_all, fold}
 use Rattle.std.proofs.lemmas.List.Elements.{All-from_recursion}
 use Rattle.std.proofs.lemmas.Bool.Decides.{nat_tests}
+use Rattle.std.proofs.lemmas.Bool.{cases_Bool, or_cases, or_left}
+use Rattle.std.proofs.lemmas.List.{length-map}
 use Rattle.netlist_schema.specs.Design.{port_width}
 use Rattle.netlist_schema.specs.Names.{AreDistinct, HasDistinctKeys}
 use Rattle.netlist_schema.specs.Typed.{IsBytes, IsTypedName, IsTypedNum, IsTypedValue, IsTypedProperty, IsTypedPort}
@@ -27,9 +29,9 @@ use Rattle.edif_spec.specs.declared.fault.MeaningFault.TheVariants.{At, OverLimi
 use Rattle.netlist_schema.specs.declared.property.Num.TheVariants as numbers
 use Rattle.netlist_schema.specs.declared.property.Value.TheVariants as values
 use Rattle.netlist_schema.specs.declared.cell.Direction.TheVariants as directions
-use Rattle.edif_spec.proofs.FaultForms.{each_length, filter_bare, map_length, each_with, IsNamed}
-use Rattle.edif_spec.proofs.FaultsApart.{or_first, property_named, port_named, port_declares}
-use Rattle.edif_spec.proofs.KnownForms.{Faulty, test, Written, IsOf, Meant, each_known, perhaps_known, beyond_known, names_known, parts_of, word_choice, integer_choice, string_choice, either, only, known0, known1, known2}
+use Rattle.edif_spec.proofs.FaultForms.{each_length, filter_bare, each_with, IsNamed}
+use Rattle.edif_spec.proofs.FaultsApart.{property_named, port_named, port_declares}
+use Rattle.edif_spec.proofs.KnownForms.{Faulty, Written, IsOf, Meant, each_known, perhaps_known, beyond_known, names_known, parts_of, word_choice, integer_choice, string_choice, only, known0, known1, known2}
 
 -- no follower stands where none may
 none_follows : (us : List Bare) → IsTrue (list_all (is_follower []) us) → us ≡ []
@@ -50,7 +52,7 @@ pub perhaps_in : {A : Type 0} (M : Bare → A → Type 0) (V : A → Type 0) (F 
     → ((o : Option A) × Perhaps M (those j (map bare (followers k t))) o × IfSome o V) ⊎ Faulty (Among F (parts k j t))
 perhaps_in {A} M V F k j t f w l =
     let e : map bare (parts k j t) ≡ those j (map bare (followers k t)) = filter_bare (has_keyword j) (followers k t) in
-    let n : length (parts k j t) ≡ length (those j (map bare (followers k t))) = sym (map_length bare (parts k j t)) ∙ ap length e in
+    let n : length (parts k j t) ≡ length (those j (map bare (followers k t))) = sym (length-map (parts k j t) bare) ∙ ap length e in
     elim (perhaps_known M V F (IsOf (has_keyword j)) f (parts k j t) (parts_of k j t w) (omega (arith, l, n))) [ inl x ↦ inl (x.0, subst (λ v. Perhaps M v x.0) e x.1, x.2) | inr b ↦ inr b ]
 
 pub each_in : {A : Type 0} (M : Bare → A → Type 0) (V : A → Type 0) (F : Placed → MeaningFault → Type 0) (k j : Keyword) (t : Placed) → ((u : Placed) → IsOf (has_keyword j) u → Meant M V u ⊎ Faulty (F u)) → Written t
@@ -88,15 +90,15 @@ text_known k t r h = elim (known1 k keyword.string [] t r h) [
 
 -- values
 boolean_known : (t : Placed) → Written t → is_one_of (AForm keywords.True ∷ AForm keywords.False ∷ []) (bare t) ≡ true → Meant MeansBoolean (λ b. Unit {0}) t ⊎ Faulty (BooleanFault t)
-boolean_known t v h = elim (either (has_keyword keywords.True (bare t)) (has_keyword keywords.False (bare t) || false) h) [
+boolean_known t v h = elim (or_cases (has_keyword keywords.True (bare t)) (has_keyword keywords.False (bare t) || false) h) [
   | inl k ↦ elim (known0 keywords.True [] t refl k) [ inr b ↦ inr (b.0, stands.true_row k b.1) | inl s ↦ inl (true, follow_none keywords.True [] (bare t) [] (map bare (followers keywords.True t)) refl s.form, tt) ]
   | inr k ↦ (let g : has_keyword keywords.False (bare t) ≡ true = only (has_keyword keywords.False (bare t)) k in
       elim (known0 keywords.False [] t refl g) [ inr b ↦ inr (b.0, stands.false_row g b.1) | inl s ↦ inl (false, follow_none keywords.False [] (bare t) [] (map bare (followers keywords.False t)) refl s.form, tt) ])
 ]
 
 fits_32 : (z : ℤ) → FitsSigned w32 z ⊎ (¬ FitsSigned w32 z)
-fits_32 (pos n) = elim (test (nat_lt n (2 ^ 31))) [ inl e ↦ inl (record { sfits = grind (arith, nat_tests) }) | inr e ↦ inr (λ f. let l = f.sfits in grind (arith, nat_tests)) ]
-fits_32 (negsuc n) = elim (test (nat_lt n (2 ^ 31))) [ inl e ↦ inl (record { sfits = grind (arith, nat_tests) }) | inr e ↦ inr (λ f. let l = f.sfits in grind (arith, nat_tests)) ]
+fits_32 (pos n) = elim (cases_Bool (nat_lt n (2 ^ 31))) [ inl e ↦ inl (record { sfits = grind (arith, nat_tests) }) | inr e ↦ inr (λ f. let l = f.sfits in grind (arith, nat_tests)) ]
+fits_32 (negsuc n) = elim (cases_Bool (nat_lt n (2 ^ 31))) [ inl e ↦ inl (record { sfits = grind (arith, nat_tests) }) | inr e ↦ inr (λ f. let l = f.sfits in grind (arith, nat_tests)) ]
 
 number_known : (t : Placed) → Written t → is_one_of (AnInteger ∷ AForm keywords.E ∷ []) (bare t) ≡ true → Meant MeansNumber IsTypedNum t ⊎ Faulty (NumberFault t)
 number_known (Integer' p z) v h = inl (numbers.Int z, refl, v)
@@ -118,7 +120,7 @@ number_known (Form' p ts) v h =
     ]
 
 value_known : (t : Placed) → Written t → is_one_of (AForm keywords.Boolean ∷ AForm keywords.Integer ∷ AForm keywords.Number ∷ AForm keywords.String ∷ []) (bare t) ≡ true → Meant MeansValue IsTypedValue t ⊎ Faulty (InValue t)
-value_known t v h = elim (either (has_keyword keywords.Boolean (bare t)) (has_keyword keywords.Integer (bare t) || (has_keyword keywords.Number (bare t) || (has_keyword keywords.String (bare t) || false))) h) [
+value_known t v h = elim (or_cases (has_keyword keywords.Boolean (bare t)) (has_keyword keywords.Integer (bare t) || (has_keyword keywords.Number (bare t) || (has_keyword keywords.String (bare t) || false))) h) [
   | inl k ↦ elim (known1 keywords.Boolean (AForm keywords.True ∷ AForm keywords.False ∷ []) [] t refl (k, v)) [
     | inr b ↦ inr (b.0, stands.boolean_row k b.1)
     | inl s ↦ elim (boolean_known s.a s.written_a s.is_a) [
@@ -126,14 +128,14 @@ value_known t v h = elim (either (has_keyword keywords.Boolean (bare t)) (has_ke
       | inl x ↦ inl (values.Boolean x.0, (bare s.a, follow_none keywords.Boolean ((AForm keywords.True ∷ AForm keywords.False ∷ []) ∷ []) (bare t) (bare s.a ∷ []) (map bare (followers keywords.Boolean t)) refl s.form, x.1), tt)
     ]
   ]
-  | inr k ↦ elim (either (has_keyword keywords.Integer (bare t)) (has_keyword keywords.Number (bare t) || (has_keyword keywords.String (bare t) || false)) k) [
+  | inr k ↦ elim (or_cases (has_keyword keywords.Integer (bare t)) (has_keyword keywords.Number (bare t) || (has_keyword keywords.String (bare t) || false)) k) [
     | inl g ↦ elim (known1 keywords.Integer keyword.integer [] t refl (g, v)) [
       | inr b ↦ inr (b.0, stands.integer_row g b.1)
       | inl s ↦ (let a = integer_choice s.a s.is_a in
           let f : IsFormOf keywords.Integer (bare t) (bare s.a ∷ []) [] = follow_none keywords.Integer (keyword.integer ∷ []) (bare t) (bare s.a ∷ []) (map bare (followers keywords.Integer t)) refl s.form in
           inl (values.Integer a.1, subst (λ x. IsFormOf keywords.Integer (bare t) (bare x ∷ []) []) a.2 f, subst Written a.2 s.written_a))
     ]
-    | inr g ↦ elim (either (has_keyword keywords.Number (bare t)) (has_keyword keywords.String (bare t) || false) g) [
+    | inr g ↦ elim (or_cases (has_keyword keywords.Number (bare t)) (has_keyword keywords.String (bare t) || false) g) [
       | inl i ↦ elim (known1 keywords.Number (AnInteger ∷ AForm keywords.E ∷ []) [] t refl (i, v)) [
         | inr b ↦ inr (b.0, stands.number_row i b.1)
         | inl s ↦ elim (number_known s.a s.written_a s.is_a) [
@@ -189,9 +191,9 @@ properties_known k t w = elim (each_in MeansProperty IsTypedProperty PropertyFau
 
 -- directions
 direction_of : (w : List ℕ) → is_direction w ≡ true → (d : design.Direction) × IsTrue (same w (direction_word d))
-direction_of w h = elim (either (same w (direction_word directions.Input)) (same w (direction_word directions.Output) || same w (direction_word directions.Inout)) h) [
+direction_of w h = elim (or_cases (same w (direction_word directions.Input)) (same w (direction_word directions.Output) || same w (direction_word directions.Inout)) h) [
   | inl e ↦ (directions.Input, e)
-  | inr e ↦ elim (either (same w (direction_word directions.Output)) (same w (direction_word directions.Inout)) e) [ inl g ↦ (directions.Output, g) | inr g ↦ (directions.Inout, g) ]
+  | inr e ↦ elim (or_cases (same w (direction_word directions.Output)) (same w (direction_word directions.Inout)) e) [ inl g ↦ (directions.Output, g) | inr g ↦ (directions.Inout, g) ]
 ]
 
 direction_known : (t : Placed) → IsOf (has_keyword keywords.Direction) t → Meant MeansDirection (λ d. Unit {0}) t ⊎ Faulty (DirectionFault t)
@@ -199,7 +201,7 @@ direction_known t h = elim (known1 keywords.Direction identifier [] t refl h) [
   | inr b ↦ inr (b.0, stands.direction_row b.1)
   | inl s ↦ (let a = word_choice s.a s.is_a in
       let f : IsFormOf keywords.Direction (bare t) (bare s.a ∷ []) [] = follow_none keywords.Direction (identifier ∷ []) (bare t) (bare s.a ∷ []) (map bare (followers keywords.Direction t)) refl s.form in
-      elim (test (is_direction a.1)) [
+      elim (cases_Bool (is_direction a.1)) [
         | inr e ↦ inr (At BadForm a.0, stands.other_direction (s.a, s.at_a, (a.1, a.0, a.2, e, refl)))
         | inl e ↦ (let d = direction_of a.1 e in inl (d.0, (a.1, subst (λ x. IsFormOf keywords.Direction (bare t) (bare x ∷ []) []) a.2 f, d.1), tt))
       ])
@@ -208,9 +210,9 @@ direction_known t h = elim (known1 keywords.Direction identifier [] t refl h) [
 -- ports
 size_of : (z : ℤ) → ((n : ℕ) × (z ≡ pos n) × IsWidth n) ⊎ ((n : ℕ) → z ≡ pos n → IsWidth n → ⊥)
 size_of (negsuc m) = inr (λ n e w. absurd (cc e))
-size_of (pos m) = elim (test (nat_le 1 m)) [
+size_of (pos m) = elim (cases_Bool (nat_le 1 m)) [
   | inr e ↦ inr (λ n d w. let q : m ≡ n = cc d in let l : 1 ≤ n = w.0 in grind (arith, nat_tests))
-  | inl e ↦ elim (test (nat_le m 65536)) [ inr g ↦ inr (λ n d w. let q : m ≡ n = cc d in let l : n ≤ 65536 = w.1 in grind (arith, nat_tests)) | inl g ↦ inl (m, refl, (grind (arith, nat_tests), grind (arith, nat_tests))) ]
+  | inl e ↦ elim (cases_Bool (nat_le m 65536)) [ inr g ↦ inr (λ n d w. let q : m ≡ n = cc d in let l : n ≤ 65536 = w.1 in grind (arith, nat_tests)) | inl g ↦ inl (m, refl, (grind (arith, nat_tests), grind (arith, nat_tests))) ]
 ]
 
 -- the name of a port or of a net, and its array
@@ -246,8 +248,8 @@ bus_name_known (Integer' p z) v h = absurd (cc h)
 bus_name_known (String' p s) v h = absurd (cc h)
 bus_name_known (Form' p ts) v h =
     let t : Placed = Form' p ts in
-    elim (either (has_keyword keywords.Rename (bare t)) (has_keyword keywords.Array (bare t) || false) h) [
-      | inl k ↦ (let n : is_one_of name_definition (bare t) ≡ true = or_first (has_keyword keywords.Rename (bare t)) false k in
+    elim (or_cases (has_keyword keywords.Rename (bare t)) (has_keyword keywords.Array (bare t) || false) h) [
+      | inl k ↦ (let n : is_one_of name_definition (bare t) ≡ true = or_left (has_keyword keywords.Rename (bare t)) false k in
           elim (plain_name t v n) [ inr b ↦ inr (b.0, stands.scalar_name b.1) | inl x ↦ inl x ])
       | inr k ↦ (let g : has_keyword keywords.Array (bare t) ≡ true = only (has_keyword keywords.Array (bare t)) k in
           array_known t (g, v))
@@ -280,7 +282,7 @@ bits_known : (limit before : ℕ) (ts : List Placed) (ps : List design.Port) →
 bits_known limit before [] [] e l = inl l
 bits_known limit before [] (p ∷ ps) e l = absurd e
 bits_known limit before (t ∷ ts) [] e l = absurd e
-bits_known limit before (t ∷ ts) (p ∷ ps) e l = elim (test (nat_le (before + port_width p) limit)) [
+bits_known limit before (t ∷ ts) (p ∷ ps) e l = elim (cases_Bool (nat_le (before + port_width p) limit)) [
   | inr m ↦ (let w : declared_width t ≡ port_width p = e.0 in
       let k : limit < before + port_width p = grind (arith, nat_tests) in
       let P : ℕ → Type 0 = λ v. limit < before + v in inr (OverLimit limit (place_of t), inl (l, subst P (sym w) k, refl)))
@@ -310,7 +312,7 @@ second_all P Q [] h = tt
 second_all P Q (x ∷ xs) h = (h.0.1, second_all P Q xs h.1)
 
 pub each_count : {A : Type 0} (M : Bare → A → Type 0) (ts : List Placed) (bs : List Bare) (xs : List A) → map bare ts ≡ bs → Each M bs xs → length ts ≡ length xs
-each_count M ts bs xs e h = sym (map_length bare ts) ∙ (ap length e ∙ each_length M bs xs h)
+each_count M ts bs xs e h = sym (length-map ts bare) ∙ (ap length e ∙ each_length M bs xs h)
 
 pub interface_known : (t : Placed) → IsOf (has_keyword keywords.Interface) t → KnownInterface t ⊎ Faulty (InterfaceFault t)
 interface_known t h = elim (known0 keywords.Interface (Many keywords.Port ∷ Many keywords.Property ∷ Many keywords.Comment ∷ Many keywords.UserData ∷ []) t refl h.0) [

@@ -4,13 +4,16 @@ use Rattle.std.specs.Prelude.{slice_get, IsSome, IsSomeAnd, is_some, take, optio
 use Rattle.std.specs.List.{AllByRecursion, Contains, flat_map}
 use Rattle.std.specs.Option.{option_map_or}
 use Rattle.std.proofs.lemmas.List.Elements.{All-from_recursion, recursion_from_All}
+use Rattle.std.proofs.lemmas.Option.{slice_get_within}
 use Rattle.netlist_schema.specs.Design.{insts_of, ends_of, port_width, insts_in as insts_inside, nets_in as nets_inside}
 use Rattle.netlist_schema.specs.Hierarchy.{IsCell, HasInst, insts_at, NoCellIsBelowItself, Resolves}
 use Rattle.netlist_schema.specs.Ident.{IsIdentifier}
 use Rattle.netlist_schema.specs.Typed.{IsTypedCell, IsTypedInst}
 use Rattle.netlist_schema.specs.Valid.{IsValidCell, HasBit, IsEndAt, IsEndOf, IsNoteBelow}
 use Rattle.netlist_schema.proofs.Cells.{cell_of_inst, ranked_has_no_cycle}
+use Rattle.netlist_schema.proofs.Lists.{some_of, all_weaker, all_at, all_append}
 use Rattle.spelling_spec.specs.Tree.{Bare}
+use Rattle.edif_spec.proofs.CellPlaces.{lib_of_cell}
 use Rattle.edif_spec.specs.Rows.{those, Each, EachAfter, Perhaps, Just}
 use Rattle.edif_spec.specs.Canonical.{ports_of_end}
 use Rattle.edif_spec.specs.Nets.{NetForm, Stretch, end_of as bit_at, net_at, nets_of, row_size}
@@ -19,13 +22,10 @@ use Rattle.edif_spec.specs.Means.{width_at, MeansInstRef, MeansBits, MeansEnd, M
 use Rattle.edif_spec.specs.Design as design
 use Rattle.edif_spec.specs.declared.keyword.Keyword.TheVariants as keywords
 use Rattle.edif_spec.proofs.Defined.{meant_there, name_there, insts_defined, view_defined}
-use Rattle.edif_spec.proofs.FromValid.{all_at, weaker}
-use Rattle.edif_spec.proofs.Scopes.{some_of, lib_of_cell}
-use Rattle.edif_spec.proofs.FaultForms.{get_below}
 use Rattle.edif_spec.proofs.CellFaultsApart.{FineCell}
 use Rattle.edif_spec.proofs.KnownFile.{FineLib, FineNote, NamesFit}
 
-regroup : {A : Type 0} (xs ys zs : List A) → (xs ++ ys) ++ zs ≡ xs ++ (ys ++ zs)
+pub regroup : {A : Type 0} (xs ys zs : List A) → (xs ++ ys) ++ zs ≡ xs ++ (ys ++ zs)
 regroup [] ys zs = refl
 regroup (x ∷ xs) ys zs = ap (λ v. x ∷ v) (regroup xs ys zs)
 
@@ -94,7 +94,7 @@ cell_form libs ts h v id body e =
     let r = each_after_at MeansLibrary [] ts libs h id.lib.0 m.0 m.1 in
     let f : FineLib m.0 = all_at FineLib libs id.lib.0 m.0 v m.1 in
     let k = each_after_at (λ cells. MeansCell (take id.lib.0 libs ++ record { head = m.0.head; cells = cells } ∷ []) (Some (length (take id.lib.0 libs)))) [] (those keywords.Cell r.1.inner) m.0.cells r.1.cells id.slot body m.2 in
-    let n : id.slot < length m.0.cells = get_below m.0.cells id.slot body m.2 in
+    let n : id.slot < length m.0.cells = slice_get_within m.0.cells id.slot body m.2 in
     let c : length m.0.cells ≤ 65536 = f.count in
     record { lib = m.0; at = m.1; own = Some (length (take id.lib.0 libs)); tree = k.0; mean = k.1; fine = all_at FineCell m.0.cells id.slot body f.cells m.2; typed = all_at IsTypedCell m.0.cells id.slot body f.typed m.2; low = omega (arith, n, c) }
 
@@ -102,7 +102,7 @@ cell_form libs ts h v id body e =
 placed_before : (libs : List design.Lib) (id : design.CellId) (body : design.CellBody) → KnownCell libs id body → AllByRecursion (λ (i : design.Inst). IsSome (design.cell_at libs i.of) × Before id.lib.0 id.slot i.of) (insts_of body)
 placed_before libs id body k =
     let d = view_defined (Scope libs id.lib.0 k.lib id.slot) k.own body (those keywords.View k.mean.inner) k.mean.view in
-    weaker (λ (i : design.Inst). IsSome (design.cell_at (Scope libs id.lib.0 k.lib id.slot) i.of)) (λ (i : design.Inst). IsSome (design.cell_at libs i.of) × Before id.lib.0 id.slot i.of) (insts_of body)
+    all_weaker (λ (i : design.Inst). IsSome (design.cell_at (Scope libs id.lib.0 k.lib id.slot) i.of)) (λ (i : design.Inst). IsSome (design.cell_at libs i.of) × Before id.lib.0 id.slot i.of) (insts_of body)
     (λ i s. let c = some_of (design.cell_at (Scope libs id.lib.0 k.lib id.slot) i.of) s in
     let r = scope_cell libs id.lib.0 k.lib id.slot i.of c.0 k.at c.1 in
     (ap is_some r.0, r.1)) d
@@ -153,10 +153,6 @@ ends_at scope libs ports insts sub d size j l (t ∷ ts) (s ∷ ss) h w =
     let e : s.width ≡ size = w.0 in
     (end_at scope libs ports insts sub d (those keywords.InstanceRef h.0.inner) s.inst s.port s.first s.width j h.0.bits_part h.0.inst h.0.bits (omega (arith, l, e)), ends_at scope libs ports insts sub d size j l ts ss h.1 w.1)
 
-all_append : {A : Type 0} (P : A → Type 0) (xs ys : List A) → AllByRecursion P xs → AllByRecursion P ys → AllByRecursion P (xs ++ ys)
-all_append P [] ys h k = k
-all_append P (x ∷ xs) ys h k = (h.0, all_append P xs ys h.1 k)
-
 nets_at : (scope libs : List design.Lib) (ports : List design.Port) (insts : List design.Inst) → Within scope libs → AllByRecursion (λ (i : design.Inst). IsSome (design.cell_at scope i.of)) insts
     → (ts : List Bare) (ns : List NetForm) → Each (MeansNet scope ports insts) ts ns → AllByRecursion (λ (x : design.Net). Ends libs ports insts x.ends) (flat_map nets_of ns)
 nets_at scope libs ports insts sub d [] [] h = tt
@@ -199,10 +195,10 @@ valid_cell d id body k =
     record {
       limits = k.fine.limits;
       names = k.fine.names;
-      placed = All-from_recursion (λ (i : design.Inst). IsCell d i.of) (insts_of body) (weaker (λ (i : design.Inst). IsSome (design.cell_at d.libs i.of) × Before id.lib.0 id.slot i.of) (λ (i : design.Inst). IsCell d i.of) (insts_of body) (λ i h. h.0) p);
-      not_later = All-from_recursion (λ (i : design.Inst). i.of.lib.0 ≤ id.lib.0) (insts_of body) (weaker (λ (i : design.Inst). IsSome (design.cell_at d.libs i.of) × Before id.lib.0 id.slot i.of) (λ (i : design.Inst). i.of.lib.0 ≤ id.lib.0) (insts_of body)
+      placed = All-from_recursion (λ (i : design.Inst). IsCell d i.of) (insts_of body) (all_weaker (λ (i : design.Inst). IsSome (design.cell_at d.libs i.of) × Before id.lib.0 id.slot i.of) (λ (i : design.Inst). IsCell d i.of) (insts_of body) (λ i h. h.0) p);
+      not_later = All-from_recursion (λ (i : design.Inst). i.of.lib.0 ≤ id.lib.0) (insts_of body) (all_weaker (λ (i : design.Inst). IsSome (design.cell_at d.libs i.of) × Before id.lib.0 id.slot i.of) (λ (i : design.Inst). i.of.lib.0 ≤ id.lib.0) (insts_of body)
           (λ i h. elim (h.1) [ inl l ↦ (let m : i.of.lib.0 < id.lib.0 = l in omega (arith, m)) | inr l ↦ (let m : i.of.lib.0 ≡ id.lib.0 = l.0 in omega (arith, m)) ]) p);
-      ends = All-from_recursion (IsEndOf d body) (ends_of body) (weaker (λ (e : design.End). EndAt d.libs body.ports (insts_of body) e.inst e.port e.bit) (IsEndOf d body) (ends_of body) (λ e h. end_of d body e.inst e.port e.bit h) es);
+      ends = All-from_recursion (IsEndOf d body) (ends_of body) (all_weaker (λ (e : design.End). EndAt d.libs body.ports (insts_of body) e.inst e.port e.bit) (IsEndOf d body) (ends_of body) (λ e h. end_of d body e.inst e.port e.bit h) es);
       joined_once = k.fine.joined_once;
     }
 
@@ -251,7 +247,7 @@ resolved d scope sub id (t ∷ ts) (n ∷ ns) h = (h.2, go (design.cell_at scope
     go (Some c) f g =
         let e : insts_of c ≡ insts_at d id = sym (ap (λ o. option_map_or insts_of o []) (sub id c f)) in
         let P : List design.Inst → Type 0 = λ v. Contains v h.2 in
-        subst P e (h.1, get_below (insts_of c) h.1 h.2 g, found_index (insts_of c) h.1 h.2 g)
+        subst P e (h.1, slice_get_within (insts_of c) h.1 h.2 g, found_index (insts_of c) h.1 h.2 g)
 
 pub notes_below : (d : design.Design) (scope : List design.Lib) → Within scope d.libs → (top : design.CellId) (ts : List Bare) (ns : List design.Note) → Each (MeansNote scope top) ts ns → AllByRecursion FineNote ns → AllByRecursion (IsNoteBelow d top) ns
 notes_below d scope sub top [] [] h v = tt

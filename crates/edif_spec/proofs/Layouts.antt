@@ -14,9 +14,10 @@ use Rattle.spelling_spec.specs.Spelling.{SpellsTokens, IsForm, Spells}
 use Rattle.spelling_spec.specs.Tree.{Bare, Trees, Form', Word', Integer', String', End, More, listing, listings, depth}
 use Rattle.spelling_spec.specs.declared.token.TokenKind.{TokenKind}
 use Rattle.spelling_spec.specs.declared.token.TokenKind.TheVariants.{LeftParen, RightParen, Word, Integer, String}
+use Rattle.spelling_spec.proofs.FaultLemmas.{all_append}
 use Rattle.edif_spec.specs.Canonical.{name_text, string_text, new_line, layout, layouts, on_line}
 use Rattle.edif_spec.specs.Writable.{IsWritable, AreWritable}
-use Rattle.edif_spec.proofs.StringLemmas.{all_append, string_spelled}
+use Rattle.edif_spec.proofs.StringLemmas.{string_spelled}
 
 -- white space before what is spelled changes nothing
 after_white : (b bytes : List ℕ) (ks : List TokenKind) → list_all is_space b ≡ true → SpellsTokens bytes ks → SpellsTokens (b ++ bytes) ks
@@ -50,7 +51,7 @@ name_spelled (b ∷ bs) h = (h, go (is_ascii_alphabetic b) refl)
     go true e = inr (refl, letter_is_no_digit b e)
     go false e = inl refl
 
-integer_spelled : (z : ℤ) → FitsSigned w64 z → SpellsInteger (signed_decimal z) z
+pub integer_spelled : (z : ℤ) → FitsSigned w64 z → SpellsInteger (signed_decimal z) z
 integer_spelled (pos n) h = let b : n < 2 ^ 63 = h.sfits in let d = decimal_is_IsNumeral n (omega arith) in (h, (decimal n, d.0, inl (inl refl, ap pos (sym d.1))))
 integer_spelled (negsuc n) h = let b : n < 2 ^ 63 = h.sfits in let d = decimal_is_IsNumeral (suc n) (omega arith) in (h, (decimal (suc n), d.0, inr (refl, ap (λ m. neg_ℤ (pos m)) (sym d.1))))
 

@@ -1,9 +1,10 @@
 -- No fault stands in a form that means something: references, instances and nets.
 use Rattle.std.proofs.Common.{◌≡◌, ℕ, suc, ◌<◌, pos, List, [], ◌∷◌, ◌++◌, map, length, refl, ap, sym, ◌∙◌, subst, inl, inr, Bool, true, false, Option, Some, None}
-use Rattle.std.specs.Prelude.{IsTrue, cond, ◌||◌, IfSome}
+use Rattle.std.specs.Prelude.{IsTrue, cond, IfSome}
 use Rattle.std.specs.List.{AllZip, AllByRecursion, flat_map, list_all}
 use Rattle.netlist_schema.specs.Names.{HasDistinctKeys}
 use Rattle.spelling_spec.specs.Tree.{Bare, Placed, Word', Integer', word, integer, bare}
+use Rattle.edif_spec.proofs.KnownForms.{only}
 use Rattle.edif_spec.specs.Keyword.{Many}
 use Rattle.edif_spec.specs.Rows.{has_keyword, those, is_follower, IsFormOf, Each, Perhaps}
 use Rattle.edif_spec.specs.Canonical.{ports_of_end}
@@ -119,17 +120,12 @@ end_apart libs ports insts t x f h (stands.end_bit l k b) =
     let Q : Option ℕ → Type 0 = λ v. MeansBits (ports_of_end libs ports insts v) (bare b.0) x.port x.first x.width in
     bits_apart (ports_of_end libs ports insts l) b.0 x.port x.first x.width f (subst Q (sym o) m) b.2
 
--- nets
-follower_has : (b : Bool) → (b || false) ≡ true → b ≡ true
-follower_has true h = refl
-follower_has false h = absurd (cc h)
-
 -- a list whose elements all pass is what passes of it
 pub all_kept : (k : Keyword) (ts : List Bare) → IsTrue (list_all (is_follower (Many k ∷ [])) ts) → those k ts ≡ ts
 all_kept k [] h = refl
 all_kept k (t ∷ ts) h =
     let f = both (is_follower (Many k ∷ []) t) (list_all (is_follower (Many k ∷ [])) ts) h in
-    ap (λ b. cond b (t ∷ those k ts) (those k ts)) (follower_has (has_keyword k t) f.0) ∙ ap (λ v. t ∷ v) (all_kept k ts f.1)
+    ap (λ b. cond b (t ∷ those k ts) (those k ts)) (only (has_keyword k t) f.0) ∙ ap (λ v. t ∷ v) (all_kept k ts f.1)
 
 joined_are : (t : Placed) (refs : List Bare) → IsFormOf keywords.Joined (bare t) [] refs → map bare (parts keywords.Joined keywords.PortRef t) ≡ refs
 joined_are t refs h = parts_are keywords.Joined keywords.PortRef t [] refs h ∙ all_kept keywords.PortRef refs h.fits.1

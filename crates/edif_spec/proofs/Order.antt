@@ -4,12 +4,14 @@ use Rattle.std.specs.Prelude.{IsSome, IfSome, cond, ◌||◌, option_map, unwrap
 use Rattle.std.specs.List.{list_all, list_any, AllByRecursion}
 use Rattle.std.proofs.lemmas.Bool.{and_from}
 use Rattle.std.proofs.lemmas.Bool.Decides.{nat_tests}
+use Rattle.std.proofs.lemmas.Option.{slice_get_within}
 use Rattle.netlist_schema.specs.Design.{insts_in}
+use Rattle.netlist_schema.proofs.Lists.{some_of}
 use Rattle.edif_spec.specs.Arranged.{is_written, is_ready, first_ready, order_from, order_of, orders_from, place_in, new_id, new_inst, new_contents, new_cell, new_top, new_cells, new_libs, arranged}
 use Rattle.edif_spec.specs.Defined.{AllAfter, DefinedBefore}
 use Rattle.order_spec.proofs.Places.{range}
 use Rattle.edif_spec.specs.Design as design
-use Rattle.edif_spec.proofs.CellPlaces.{get_below, get_after, length_last, some_of, any_append, lib_of_cell}
+use Rattle.edif_spec.proofs.CellPlaces.{get_after, length_last, any_append, lib_of_cell}
 
 abbrev pub upto : ℕ → List ℕ
 upto zero = []
@@ -72,7 +74,7 @@ unfolding InOrder
 same_id orders libs id o h =
     let c = some_of (design.cell_at libs id) h in
     let l = lib_of_cell libs id c.0 c.1 in
-    let below : id.slot < length l.0.cells = get_below l.0.cells id.slot c.0 l.2 in
+    let below : id.slot < length l.0.cells = slice_get_within l.0.cells id.slot c.0 l.2 in
     let p : place_in id.slot (range 0 (length l.0.cells)) ≡ id.slot = (let r = place_range id.slot 0 (length l.0.cells) (omega arith) (omega arith) in omega (arith, r)) in
     let slot : unwrap_or (option_map (place_in id.slot) (slice_get orders id.lib.0)) id.slot ≡ id.slot = ap (λ v. unwrap_or (option_map (place_in id.slot) v) id.slot) (o id.lib.0 l.0 l.1) ∙ p in
     λ i. record { lib = id.lib; slot = slot i }
@@ -119,7 +121,7 @@ in_scope before x id h e =
     let there : slice_get (before ++ x ∷ []) id.lib.0 ≡ Some x = ap (slice_get (before ++ x ∷ [])) q ∙ get_after before x [] in
     let s : Some l.0 ≡ Some x = sym l.1 ∙ there in
     let m : l.0 ≡ x = cc s in
-    get_below x.cells id.slot c.0 (ap (λ (v : design.Lib). slice_get v.cells id.slot) (sym m) ∙ l.2)
+    slice_get_within x.cells id.slot c.0 (ap (λ (v : design.Lib). slice_get v.cells id.slot) (sym m) ∙ l.2)
 
 earlier : (before : List design.Lib) (head : design.LibHead) (cells : List design.CellBody) (i : design.Inst) → IsSome (design.cell_at (Scope before head cells) i.of) → IsEarlier (length before) (length cells) i
 earlier before head cells i h = go (nat_eq i.of.lib.0 (length before)) refl (in_scope before (record { head = head; cells = cells }) i.of h)

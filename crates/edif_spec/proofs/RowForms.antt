@@ -1,16 +1,19 @@
 -- The nets for which the forms of nets stand: their names, their ends, and how many they are.
-use Rattle.std.proofs.Common.{◌≡◌, ℕ, zero, suc, ◌+◌, ◌*◌, ◌<◌, ◌≤◌, List, [], ◌∷◌, ◌++◌, map, replicate, length, refl, ap, sym, ◌∙◌, subst, Bool, true, false, Option, Some, None, arith, append_assoc, length-append}
+use Rattle.std.proofs.Common.{◌≡◌, ℕ, zero, suc, ◌+◌, ◌*◌, ◌<◌, ◌≤◌, List, [], ◌∷◌, map, replicate, length, refl, ap, sym, ◌∙◌, subst, Bool, true, false, Option, Some, None, arith, length-append}
 use Rattle.std.specs.Prelude.{IfSome}
 use Rattle.std.specs.List.{AllZip, AllByRecursion, flat_map}
 use Rattle.std.proofs.Math.Nat.{mul_comm, suc-mul}
-use Rattle.std.proofs.lemmas.List.{length-replicate}
+use Rattle.std.proofs.lemmas.List.{length-map, length-replicate}
+use Rattle.std.proofs.lemmas.Grind.{flat_map-append}
 use Rattle.netlist_schema.specs.Names.{HasDistinctKeys}
 use Rattle.netlist_schema.specs.Typed.{IsTypedName, IsTypedNet, IsTypedProperty}
 use Rattle.netlist_schema.specs.Width.{IsWidth}
+use Rattle.netlist_schema.proofs.Lists.{all_append}
 use Rattle.spelling_spec.specs.Tree.{Bare, Placed, integer, bare}
 use Rattle.std.specs.Prelude.{pos}
 use Rattle.bus_spec.specs.Members.{numbered}
 use Rattle.bus_spec.proofs.MemberNames.{member_typed}
+use Rattle.edif_spec.proofs.CellPlaces.{all_append_parts}
 use Rattle.edif_spec.specs.Faults.{declared_width, defined, repeated}
 use Rattle.edif_spec.specs.Means.{MeansBusName, MeansEnd, MeansNet}
 use Rattle.edif_spec.specs.Nets.{FineForm, NetForm, Stretch, end_of, name_at, net_at, nets_of, row_size}
@@ -18,7 +21,7 @@ use Rattle.edif_spec.specs.Rows.{has_keyword}
 use Rattle.edif_spec.specs.Stands.{MeansRowEnd, counted_ends, ends_in, is_arrayed, member_at, names_from, net_names_in, row_ends}
 use Rattle.edif_spec.specs.Design as design
 use Rattle.edif_spec.specs.declared.keyword.Keyword.TheVariants as keywords
-use Rattle.edif_spec.proofs.FaultForms.{map_length, part_there}
+use Rattle.edif_spec.proofs.FaultForms.{part_there}
 use Rattle.edif_spec.proofs.FaultsApart.{keyword_of, no_array}
 use Rattle.edif_spec.proofs.NetFaultsApart.{net_declares, net_ends, net_named, zip_append, zip_flat}
 
@@ -64,11 +67,6 @@ net_names_are libs ports insts t n h =
     let Q : Option (List ℕ × ℕ) → Type 0 = λ v. AllZip GivesName (names_from (is_arrayed (Some u.0)) (declared_width t) v) (nets_of n) in
     subst P (sym u.1) (subst Q (sym d.1) (names_of_row u.0 n n.array d.0 (declared_width t) m e))
 
--- ends
-pub flat_append : {A B : Type 0} (f : A → List B) (xs ys : List A) → flat_map f (xs ++ ys) ≡ flat_map f xs ++ flat_map f ys
-flat_append f [] ys = refl
-flat_append f (x ∷ xs) ys = ap (λ v. f x ++ v) (flat_append f xs ys) ∙ sym (append_assoc (f x) (flat_map f xs) (flat_map f ys))
-
 row_end_means : (libs : List design.Lib) (ports : List design.Port) (insts : List design.Inst) (k size wide : ℕ) → wide ≡ size → (us : List Placed) (ss : List Stretch) → AllZip (λ u s. MeansEnd libs ports insts (bare u) s) us ss → AllByRecursion (λ s. s.width ≡ wide) ss
     → AllZip (MeansRowEnd libs ports insts) (map (λ u. (u, k, size)) us) (map (end_of k) ss)
 row_end_means libs ports insts k size wide e [] [] h w = tt
@@ -93,7 +91,7 @@ row_ends_of libs ports insts [] (n ∷ ns) h = absurd h
 row_ends_of libs ports insts (t ∷ ts) [] h = absurd h
 row_ends_of libs ports insts (t ∷ ts) (n ∷ ns) h =
     let P : List design.End → Type 0 = λ v. AllZip (MeansRowEnd libs ports insts) (flat_map row_ends (t ∷ ts)) v in
-    subst P (sym (flat_append (λ (x : design.Net). x.ends) (nets_of n) (flat_map nets_of ns)))
+    subst P (sym (flat_map-append (λ (x : design.Net). x.ends) (nets_of n) (flat_map nets_of ns)))
     (zip_append (MeansRowEnd libs ports insts) (row_ends t) (flat_map (λ (x : design.Net). x.ends) (nets_of n)) (flat_map row_ends ts) (flat_map (λ (x : design.Net). x.ends) (flat_map nets_of ns)) (row_ends_are libs ports insts t n h.0) (row_ends_of libs ports insts ts ns h.1))
 
 -- how many they are
@@ -110,7 +108,7 @@ row_counts : (t : Placed) → length (row_ends t) ≡ length (counted_ends t)
 row_counts t =
     let us = ends_in t in
     let size = declared_width t in
-    let a : length (row_ends t) ≡ length (numbered (λ k. k) 0 size) * length us = flat_length (λ k. map (λ u. (u, k, size)) us) (length us) (numbered (λ k. k) 0 size) (λ k. map_length (λ u. (u, k, size)) us) in
+    let a : length (row_ends t) ≡ length (numbered (λ k. k) 0 size) * length us = flat_length (λ k. map (λ u. (u, k, size)) us) (length us) (numbered (λ k. k) 0 size) (λ k. length-map us (λ u. (u, k, size))) in
     let b : length (counted_ends t) ≡ length us * size = flat_length (λ u. replicate size u) size us (λ u. length-replicate size u) in
     a ∙ (ap (λ v. v * length us) (length_numbered (λ k. k) 0 size) ∙ (mul_comm size (length us) ∙ sym b))
 
@@ -148,13 +146,9 @@ small_row (Some w) h = let l = h.1 in omega (arith, l)
 pub row_fine : (n : NetForm) → FineForm n → AllByRecursion (λ x. IsTypedNet x × HasDistinctKeys x.properties) (nets_of n)
 row_fine n h = all_numbered (λ x. IsTypedNet x × HasDistinctKeys x.properties) (net_at n) 0 (row_size n.array) 65536 (small_row n.array h.array) (λ k l. (record { name = name_typed n.name n.array k h.name l; properties = h.properties }, h.keys))
 
-all_join : {A : Type 0} (P : A → Type 0) (xs ys : List A) → AllByRecursion P xs → AllByRecursion P ys → AllByRecursion P (xs ++ ys)
-all_join P [] ys h k = k
-all_join P (x ∷ xs) ys h k = (h.0, all_join P xs ys h.1 k)
-
 pub rows_fine : (ns : List NetForm) → AllByRecursion FineForm ns → AllByRecursion (λ x. IsTypedNet x × HasDistinctKeys x.properties) (flat_map nets_of ns)
 rows_fine [] h = tt
-rows_fine (n ∷ ns) h = all_join (λ x. IsTypedNet x × HasDistinctKeys x.properties) (nets_of n) (flat_map nets_of ns) (row_fine n h.0) (rows_fine ns h.1)
+rows_fine (n ∷ ns) h = all_append (λ x. IsTypedNet x × HasDistinctKeys x.properties) (nets_of n) (flat_map nets_of ns) (row_fine n h.0) (rows_fine ns h.1)
 
 -- and the keys of a form, by its nets
 some_net : (n : NetForm) (o : Option ℕ) → IfSome o IsWidth → (P : design.Net → Type 0) → AllByRecursion P (numbered (row_net n o) 0 (row_size o)) → P (row_net n o 0)
@@ -165,10 +159,6 @@ some_net n (Some (suc w)) h P a = a.0
 pub keys_of_row : (n : NetForm) → IfSome n.array IsWidth → AllByRecursion (λ (x : design.Net). HasDistinctKeys x.properties) (nets_of n) → HasDistinctKeys n.properties
 keys_of_row n w h = some_net n n.array w (λ (x : design.Net). HasDistinctKeys x.properties) h
 
-front : {A : Type 0} (P : A → Type 0) (xs ys : List A) → AllByRecursion P (xs ++ ys) → AllByRecursion P xs × AllByRecursion P ys
-front P [] ys h = (tt, h)
-front P (x ∷ xs) ys h = let r = front P xs ys h.1 in ((h.0, r.0), r.1)
-
 wide_enough : (u : Bare) (name : design.Name) (o : Option ℕ) → MeansBusName u name o → IfSome o IsWidth
 wide_enough u name None h = tt
 wide_enough u name (Some w) h = h.3
@@ -178,5 +168,5 @@ keys_of_rows libs ports insts [] [] h k = tt
 keys_of_rows libs ports insts [] (n ∷ ns) h k = absurd h
 keys_of_rows libs ports insts (t ∷ ts) [] h k = absurd h
 keys_of_rows libs ports insts (t ∷ ts) (n ∷ ns) h k =
-    let p = front (λ (x : design.Net). HasDistinctKeys x.properties) (nets_of n) (flat_map nets_of ns) k in
+    let p = all_append_parts (λ (x : design.Net). HasDistinctKeys x.properties) (nets_of n) (flat_map nets_of ns) k in
     (keys_of_row n (wide_enough h.0.name_part n.name n.array h.0.name) p.0, keys_of_rows libs ports insts ts ns h.1 p.1)

@@ -1,11 +1,8 @@
 -- The test of equality ignoring ASCII case, and equality in lower case.
-use Rattle.std.proofs.Common.{◌≡◌, ℕ, List, [], ◌∷◌, Bool, true, false, ◌&&◌, nat_eq, map, refl, sym, ap, ◌∙◌, eq-eqb, eqb-true}
+use Rattle.std.proofs.Common.{◌≡◌, ℕ, List, [], ◌∷◌, true, ◌&&◌, nat_eq, map, refl, ap, ◌∙◌, eq-eqb, eqb-true}
 use Rattle.std.specs.Char.{to_ascii_lowercase}
+use Rattle.std.proofs.lemmas.Bool.{and_parts}
 use Rattle.edif_spec.specs.Keyword.{same}
-
-both : (a b : Bool) → (a && b) ≡ true → (a ≡ true) × (b ≡ true)
-both true b h = (refl, h)
-both false b h = absurd (cc h)
 
 -- equal ignoring case are equal in lower case
 pub same_says : (a b : List ℕ) → same a b ≡ true → map to_ascii_lowercase a ≡ map to_ascii_lowercase b
@@ -13,7 +10,7 @@ same_says [] [] h = refl
 same_says [] (c ∷ b) h = absurd (cc h)
 same_says (x ∷ a) [] h = absurd (cc h)
 same_says (x ∷ a) (y ∷ b) h =
-    let t = both (nat_eq (to_ascii_lowercase x) (to_ascii_lowercase y)) (same a b) h in
+    let t = and_parts (nat_eq (to_ascii_lowercase x) (to_ascii_lowercase y)) (same a b) h in
     let e : to_ascii_lowercase x ≡ to_ascii_lowercase y = eqb-true _ _ t.0 in
     let f : map to_ascii_lowercase a ≡ map to_ascii_lowercase b = same_says a b t.1 in cc
 
@@ -26,9 +23,3 @@ says_same (x ∷ a) (y ∷ b) h =
     let e : to_ascii_lowercase x ≡ to_ascii_lowercase y = cc h in
     let f : map to_ascii_lowercase a ≡ map to_ascii_lowercase b = cc h in
     ap (λ v. v && same a b) (eq-eqb _ _ e) ∙ says_same a b f
-
--- two tests that hold together are one
-pub one_test : (r s : Bool) → (r ≡ true → s ≡ true) → (s ≡ true → r ≡ true) → r ≡ s
-one_test true s f g = sym (f refl)
-one_test false true f g = g refl
-one_test false false f g = refl

@@ -1,9 +1,11 @@
 -- References in the canonical tree mean what they were made of.
-use Rattle.std.proofs.Common.{◌≡◌, ℕ, zero, suc, List, [], ◌∷◌, ◌++◌, map, refl, ap, sym, ◌∙◌, Bool, true, false, not, Option, Some, None, arith}
-use Rattle.std.specs.Prelude.{IsSome, ◌&&◌, ◌||◌, slice_get, option_map, nat_eq}
+use Rattle.std.proofs.Common.{◌≡◌, ℕ, zero, suc, List, [], ◌∷◌, ◌++◌, map, refl, ap, sym, ◌∙◌, Bool, true, false, not, Some, arith}
+use Rattle.std.specs.Prelude.{◌&&◌, slice_get, option_map, nat_eq}
 use Rattle.std.specs.List.{list_any}
-use Rattle.std.specs.Option.{option_map_or}
 use Rattle.std.proofs.lemmas.Bool.Decides.{nat_tests}
+use Rattle.std.proofs.lemmas.Bool.{or_parts, not-true}
+use Rattle.netlist_schema.proofs.Lists.{get_still}
+use Rattle.edif_spec.proofs.CellPlaces.{lib_of_cell}
 use Rattle.edif_spec.specs.Means.{meant, Found, equal, first_place}
 use Rattle.edif_spec.proofs.ValidForms.{distinct}
 use Rattle.edif_spec.specs.Design as design
@@ -13,19 +15,11 @@ equal_self : (n : List ℕ) → equal n n ≡ true
 equal_self [] = refl
 equal_self (b ∷ n) = and_true (nat_eq b b) (equal n n) (grind (arith, nat_tests)) (equal_self n)
 
-neither : (a b : Bool) → (a || b) ≡ false → (a ≡ false) × (b ≡ false)
-neither true b h = absurd (cc h)
-neither false b h = (refl, h)
-
-pub is_false : (a : Bool) → not a ≡ true → a ≡ false
-is_false true h = absurd (cc h)
-is_false false h = refl
-
 -- none of the list passes, so the one at a place does not
 pub none_at : (p : List ℕ → Bool) (ns : List (List ℕ)) (i : ℕ) (n : List ℕ) → list_any p ns ≡ false → slice_get ns i ≡ Some n → p n ≡ false
 none_at p [] i n h e = absurd (cc e)
-none_at p (m ∷ ns) zero n h e = let w : m ≡ n = cc e in ap p (sym w) ∙ (neither (p m) (list_any p ns) h).0
-none_at p (m ∷ ns) (suc i) n h e = none_at p ns i n (neither (p m) (list_any p ns) h).1 e
+none_at p (m ∷ ns) zero n h e = let w : m ≡ n = cc e in ap p (sym w) ∙ (or_parts (p m) (list_any p ns) h).0
+none_at p (m ∷ ns) (suc i) n h e = none_at p ns i n (or_parts (p m) (list_any p ns) h).1 e
 
 pub equal_sym : (m n : List ℕ) → equal m n ≡ false → equal n m ≡ false
 equal_sym [] [] h = h
@@ -44,7 +38,7 @@ first_at [] i n h e = absurd (cc e)
 first_at (m ∷ ns) zero n h e = let w : m ≡ n = cc e in rw (ap (equal n) w ∙ equal_self n) refl
 first_at (m ∷ ns) (suc i) n h e =
     let d = both (not (list_any (equal m) ns)) (distinct ns) h in
-    let f : equal n m ≡ false = equal_sym m n (none_at (equal m) ns i n (is_false (list_any (equal m) ns) d.0) e) in
+    let f : equal n m ≡ false = equal_sym m n (none_at (equal m) ns i n (not-true (list_any (equal m) ns) d.0) e) in
     rw f (ap (option_map (λ j. suc j)) (first_at ns i n d.1 e))
 
 -- the name at a place of a scope of different names means that place
@@ -53,39 +47,13 @@ meant_self ns i n h e = rw (first_at ns i n h e) refl
 
 any_front : (p : List ℕ → Bool) (a b : List (List ℕ)) → list_any p (a ++ b) ≡ false → list_any p a ≡ false
 any_front p [] b h = refl
-any_front p (n ∷ a) b h = let f = neither (p n) (list_any p (a ++ b)) h in rw f.0 (any_front p a b f.1)
+any_front p (n ∷ a) b h = let f = or_parts (p n) (list_any p (a ++ b)) h in rw f.0 (any_front p a b f.1)
 
 pub distinct_front : (a b : List (List ℕ)) → distinct (a ++ b) ≡ true → distinct a ≡ true
 distinct_front [] b h = refl
 distinct_front (n ∷ a) b h =
     let d = both (not (list_any (equal n) (a ++ b))) (distinct (a ++ b)) h in
-    and_true (not (list_any (equal n) a)) (distinct a) (rw (any_front (equal n) a b (is_false (list_any (equal n) (a ++ b)) d.0)) refl) (distinct_front a b d.1)
-
-pub map_append : {A B : Type 0} (f : A → B) (xs ys : List A) → map f (xs ++ ys) ≡ map f xs ++ map f ys
-map_append f [] ys = refl
-map_append f (x ∷ xs) ys = ap (λ v. f x ∷ v) (map_append f xs ys)
-
-pub get_map : {A B : Type 0} (f : A → B) (xs : List A) (i : ℕ) (x : A) → slice_get xs i ≡ Some x → slice_get (map f xs) i ≡ Some (f x)
-get_map f [] i x e = absurd (cc e)
-get_map f (y ∷ xs) zero x e = let w : y ≡ x = cc e in ap (λ v. Some (f v)) w
-get_map f (y ∷ xs) (suc i) x e = get_map f xs i x e
-
-pub get_front : {A : Type 0} (xs ys : List A) (i : ℕ) (x : A) → slice_get xs i ≡ Some x → slice_get (xs ++ ys) i ≡ Some x
-get_front [] ys i x e = absurd (cc e)
-get_front (y ∷ xs) ys zero x e = e
-get_front (y ∷ xs) ys (suc i) x e = get_front xs ys i x e
-
-pub some_of : {A : Type 0} (o : Option A) → IsSome o → (x : A) × (o ≡ Some x)
-some_of None h = absurd (cc h)
-some_of (Some x) h = (x, refl)
-
--- the library in which a cell stands
-pub lib_of_cell : (libs : List design.Lib) (id : design.CellId) (c : design.CellBody) → design.cell_at libs id ≡ Some c → (l : design.Lib) × (slice_get libs id.lib.0 ≡ Some l) × (slice_get l.cells id.slot ≡ Some c)
-lib_of_cell libs id c e = go (slice_get libs id.lib.0) refl e
-  where
-    go : (o : Option design.Lib) → slice_get libs id.lib.0 ≡ o → slice_get (option_map_or (λ lib. lib.cells) o []) id.slot ≡ Some c → (l : design.Lib) × (slice_get libs id.lib.0 ≡ Some l) × (slice_get l.cells id.slot ≡ Some c)
-    go None f h = absurd (cc h)
-    go (Some l) f h = (l, f, h)
+    and_true (not (list_any (equal n) a)) (distinct a) (rw (any_front (equal n) a b (not-true (list_any (equal n) (a ++ b)) d.0)) refl) (distinct_front a b d.1)
 
 -- The scope has libraries of all, the last perhaps with fewer cells, and names in it differ.
 pub record IsScope (scope all : List design.Lib) : Type 0 where
@@ -97,4 +65,4 @@ pub cell_in_all : (scope all : List design.Lib) (id : design.CellId) (c : design
 cell_in_all scope all id c s e =
     let l = lib_of_cell scope id c e in
     let m = s.at id.lib.0 l.0 l.1 in
-    rw m.1 (rw m.3.1 (get_front l.0.cells m.3.0 id.slot c l.2))
+    rw m.1 (rw m.3.1 (get_still l.0.cells m.3.0 id.slot c l.2))

@@ -1,8 +1,8 @@
 -- The text of a string spells it.
 use Rattle.std.proofs.Common.{◌≡◌, ℕ, ◌<◌, List, [], ◌∷◌, ◌++◌, refl, ap, sym, ◌∙◌, append_assoc, Bool, true, false, not, arith}
-use Rattle.std.specs.Prelude.{cond, ◌&&◌, decimal}
+use Rattle.std.specs.Prelude.{cond, decimal}
 use Rattle.std.specs.Char.{digit_value}
-use Rattle.std.specs.List.{list_all, AllByRecursion}
+use Rattle.std.specs.List.{AllByRecursion}
 use Rattle.std.specs.Str.Parse.{AllDigits}
 use Rattle.std.proofs.lemmas.Bool.{and_from}
 use Rattle.std.proofs.lemmas.Bool.Decides.{nat_tests}
@@ -11,15 +11,8 @@ use Rattle.std.proofs.lemmas.List.Elements.{recursion_from_All}
 use Rattle.netlist_schema.specs.Typed.{IsBytes}
 use Rattle.spelling_spec.specs.Bytes.{is_quote, is_percent, is_unquoted, has_no_percent}
 use Rattle.spelling_spec.specs.Grammar.{EndsCode, IsCodes, StandsFor, SpellsString}
+use Rattle.spelling_spec.proofs.FaultLemmas.{all_append}
 use Rattle.edif_spec.specs.Canonical.{string_text, plain_text, coded_text, is_plain}
-
-pub all_append : (p : ℕ → Bool) (a b : List ℕ) → list_all p a ≡ true → list_all p b ≡ true → list_all p (a ++ b) ≡ true
-all_append p [] b h k = k
-all_append p (x ∷ a) b h k = go (p x) h (λ t. all_append p a b t k)
-  where
-    go : (c : Bool) → (c && list_all p a) ≡ true → (list_all p a ≡ true → list_all p (a ++ b) ≡ true) → (c && list_all p (a ++ b)) ≡ true
-    go true e more = more e
-    go false e more = absurd (cc e)
 
 -- The codes that are open go on in these bytes, and end with a `%`, behind which stands what the rest stands for.
 record GoesOn (bytes value : List ℕ) : Type 0 where

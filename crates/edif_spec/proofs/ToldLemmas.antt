@@ -2,6 +2,7 @@
 use Rattle.std.proofs.Common.{◌≡◌, ℕ, zero, suc, ◌+◌, ◌<◌, ℤ, pos, List, [], ◌∷◌, ◌++◌, map, replicate, length, refl, ap, sym, ◌∙◌, subst, inl, inr, Bool, true, false, Option, Some, None, arith}
 use Rattle.std.specs.Prelude.{IsTrue, cond, filter, drop, slice_get}
 use Rattle.std.specs.List.{AllByRecursion, flat_map}
+use Rattle.netlist_schema.proofs.Lists.{all_at, all_append}
 use Rattle.bus_spec.specs.Members.{numbered}
 use Rattle.spelling_spec.specs.Tree.{Bare, Placed, Form', Word', Integer', String', End, More, bare}
 use Rattle.edif_spec.specs.Keyword.{row, Row, Takes, Skips, Choice, Follower, Many, One}
@@ -14,7 +15,6 @@ use Rattle.edif_spec.specs.Stands as stands
 use Rattle.edif_spec.specs.Told.{IsIn, IsUnder, IsOutside, IsFaulty, AreTwo, Gives, Told}
 use Rattle.edif_spec.specs.Told as told
 use Rattle.edif_spec.specs.Design as design
-use Rattle.edif_spec.proofs.CellPlaces.{all_at}
 use Rattle.edif_spec.specs.declared.keyword.Keyword.{Keyword}
 use Rattle.edif_spec.specs.declared.keyword.Keyword.TheVariants as keywords
 use Rattle.edif_spec.specs.declared.fault.Kind.{Kind}
@@ -463,14 +463,9 @@ repeated_inside r Q count ts h = inside_flat r Q Q (λ t. replicate (count t) t)
 all_ends : (r t : Placed) → IsIn r t → Inside r (IsA keywords.PortRef) (flat_map counted_ends (nets_in t))
 all_ends r t h = inside_flat r (IsA keywords.Net) (IsA keywords.PortRef) counted_ends (nets_in t) (inside_parts r keywords.Contents keywords.Net t h) (λ u i w. repeated_inside r (IsA keywords.PortRef) (λ v. declared_width u) (ends_in u) (ends_inside r u i))
 
--- lists of other things that stand in the tree
-all_joined : {A : Type 0} (P : A → Type 0) (xs ys : List A) → AllByRecursion P xs → AllByRecursion P ys → AllByRecursion P (xs ++ ys)
-all_joined P [] ys h k = k
-all_joined P (x ∷ xs) ys h k = (h.0, all_joined P xs ys h.1 k)
-
 all_flat : {A : Type 0} (Q : Placed → Type 0) (r : Placed) (P : A → Type 0) (g : Placed → List A) (ts : List Placed) → Inside r Q ts → ((u : Placed) → IsIn r u → Q u → AllByRecursion P (g u)) → AllByRecursion P (flat_map g ts)
 all_flat Q r P g [] h f = tt
-all_flat Q r P g (t ∷ ts) h f = let w = h 0 t refl in all_joined P (g t) (flat_map g ts) (f t w.0 w.1) (all_flat Q r P g ts (λ i. h (suc i)) f)
+all_flat Q r P g (t ∷ ts) h f = let w = h 0 t refl in all_append P (g t) (flat_map g ts) (f t w.0 w.1) (all_flat Q r P g ts (λ i. h (suc i)) f)
 
 row_inside : (r t : Placed) → IsIn r t → AllByRecursion (λ (x : Placed × ℕ × ℕ). IsIn r x.0 × IsA keywords.PortRef x.0) (row_ends t)
 row_inside r t h = by_number (numbered (λ k. k) 0 (declared_width t))
@@ -481,7 +476,7 @@ row_inside r t h = by_number (numbered (λ k. k) 0 (declared_width t))
 
     by_number : (ks : List ℕ) → AllByRecursion (λ (x : Placed × ℕ × ℕ). IsIn r x.0 × IsA keywords.PortRef x.0) (flat_map (λ k. map (λ u. (u, k, declared_width t)) (ends_in t)) ks)
     by_number [] = tt
-    by_number (k ∷ ks) = all_joined (λ (x : Placed × ℕ × ℕ). IsIn r x.0 × IsA keywords.PortRef x.0) (map (λ u. (u, k, declared_width t)) (ends_in t)) (flat_map (λ k. map (λ u. (u, k, declared_width t)) (ends_in t)) ks) (of_net k (ends_in t) (ends_inside r t h)) (by_number ks)
+    by_number (k ∷ ks) = all_append (λ (x : Placed × ℕ × ℕ). IsIn r x.0 × IsA keywords.PortRef x.0) (map (λ u. (u, k, declared_width t)) (ends_in t)) (flat_map (λ k. map (λ u. (u, k, declared_width t)) (ends_in t)) ks) (of_net k (ends_in t) (ends_inside r t h)) (by_number ks)
 
 nets_told : (r : Placed) (libs : List design.Lib) (own : Option ℕ) (ports : List design.Port) (t : Placed) (f : MeaningFault) → IsIn r t → NetsFault libs own ports t f → Told r f
 nets_told r libs own ports t f h (stands.one_net insts m b) = among_told r (IsA keywords.Net) (NetFault libs ports insts) (nets_in t) f (inside_parts r keywords.Contents keywords.Net t h) (λ u i w c. net_told r libs ports insts u f i w c) b

@@ -3,7 +3,10 @@ use Rattle.std.proofs.Common.{◌≡◌, ℕ, zero, suc, List, [], ◌∷◌, �
 use Rattle.std.specs.Prelude.{IfSome, codes, slice_get, option_map, unwrap_or, filter}
 use Rattle.std.specs.List.{AllByRecursion}
 use Rattle.std.proofs.lemmas.List.Elements.{filter-append}
+use Rattle.netlist_schema.proofs.Lists.{some_of, get_mapped, all_at}
 use Rattle.spelling_spec.specs.Tree.{Bare, word}
+use Rattle.edif_spec.proofs.KnownForms.{map_append}
+use Rattle.edif_spec.proofs.CellPlaces.{lib_of_cell}
 use Rattle.edif_spec.specs.Keyword.{Many}
 use Rattle.edif_spec.specs.Rows.{Perhaps}
 use Rattle.edif_spec.specs.Canonical.{perhaps, name_tree, property_tree, cell_ref_tree, contents_tree, design_tree, note_tree, tree_of}
@@ -12,14 +15,14 @@ use Rattle.netlist_schema.specs.Design.{insts_in}
 use Rattle.netlist_schema.specs.Valid.{IsValid}
 use Rattle.edif_spec.specs.Defined.{AllAfter, DefinedBefore}
 use Rattle.edif_spec.proofs.ValidForms.{distinct, Valid, ValidLib, ValidCell, ValidTop, ValidPath, ValidNote, ValidRoot, ValidContents}
-use Rattle.edif_spec.proofs.FromValid.{all_at, from_valid}
+use Rattle.edif_spec.proofs.FromValid.{from_valid}
 use Rattle.edif_spec.specs.declared.keyword.Keyword.{Keyword}
 use Rattle.edif_spec.specs.declared.keyword.Keyword.TheVariants as keywords
 use Rattle.edif_spec.specs.Design as design
 use Rattle.edif_spec.proofs.Groups.{joined, Grouped, those_joined, joined_follows}
 use Rattle.edif_spec.proofs.Followers.{all_kept, none_kept, each_map}
 use Rattle.edif_spec.proofs.Meanings.{name_fits, name_meant, group_of, properties_meant, property_meant, ContentsMeant}
-use Rattle.edif_spec.proofs.Scopes.{meant_self, get_map, map_append, distinct_front, some_of, lib_of_cell, IsScope}
+use Rattle.edif_spec.proofs.Scopes.{meant_self, distinct_front, IsScope}
 use Rattle.edif_spec.proofs.ContentsMeanings.{cell_ref_meant, DefinedIn, PortsDiffer, contents_meant}
 use Rattle.edif_spec.proofs.Files.{CellMeant, file_meant}
 
@@ -118,7 +121,7 @@ path_meant d id (n ∷ ns) v h = (
   h.0,
   h.1,
   refl,
-  ap (meant (design.inst_ids (design.insts_at d.libs id))) h.3 ∙ meant_self (design.inst_ids (design.insts_at d.libs id)) h.0 h.1.name.id (insts_differ d id v) (get_map (λ (y : design.Inst). y.name.id) (design.insts_at d.libs id) h.0 h.1 h.2),
+  ap (meant (design.inst_ids (design.insts_at d.libs id))) h.3 ∙ meant_self (design.inst_ids (design.insts_at d.libs id)) h.0 h.1.name.id (insts_differ d id v) (get_mapped (λ (y : design.Inst). y.name.id) (design.insts_at d.libs id) h.0 h.1 h.2),
   h.2,
   h.3,
   path_meant d h.1.of ns v h.4,

@@ -1,5 +1,5 @@
 -- The forms in which nets are written stand for the nets, and are such as can be written.
-use Rattle.std.proofs.Common.{◌≡◌, ℕ, zero, suc, pred, ◌+◌, ◌<◌, ◌≤◌, List, [], ◌∷◌, ◌++◌, map, take, drop, refl, ap, sym, ◌∙◌, Bool, true, false, Option, Some, None, arith}
+use Rattle.std.proofs.Common.{◌≡◌, ℕ, zero, suc, pred, ◌+◌, ◌<◌, ◌≤◌, List, [], ◌∷◌, ◌++◌, map, drop, refl, ap, sym, ◌∙◌, Bool, true, false, Option, Some, None, arith}
 use Rattle.std.specs.Prelude.{IfSome, cond, nat_le, slice_get}
 use Rattle.std.specs.List.{AllByRecursion, flat_map}
 use Rattle.std.proofs.lemmas.Bool.Decides.{nat_tests}
@@ -9,15 +9,11 @@ use Rattle.bus_spec.specs.Members.{numbered}
 use Rattle.bus_spec.specs.Runs.{row_net, run_name, run_width, with_bit}
 use Rattle.bus_spec.proofs.Fronts.{Front, front_there}
 use Rattle.bus_spec.proofs.MemberNames.{run_name_typed}
+use Rattle.edif_spec.proofs.KnownForms.{split}
 use Rattle.edif_spec.specs.Design as design
 use Rattle.edif_spec.specs.Nets.{NetForm, Stretch, bit_of, end_of, form_of, forms_behind, name_at, net_at, net_forms, nets_of, run_form, single_form, whole_of}
 
 -- ---- the nets of the forms
-
-front_and_rest : {A : Type 0} (n : ℕ) (xs : List A) → take n xs ++ drop n xs ≡ xs
-front_and_rest zero xs = refl
-front_and_rest (suc n) [] = refl
-front_and_rest (suc n) (x ∷ xs) = ap (λ v. x ∷ v) (front_and_rest n xs)
 
 bit_itself : (es : List design.End) → map (end_of 0) (map bit_of es) ≡ es
 bit_itself [] = refl
@@ -49,7 +45,7 @@ front_nets ports n ns w e = by (nat_le 2 w) refl
   where
     many : (v : ℕ) → 2 ≤ v → Front ports n ns v → nets_of (run_form v n) ++ drop (pred v) ns ≡ n ∷ ns
     many zero l f = absurd (omega (arith, l))
-    many (suc v) l f = ap (λ x. x ++ drop v ns) (run_nets (suc v) n 0 (suc v) ∙ sym f.row) ∙ front_and_rest (suc v) (n ∷ ns)
+    many (suc v) l f = ap (λ x. x ++ drop v ns) (run_nets (suc v) n 0 (suc v) ∙ sym f.row) ∙ split (suc v) (n ∷ ns)
 
     few : (v : ℕ) → nat_le 2 v ≡ false → nets_of (single_form n) ++ drop (pred v) ns ≡ n ∷ ns
     few zero g = ap (λ x. x ++ ns) (single_nets n)

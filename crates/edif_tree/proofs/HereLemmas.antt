@@ -2,7 +2,7 @@
 use Rattle.std.proofs.Common.{◌≡◌, ◌<◌, ◌+◌, ℕ, zero, suc, true, List, [], ◌∷◌, length, map, take, drop, get_or, Option, Some, refl, sym, ap, ◌∙◌, subst, arith}
 use Rattle.std.specs.Prelude.{slice_get, option_map, nat_lt}
 use Rattle.std.specs.List.{list_all}
-use Rattle.std.proofs.lemmas.Bool.{ltb-true, lt-ltb}
+use Rattle.std.proofs.lemmas.Bool.{ltb-true, lt-ltb, and_parts, and_from}
 use Rattle.spelling_spec.specs.Tree.{Placed, Trees, Form', Word', Integer', String', End, More, trees}
 use Rattle.edif_tree.specs.Nodes.{Seen, FormOf, WordOf, IntegerOf, StringOf, Row, IsAt, AreAt, place_of}
 use Rattle.edif_tree.specs.Order.{in_order_at, in_order_from, is_node, are_nodes}
@@ -10,7 +10,6 @@ use Rattle.edif_tree.specs.Here.{each, seen_tree, row_tree, tree_within, tree_at
 use Rattle.edif_tree.specs.declared.stored.NodeId.{NodeId}
 use Rattle.edif_tree.proofs.OneTree.{one_at}
 use Rattle.edif_tree.proofs.NodeLemmas.{node_in_rows}
-use Rattle.edif_tree.proofs.OrderLemmas.{both, and_both}
 
 order_at : (rows : List Row) (k i : ℕ) (row : Row) → in_order_from k rows ≡ true → slice_get rows i ≡ Some row → in_order_at (i + k) row.shape ≡ true
 order_at [] k i row h e = absurd (cc e)
@@ -19,11 +18,11 @@ order_at (r ∷ rows) k zero row h e =
     let P : Row → Type 0 = λ v. in_order_at k v.shape ≡ true in
     let z : k ≡ zero + k = omega arith in
     let Q : ℕ → Type 0 = λ v. in_order_at v row.shape ≡ true in
-    subst Q z (subst P w (both (in_order_at k r.shape) (in_order_from (suc k) rows) h).0)
+    subst Q z (subst P w (and_parts (in_order_at k r.shape) (in_order_from (suc k) rows) h).0)
 order_at (r ∷ rows) k (suc i) row h e =
     let z : i + suc k ≡ suc i + k = omega arith in
     let Q : ℕ → Type 0 = λ v. in_order_at v row.shape ≡ true in
-    subst Q z (order_at rows (suc k) i row (both (in_order_at k r.shape) (in_order_from (suc k) rows) h).1 e)
+    subst Q z (order_at rows (suc k) i row (and_parts (in_order_at k r.shape) (in_order_from (suc k) rows) h).1 e)
 
 some_at : (rows : List Row) (i : ℕ) → i < length rows → (row : Row) × (slice_get rows i ≡ Some row)
 some_at [] i l = absurd (omega arith)
@@ -33,7 +32,7 @@ some_at (r ∷ rows) (suc i) l = some_at rows i (omega arith)
 each_stand : (f : ℕ → Placed) (rows : List Row) (i : ℕ) (ids : List NodeId) → ((id : NodeId) → id.0 < i → IsAt rows id (f id.0)) → list_all (λ (id : NodeId). nat_lt id.0 i) ids ≡ true → AreAt rows ids (each f ids)
 each_stand f rows i [] h o = tt
 each_stand f rows i (id ∷ ids) h o =
-    let b = both (nat_lt id.0 i) (list_all (λ (j : NodeId). nat_lt j.0 i) ids) o in
+    let b = and_parts (nat_lt id.0 i) (list_all (λ (j : NodeId). nat_lt j.0 i) ids) o in
     (h id (ltb-true id.0 i b.0), each_stand f rows i ids h b.1)
 
 row_stands : (f : ℕ → Placed) (rows : List Row) (id : NodeId) (p : ℕ) (s : Seen) → ((j : NodeId) → j.0 < id.0 → IsAt rows j (f j.0)) → in_order_at id.0 s ≡ true → slice_get rows id.0 ≡ Some (record { place = p; shape = s }) → IsAt rows id (seen_tree f p s)
@@ -54,14 +53,14 @@ stands (suc n) rows id h l m =
 pub node_stands : (rows : List Row) (id : NodeId) → is_node rows id ≡ true → IsAt rows id (tree_at rows id)
 unfolding tree_at
 node_stands rows id h =
-    let b = both (in_order_from 0 rows) (nat_lt id.0 (length rows)) h in
+    let b = and_parts (in_order_from 0 rows) (nat_lt id.0 (length rows)) h in
     let l = ltb-true id.0 (length rows) b.1 in
     stands (length rows) rows id b.0 l l
 
 -- what stands at a node is a node, and its tree
 pub stands_is : (rows : List Row) (id : NodeId) (t : Placed) → in_order_from 0 rows ≡ true → IsAt rows id t → (is_node rows id ≡ true) × (tree_at rows id ≡ t)
 stands_is rows id t o a =
-    let n = and_both (in_order_from 0 rows) (nat_lt id.0 (length rows)) o (lt-ltb id.0 (length rows) (node_in_rows rows id t a)) in
+    let n = and_from (in_order_from 0 rows) (nat_lt id.0 (length rows)) o (lt-ltb id.0 (length rows) (node_in_rows rows id t a)) in
     (n, one_at (tree_at rows id) t rows id (node_stands rows id n) a)
 
 pub stand_are : (rows : List Row) (ids : List NodeId) (ts : Trees ℕ) → in_order_from 0 rows ≡ true → AreAt rows ids ts → (are_nodes rows ids ≡ true) × (ts ≡ trees (map (tree_at rows) ids))
@@ -71,7 +70,7 @@ stand_are rows (id ∷ ids) End o h = absurd h
 stand_are rows (id ∷ ids) (More t ts) o h =
     let f = stands_is rows id t o h.0 in
     let r = stand_are rows ids ts o h.1 in
-    (and_both (is_node rows id) (are_nodes rows ids) f.0 r.0, ap (λ v. More v ts) (sym f.1) ∙ ap (More (tree_at rows id)) r.1)
+    (and_from (is_node rows id) (are_nodes rows ids) f.0 r.0, ap (λ v. More v ts) (sym f.1) ∙ ap (More (tree_at rows id)) r.1)
 
 -- What is seen at a node says which tree stands there.
 abbrev pub SeenIs : List Row → Seen → Placed → Type 0
@@ -105,17 +104,17 @@ seen_shown rows id (String' p x) s o h e =
 
 -- the same of the tree at a node
 pub shown : (rows : List Row) (id : NodeId) (s : Seen) → is_node rows id ≡ true → option_map (λ (r : Row). r.shape) (slice_get rows id.0) ≡ Some s → SeenIs rows s (tree_at rows id)
-shown rows id s h e = seen_shown rows id (tree_at rows id) s (both (in_order_from 0 rows) (nat_lt id.0 (length rows)) h).0 (node_stands rows id h) e
+shown rows id s h e = seen_shown rows id (tree_at rows id) s (and_parts (in_order_from 0 rows) (nat_lt id.0 (length rows)) h).0 (node_stands rows id h) e
 
 -- a node is one of the rows
 pub within : (rows : List Row) (id : NodeId) → is_node rows id ≡ true → id.0 < length rows
-within rows id h = ltb-true id.0 (length rows) (both (in_order_from 0 rows) (nat_lt id.0 (length rows)) h).1
+within rows id h = ltb-true id.0 (length rows) (and_parts (in_order_from 0 rows) (nat_lt id.0 (length rows)) h).1
 
 -- one of nodes, and parts of them
 pub node_of : (rows : List Row) (ids : List NodeId) (i : ℕ) (d : NodeId) → are_nodes rows ids ≡ true → i < length ids → is_node rows (get_or ids i d) ≡ true
 node_of rows [] i d h l = absurd (omega arith)
-node_of rows (id ∷ ids) zero d h l = (both (is_node rows id) (are_nodes rows ids) h).0
-node_of rows (id ∷ ids) (suc i) d h l = node_of rows ids i d (both (is_node rows id) (are_nodes rows ids) h).1 (omega arith)
+node_of rows (id ∷ ids) zero d h l = (and_parts (is_node rows id) (are_nodes rows ids) h).0
+node_of rows (id ∷ ids) (suc i) d h l = node_of rows ids i d (and_parts (is_node rows id) (are_nodes rows ids) h).1 (omega arith)
 
 pub tree_of : (rows : List Row) (ids : List NodeId) (i : ℕ) (d : NodeId) → i < length ids → slice_get (map (tree_at rows) ids) i ≡ Some (tree_at rows (get_or ids i d))
 tree_of rows [] i d l = absurd (omega arith)
@@ -123,29 +122,24 @@ tree_of rows (id ∷ ids) zero d l = refl
 tree_of rows (id ∷ ids) (suc i) d l = tree_of rows ids i d (omega arith)
 
 pub first_of : (rows : List Row) (ids others : List NodeId) (first : NodeId) → are_nodes rows ids ≡ true → ids ≡ first ∷ others → (is_node rows first ≡ true) × (are_nodes rows others ≡ true)
-first_of rows ids others first h e = both (is_node rows first) (are_nodes rows others) (sym (ap (are_nodes rows) e) ∙ h)
+first_of rows ids others first h e = and_parts (is_node rows first) (are_nodes rows others) (sym (ap (are_nodes rows) e) ∙ h)
 
 pub taken : (rows : List Row) (n : ℕ) (ids : List NodeId) → are_nodes rows ids ≡ true → are_nodes rows (take n ids) ≡ true
 taken rows zero ids h = refl
 taken rows (suc n) [] h = refl
 taken rows (suc n) (id ∷ ids) h =
-    let b = both (is_node rows id) (are_nodes rows ids) h in
-    and_both (is_node rows id) (are_nodes rows (take n ids)) b.0 (taken rows n ids b.1)
+    let b = and_parts (is_node rows id) (are_nodes rows ids) h in
+    and_from (is_node rows id) (are_nodes rows (take n ids)) b.0 (taken rows n ids b.1)
 
 pub dropped : (rows : List Row) (n : ℕ) (ids : List NodeId) → are_nodes rows ids ≡ true → are_nodes rows (drop n ids) ≡ true
 dropped rows zero ids h = h
 dropped rows (suc n) [] h = refl
-dropped rows (suc n) (id ∷ ids) h = dropped rows n ids (both (is_node rows id) (are_nodes rows ids) h).1
+dropped rows (suc n) (id ∷ ids) h = dropped rows n ids (and_parts (is_node rows id) (are_nodes rows ids) h).1
 
 pub map_take : {A B : Type 0} (f : A → B) (n : ℕ) (xs : List A) → map f (take n xs) ≡ take n (map f xs)
 map_take f zero xs = refl
 map_take f (suc n) [] = refl
 map_take f (suc n) (x ∷ xs) = ap (λ v. f x ∷ v) (map_take f n xs)
-
-pub map_drop : {A B : Type 0} (f : A → B) (n : ℕ) (xs : List A) → map f (drop n xs) ≡ drop n (map f xs)
-map_drop f zero xs = refl
-map_drop f (suc n) [] = refl
-map_drop f (suc n) (x ∷ xs) = map_drop f n xs
 
 pub none_at : (ids : List NodeId) → length ids ≡ 0 → ids ≡ []
 none_at [] e = refl

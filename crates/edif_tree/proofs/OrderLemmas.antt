@@ -1,8 +1,8 @@
 -- The order of rows as they grow.
-use Rattle.std.proofs.Common.{◌≡◌, ◌+◌, ℕ, zero, suc, Bool, true, false, List, [], ◌∷◌, ◌++◌, length, refl, sym, subst, arith}
-use Rattle.std.specs.Prelude.{◌&&◌, nat_lt}
+use Rattle.std.proofs.Common.{◌≡◌, ◌+◌, ℕ, zero, suc, true, List, [], ◌∷◌, ◌++◌, length, refl, sym, subst, arith}
+use Rattle.std.specs.Prelude.{nat_lt}
 use Rattle.std.specs.List.{list_all}
-use Rattle.std.proofs.lemmas.Bool.{lt-ltb}
+use Rattle.std.proofs.lemmas.Bool.{lt-ltb, and_parts, and_from}
 use Rattle.spelling_spec.specs.Tree.{Placed, Trees, End, More}
 use Rattle.spelling_spec.specs.declared.token.TokenKind.{TokenKind}
 use Rattle.spelling_spec.specs.declared.token.TokenKind.TheVariants.{LeftParen, RightParen, Word, Integer, String}
@@ -12,25 +12,17 @@ use Rattle.edif_tree.specs.Order.{in_order_at, in_order_from, is_node}
 use Rattle.edif_tree.specs.declared.stored.NodeId.{NodeId}
 use Rattle.edif_tree.proofs.NodeLemmas.{node_in_rows}
 
-pub both : (a b : Bool) → (a && b) ≡ true → (a ≡ true) × (b ≡ true)
-both true b h = (refl, h)
-both false b h = absurd (cc h)
-
-pub and_both : (a b : Bool) → a ≡ true → b ≡ true → (a && b) ≡ true
-and_both true b h k = k
-and_both false b h k = absurd (cc h)
-
 -- one more row, where the first has this place
 order_push : (k : ℕ) (rows : List Row) (row : Row) → in_order_from k rows ≡ true → in_order_at (length rows + k) row.shape ≡ true → in_order_from k (rows ++ row ∷ []) ≡ true
 order_push k [] row h o =
     let z : zero + k ≡ k = omega arith in
     let P : ℕ → Type 0 = λ n. in_order_at n row.shape ≡ true in
-    and_both (in_order_at k row.shape) true (subst P z o) refl
+    and_from (in_order_at k row.shape) true (subst P z o) refl
 order_push k (r ∷ rows) row h o =
-    let b = both (in_order_at k r.shape) (in_order_from (suc k) rows) h in
+    let b = and_parts (in_order_at k r.shape) (in_order_from (suc k) rows) h in
     let z : suc (length rows) + k ≡ length rows + suc k = omega arith in
     let P : ℕ → Type 0 = λ n. in_order_at n row.shape ≡ true in
-    and_both (in_order_at k r.shape) (in_order_from (suc k) (rows ++ row ∷ [])) b.0 (order_push (suc k) rows row b.1 (subst P z o))
+    and_from (in_order_at k r.shape) (in_order_from (suc k) (rows ++ row ∷ [])) b.0 (order_push (suc k) rows row b.1 (subst P z o))
 
 -- a row behind the others
 pub pushed : (rows new : List Row) (row : Row) → new ≡ rows ++ row ∷ [] → in_order_from 0 rows ≡ true → in_order_at (length rows) row.shape ≡ true → in_order_from 0 new ≡ true
@@ -44,7 +36,7 @@ pushed rows new row e h o =
 pub all_before : (rows : List Row) (ids : List NodeId) (ts : Trees ℕ) → AreAt rows ids ts → list_all (λ (id : NodeId). nat_lt id.0 (length rows)) ids ≡ true
 all_before rows [] ts h = refl
 all_before rows (id ∷ ids) End h = absurd h
-all_before rows (id ∷ ids) (More t ts) h = and_both (nat_lt id.0 (length rows)) (list_all (λ (j : NodeId). nat_lt j.0 (length rows)) ids) (lt-ltb id.0 (length rows) (node_in_rows rows id t h.0)) (all_before rows ids ts h.1)
+all_before rows (id ∷ ids) (More t ts) h = and_from (nat_lt id.0 (length rows)) (list_all (λ (j : NodeId). nat_lt j.0 (length rows)) ids) (lt-ltb id.0 (length rows) (node_in_rows rows id t h.0)) (all_before rows ids ts h.1)
 
 -- a token has no arguments
 pub token_before : (n : ℕ) (kind : TokenKind) → in_order_at n (leaf_of kind) ≡ true
@@ -56,4 +48,4 @@ token_before n (String x) = refl
 
 -- the node of a tree is one of those rows
 pub root_is : (rows : List Row) (id : NodeId) (t : Placed) → in_order_from 0 rows ≡ true → IsAt rows id t → is_node rows id ≡ true
-root_is rows id t o a = and_both (in_order_from 0 rows) (nat_lt id.0 (length rows)) o (lt-ltb id.0 (length rows) (node_in_rows rows id t a))
+root_is rows id t o a = and_from (in_order_from 0 rows) (nat_lt id.0 (length rows)) o (lt-ltb id.0 (length rows) (node_in_rows rows id t a))

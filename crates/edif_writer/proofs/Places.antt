@@ -8,11 +8,12 @@ use Rattle.netlist_schema.specs.Design.{Design, insts_in, nets_in, insts_of, end
 use Rattle.netlist_schema.specs.Hierarchy.{IsCell}
 use Rattle.netlist_schema.specs.Types.{CellBody, CellId, Contents, End, Inst, Net, Port}
 use Rattle.netlist_schema.specs.Valid.{HasBit, IsEndAt, IsEndOf, IsValidCell}
+use Rattle.netlist_schema.proofs.Lists.{all_weaker}
 use Rattle.edif_spec.specs.Arranged.{new_cell, new_cells, order_of}
 use Rattle.edif_spec.specs.Canonical.{ports_of_end}
 use Rattle.edif_spec.specs.Design as design
 use Rattle.edif_spec.proofs.Arrange.{there_from}
-use Rattle.edif_spec.proofs.CellPlaces.{some_and, all_weaker, all_append_parts, cell_found}
+use Rattle.edif_spec.proofs.CellPlaces.{some_and, all_append_parts, cell_found}
 use Rattle.order_spec.proofs.Ready.{order_ready}
 use Rattle.order_spec.proofs.WholeOrder.{id_at}
 use Rattle.edif_writer.specs.Placed.{HasInstAt, IsAt, IsPlaced}

@@ -3,14 +3,14 @@ use Rattle.std.proofs.Common.{◌≡◌, ℕ, zero, suc, ◌+◌, List, [], ◌�
 use Rattle.std.specs.Prelude.{codes, IsSome, option_map, unwrap_or, IfSome}
 use Rattle.std.specs.List.{AllByRecursion}
 use Rattle.std.proofs.lemmas.Option.{slice_get-map}
+use Rattle.netlist_schema.proofs.Lists.{all_at, some_of}
 use Rattle.spelling_spec.specs.Tree.{Bare, word}
 use Rattle.edif_spec.specs.Arranged.{order_of, orders_from, new_id, new_inst, new_contents, new_cell, new_cells, new_libs}
 use Rattle.edif_spec.specs.Canonical.{make, perhaps, name_tree, text_tree, property_tree, cell_ref_tree, inst_tree, bits_tree, port_name_tree, ports_of_end, end_tree, net_tree, contents_tree, interface_tree, kind_word, cell_tree}
 use Rattle.edif_spec.specs.Design as design
 use Rattle.edif_spec.specs.Nets.{NetForm, Stretch, net_forms}
 use Rattle.edif_spec.specs.declared.keyword.Keyword.TheVariants as keywords
-use Rattle.edif_spec.proofs.Arrange.{AreWhole, cell_moved}
-use Rattle.edif_spec.proofs.CellPlaces.{some_of, all_at}
+use Rattle.edif_spec.proofs.Arrange.{AreWhole, cell_moved, libs_length}
 
 -- the libraries of the arranged design
 abbrev pub moved : List design.Lib → List design.Lib
@@ -116,10 +116,6 @@ cell_stays libs c whole there =
     ap (λ inside. make keywords.Cell (name_tree c.name ∷ make keywords.CellType (word (kind_word c.kind) ∷ []) ∷ (map property_tree c.properties
     ++ make keywords.View (name_tree c.view ∷ make keywords.ViewType (word (codes "NETLIST") ∷ []) ∷ interface_tree c ∷ (map property_tree c.view_properties ++ inside)) ∷ [])))
     (contents_stay libs c.ports c.contents whole there)
-
-libs_length : (orders : List (List ℕ)) (own : ℕ) (libs : List design.Lib) → length (new_libs orders own libs) ≡ length libs
-libs_length orders own [] = refl
-libs_length orders own (l ∷ libs) = ap suc (libs_length orders (suc own) libs)
 
 -- the arranged design has as many libraries
 pub moved_length : (libs : List design.Lib) → length (moved libs) ≡ length libs

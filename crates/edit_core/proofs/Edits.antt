@@ -193,7 +193,7 @@ more_directory d e lib body other agree =
     (λ (apart : other.0 ≢ lib.0). ap directory_of (more_other d lib body other apart) ∙ agree ∙ sym (ap directory_of (more_other e lib body other apart)))
     (cases_eq other.0 lib.0)
 
-last_of : {X : Type 0} (xs : List X) (x : X) (k : ℕ) → k ≡ length xs → slice_get (xs ++ x ∷ []) k ≡ Some x
+pub last_of : {X : Type 0} (xs : List X) (x : X) (k : ℕ) → k ≡ length xs → slice_get (xs ++ x ∷ []) k ≡ Some x
 last_of [] x zero is = refl
 last_of [] x (suc k) is = absurd (omega arith)
 last_of (y ∷ ys) x zero is = absurd (omega arith)
@@ -361,3 +361,11 @@ pub edited_stays : (edits : List Edit) (d : Design) (o : Object) → AllGoLast d
 edited_stays [] d o last not = Agrees-refl d o
 edited_stays (edit ∷ edits) d o last not =
     Agrees-trans d (edited_once d edit) (edited (edited_once d edit) edits) o (once_stays edit d o last.0 (λ is. not (inl is))) (edited_stays edits (edited_once d edit) o last.1 (λ is. not (inr is)))
+
+-- what edits behind others change
+pub changed-cases : (xs ys : List Edit) (o : Object) → IsChanged (xs ++ ys) o → IsChanged xs o ⊎ IsChanged ys o
+changed-cases [] ys o is = inr is
+changed-cases (x ∷ xs) ys o is = elim is [
+  | inl here ↦ inl (inl here)
+  | inr rest ↦ elim (changed-cases xs ys o rest) [ inl left ↦ inl (inr left) | inr right ↦ inr right ]
+]

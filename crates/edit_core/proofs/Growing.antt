@@ -28,7 +28,7 @@ names_more : (body : CellBody) (o : Option Lib) → IsPrefix (cell_names (cells_
 names_more body None = ([], refl)
 names_more body (Some lib) = (body.name.id ∷ [], map-append (λ (c : CellBody). c.name.id) lib.cells (body ∷ []))
 
-outside_found : (o : Option CellBody) (outside : Outside) → option_map outside_of o ≡ Some outside → (body : CellBody) × (o ≡ Some body) × (outside_of body ≡ outside)
+pub outside_found : (o : Option CellBody) (outside : Outside) → option_map outside_of o ≡ Some outside → (body : CellBody) × (o ≡ Some body) × (outside_of body ≡ outside)
 outside_found None outside is = cc
 outside_found (Some body) outside is = (body, refl, cc)
 

@@ -1,8 +1,8 @@
 -- Each cell of a valid design has a bounded rank above those of the cells placed in it, so the test whether a cell is below another is right.
 use Rattle.std.proofs.Common.{◌≡◌, ℕ, zero, suc, ◌<◌, ◌≤◌, true, false, List, [], ◌∷◌, length, arith, refl, ap, subst, slice_index_or, ⊎_elim, eq-eqb, ◌∙◌}
-use Rattle.std.proofs.lemmas.Bool.{or_cases, eqb-true}
+use Rattle.std.proofs.lemmas.Bool.{or_cases, eqb-true, and_parts}
 use Rattle.std.specs.List.{Contains, list_any}
-use Rattle.std.specs.Prelude.{Bool, IsTrue, ◌==◌, ◌&&◌, ◌||◌, ◌↔◌}
+use Rattle.std.specs.Prelude.{Bool, IsTrue, ◌==◌, ◌||◌, ◌↔◌}
 use Rattle.netlist_schema.specs.Design.{Design}
 use Rattle.netlist_schema.specs.Hierarchy.{HasInst, insts_at, IsBelow, placed, deeper}
 use Rattle.netlist_schema.specs.Valid.{IsValid}
@@ -63,13 +63,9 @@ any_found f (y ∷ xs) any =
     (λ (later : list_any f xs ≡ true). let more = any_found f xs later in (more.0, Contains-tail y more.0 xs more.1, more.2))
     (or_cases (f y) (list_any f xs) any)
 
-pub both_true : (a b : Bool) → (a && b) ≡ true → (a ≡ true) × (b ≡ true)
-both_true true b is = (refl, is)
-both_true false b is = let never : false ≡ true = is in cc
-
 pub is_same_cell : (a b : CellId) → same_cell a b ≡ true → a ≡ b
 is_same_cell a b is =
-    let both = both_true (a.lib.0 == b.lib.0) (a.slot == b.slot) is in
+    let both = and_parts (a.lib.0 == b.lib.0) (a.slot == b.slot) is in
     let libs : a.lib.0 ≡ b.lib.0 = eqb-true a.lib.0 b.lib.0 both.0 in
     let slots : a.slot ≡ b.slot = eqb-true a.slot b.slot both.1 in
     λ i. record { lib = record { 0 = libs i }; slot = slots i }

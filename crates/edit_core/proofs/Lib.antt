@@ -8,7 +8,9 @@ pub mod Levels
 pub mod Lists
 pub mod MoreCell
 pub mod Named
+pub mod Numbers
 pub mod Overlaid
+pub mod Positions
 pub mod Reached
 pub mod Refusals
 pub mod Same

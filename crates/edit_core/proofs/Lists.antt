@@ -5,6 +5,7 @@ use Rattle.std.specs.List.{All, AllPairs, AllByRecursion}
 use Rattle.std.proofs.lemmas.List.Elements.{recursion_from_All, All-from_recursion}
 use Rattle.std.proofs.lemmas.List.Kept.{AllPairs-cons}
 use Rattle.netlist_schema.specs.Names.{AreDistinct}
+use Rattle.netlist_schema.proofs.Lists.{all_append, all_behind}
 use Rattle.edit_core.specs.Edit.{changed_at}
 
 -- pairwise different, by cases on the list
@@ -26,17 +27,9 @@ pub distinct_of : {X : Type 0} (xs : List X) → Apart xs → AreDistinct xs
 distinct_of [] apart = λ i j d below within. absurd (omega arith)
 distinct_of (x ∷ xs) apart = AllPairs-cons (λ a b. a ≢ b) x xs (All-from_recursion (λ y. x ≢ y) xs apart.0) (distinct_of xs apart.1)
 
-pub each_append : {X : Type 0} (P : X → Type 0) (xs ys : List X) → AllByRecursion P xs → AllByRecursion P ys → AllByRecursion P (xs ++ ys)
-each_append P [] ys left right = right
-each_append P (x ∷ xs) ys left right = (left.0, each_append P xs ys left.1 right)
-
 pub each_left : {X : Type 0} (P : X → Type 0) (xs ys : List X) → AllByRecursion P (xs ++ ys) → AllByRecursion P xs
 each_left P [] ys all = tt
 each_left P (x ∷ xs) ys all = (all.0, each_left P xs ys all.1)
-
-pub each_right : {X : Type 0} (P : X → Type 0) (xs ys : List X) → AllByRecursion P (xs ++ ys) → AllByRecursion P ys
-each_right P [] ys all = all
-each_right P (x ∷ xs) ys all = each_right P xs ys all.1
 
 pub length-changed_at : {X : Type 0} (f : X → X) (i : ℕ) (xs : List X) → length (changed_at f i xs) ≡ length xs
 length-changed_at f i [] = refl
@@ -84,7 +77,7 @@ apart_right (x ∷ xs) ys apart = apart_right xs ys apart.1
 pub apart_rest : {X : Type 0} (xs ys zs : List X) → Apart (xs ++ ys) → Apart zs → ((x : X) → AllByRecursion (λ y. x ≢ y) ys → AllByRecursion (λ y. x ≢ y) zs) → Apart (xs ++ zs)
 apart_rest [] ys zs apart rest less = rest
 apart_rest (x ∷ xs) ys zs apart rest less =
-    (each_append (λ y. x ≢ y) xs zs (each_left (λ y. x ≢ y) xs ys apart.0) (less x (each_right (λ y. x ≢ y) xs ys apart.0)), apart_rest xs ys zs apart.1 rest less)
+    (all_append (λ y. x ≢ y) xs zs (each_left (λ y. x ≢ y) xs ys apart.0) (less x (all_behind (λ y. x ≢ y) xs ys apart.0)), apart_rest xs ys zs apart.1 rest less)
 
 pub All-drop : {X : Type 0} (P : X → Type 0) (i : ℕ) (xs : List X) → All P xs → All P (remove xs i)
 All-drop P i xs all = All-from_recursion P (remove xs i) (each_drop P i xs (recursion_from_All P xs all))
@@ -133,4 +126,4 @@ missing_key false i rest is = (refl, is)
 
 pub apart_more : {X : Type 0} (xs : List X) (x : X) → AllByRecursion (λ y. y ≢ x) xs → Apart xs → Apart (xs ++ x ∷ [])
 apart_more [] x new apart = (tt, tt)
-apart_more (y ∷ ys) x new apart = (each_append (λ z. y ≢ z) ys (x ∷ []) apart.0 (new.0, tt), apart_more ys x new.1 apart.1)
+apart_more (y ∷ ys) x new apart = (all_append (λ z. y ≢ z) ys (x ∷ []) apart.0 (new.0, tt), apart_more ys x new.1 apart.1)

@@ -8,7 +8,7 @@ use Rattle.edit_core.specs.Objects.{Agrees, face_of, face_object, contents_objec
 use Rattle.edit_core.specs.Overlay.{HasSameHeads, IsOverlaid}
 use Rattle.edit_core.proofs.Edits.{Agrees-trans}
 
-list_ext : {X : Type 0} (xs ys : List X) → ((k : ℕ) → slice_get xs k ≡ slice_get ys k) → xs ≡ ys
+pub list_ext : {X : Type 0} (xs ys : List X) → ((k : ℕ) → slice_get xs k ≡ slice_get ys k) → xs ≡ ys
 list_ext [] [] same = refl
 list_ext [] (y ∷ ys) same = let never : None ≡ Some y = same 0 in cc
 list_ext (x ∷ xs) [] same = let never : Some x ≡ None = same 0 in cc

@@ -1,6 +1,5 @@
 -- Refusals that do not apply, and names that are the same.
-use Rattle.std.proofs.Common.{◌≡◌, ℕ, Bool, true, false, List, ◌∷◌, map, Option, Some, None, refl, subst, not}
-use Rattle.std.specs.Prelude.{◌||◌}
+use Rattle.std.proofs.Common.{◌≡◌, ℕ, Bool, true, false, List, ◌∷◌, map, Option, Some, None, refl, subst}
 use Rattle.std.specs.Char.{to_ascii_lowercase}
 use Rattle.std.specs.Cmp.Lexicographic.{nat_list_eq_equiv, bytes_decides}
 use Rattle.edit_core.specs.Find.{is_name, is_same}
@@ -20,16 +19,8 @@ not_refused true reply none = cc
 pub is_name-refl : (name : List ℕ) → is_name name name ≡ true
 is_name-refl name = (nat_list_eq_equiv).refl name
 
-pub neither : (a b : Bool) → (a || b) ≡ false → (a ≡ false) × (b ≡ false)
-neither true b none = cc
-neither false b none = (refl, none)
-
 pub is_same-refl : (a b : List ℕ) → a ≡ b → is_same a b ≡ true
 is_same-refl a b same = subst (λ (c : List ℕ). is_same a c ≡ true) same (is_name-refl (map to_ascii_lowercase a))
 
 pub same_name : (a b : List ℕ) → is_name a b ≡ true → a ≡ b
 same_name a b is = (bytes_decides a b).0 is
-
-pub not_not : (b : Bool) → not b ≡ false → b ≡ true
-not_not true is = refl
-not_not false is = let never : true ≡ false = is in cc

@@ -17,7 +17,7 @@ found_in_longer : (b : Bool) (i k : ℕ) (rest more : Option ℕ) → (rest ≡ 
 found_in_longer true i k rest more follows is = is
 found_in_longer false i k rest more follows is = follows is
 
-position_from-append : {X : Type 0} (test : X → Bool) (i k : ℕ) (xs more : List X) → position_from test i xs ≡ Some k → position_from test i (xs ++ more) ≡ Some k
+pub position_from-append : {X : Type 0} (test : X → Bool) (i k : ℕ) (xs more : List X) → position_from test i xs ≡ Some k → position_from test i (xs ++ more) ≡ Some k
 position_from-append test i k [] more is = cc
 position_from-append test i k (x ∷ xs) more is =
     found_in_longer (test x) i k (position_from test (i + 1) xs) (position_from test (i + 1) (xs ++ more)) (position_from-append test (i + 1) k xs more) is

@@ -18,11 +18,11 @@ use Rattle.edit_core.proofs.Named.{cell_there, found_at}
 
 -- ---- what is there stays there
 
-some_map : {X Y : Type 0} (f : X → Y) (o : Option X) → IsSome o → IsSome (option_map f o)
+pub some_map : {X Y : Type 0} (f : X → Y) (o : Option X) → IsSome o → IsSome (option_map f o)
 some_map f None is = is
 some_map f (Some x) is = refl
 
-some_from_map : {X Y : Type 0} (f : X → Y) (o : Option X) → IsSome (option_map f o) → IsSome o
+pub some_from_map : {X Y : Type 0} (f : X → Y) (o : Option X) → IsSome (option_map f o) → IsSome o
 some_from_map f None is = is
 some_from_map f (Some x) is = refl
 

@@ -1,6 +1,6 @@
 -- Adding a cell is an operation.
 use Rattle.std.proofs.Common.{◌≡◌, ℕ, List, [], ◌∷◌, Option, Some, None, refl, sym, ap, subst, ◌∙◌, ◌<◌, ◌≤◌, Bool, false, length, inl, inr, ◌⊎◌, ⊎_elim, map}
-use Rattle.std.proofs.lemmas.Bool.{leb-false, ltb-false}
+use Rattle.std.proofs.lemmas.Bool.{leb-false, ltb-false, or_parts}
 use Rattle.std.proofs.lemmas.List.{length-map}
 use Rattle.std.proofs.lemmas.List.Elements.{All-from_recursion}
 use Rattle.std.specs.List.{list_any, All}
@@ -24,7 +24,7 @@ use Rattle.edit_core.specs.declared.reply.Reply.TheVariants.{Taken, TooMany, NoL
 use Rattle.edit_spec.specs.AddCell.{names_in, new_port, new_cell, has_twice, add_cell, add_cell_of, add_cell_needs}
 use Rattle.edit_spec.specs.Typed.{IsTypedPortDecl}
 use Rattle.edit_spec.specs.declared.ops.PortDecl.{PortDecl}
-use Rattle.edit_core.proofs.Refusals.{first_none, not_refused, neither}
+use Rattle.edit_core.proofs.Refusals.{first_none, not_refused}
 use Rattle.edit_core.proofs.Same.{both_ways, names_of_directory, lib_named_same}
 use Rattle.edit_spec.proofs.NewCellValid.{nothing_inside, new_edit, new_valid}
 use Rattle.edit_core.proofs.There.{named_lib_there}
@@ -44,7 +44,7 @@ add_cell_done d cell leaf ports identifier typed valid allowed =
     let n3 = first_none refusal3 (refusal4 ∷ refusal5 ∷ []) n2.1 in
     let n4 = first_none refusal4 (refusal5 ∷ []) n3.1 in
     let n5 = first_none refusal5 [] n4.1 in
-    let both = neither taken twice (not_refused (taken || twice) Taken n2.0) in
+    let both = or_parts taken twice (not_refused (taken || twice) Taken n2.0) in
     let room : length names < 65536 = leb-false 65536 (length names) (not_refused (nat_le 65536 (length names)) (TooMany 65536) n3.0) in
     let few : length ports ≤ 65536 = ltb-false 65536 (length ports) (not_refused (nat_lt 65536 (length ports)) (TooMany 65536) n4.0) in
     let bits : sum_by port_width (map new_port ports) ≤ 1048576 = ltb-false 1048576 (sum_by port_width (map new_port ports)) (not_refused (nat_lt 1048576 (sum_by port_width (map new_port ports))) (TooMany 1048576) n5.0) in

@@ -1,6 +1,6 @@
 -- Adding an instance is an operation.
 use Rattle.std.proofs.Common.{◌≡◌, ℕ, List, [], ◌∷◌, Option, Some, None, refl, sym, ap, subst, ◌∙◌, ◌≢◌, ◌<◌, ◌≤◌, Bool, true, false, length, inl, inr, ⊎_elim, ◌↔◌}
-use Rattle.std.proofs.lemmas.Bool.{leb-false, ltb-false}
+use Rattle.std.proofs.lemmas.Bool.{leb-false, ltb-false, or_parts}
 use Rattle.std.specs.List.{list_any, All}
 use Rattle.std.specs.Option.{option_map, option_map_or, option_and_then, option_to_list}
 use Rattle.std.specs.Prelude.{nat_le, nat_lt, ◌||◌}
@@ -27,7 +27,7 @@ use Rattle.edit_core.proofs.Filled.{filled}
 use Rattle.edit_core.proofs.Levels.{below_is_found, same_cell-refl}
 use Rattle.edit_core.proofs.Named.{cell_there}
 use Rattle.edit_core.proofs.Reached.{either_same, iff_trans, cyclic_same, placing_needs_same, holder_same}
-use Rattle.edit_core.proofs.Refusals.{first_none, not_refused, neither}
+use Rattle.edit_core.proofs.Refusals.{first_none, not_refused}
 use Rattle.edit_core.proofs.Same.{both_ways, named_same, name_needs_same, cell_named_same}
 use Rattle.edit_spec.proofs.Changed.{insts_there, more_insts}
 use Rattle.edit_spec.proofs.InsideStep.{inside_of, contents_edit}
@@ -75,7 +75,7 @@ added d cell of inst id c body identifier valid is of_is found contents allowed 
     let later : nat_lt id.lib.0 c.lib.0 ≡ false = sym libs ∙ not_refused (is_later at.lib to.lib) LaterLibrary n7.0 in
     let not_later : c.lib.0 ≤ id.lib.0 = ltb-false id.lib.0 c.lib.0 later in
     let cells : cyclic ≡ (same_cell c id || is_below d id c) = λ i. is_cyclic d (is i) (of_is i) in
-    let both = neither (same_cell c id) (is_below d id c) (sym cells ∙ not_refused cyclic IsCyclic n8.0) in
+    let both = or_parts (same_cell c id) (is_below d id c) (sym cells ∙ not_refused cyclic IsCyclic n8.0) in
     let apart : c ≢ id = λ same. let there : same_cell c id ≡ true = subst (λ (x : CellId). same_cell c x ≡ true) same (same_cell-refl c) in let never : true ≡ false = sym there ∙ both.0 in cc in
     let not_below : ¬ IsBelow d id c = λ below. let there : is_below d id c ≡ true = below_is_found d id c valid below in let never : true ≡ false = sym there ∙ both.1 in cc in
     let good = more_good d id c body inst identifier free room (is_cell_found d c target_body.0 target_body.1) not_later valid found in

@@ -1,5 +1,5 @@
 -- What operations change: cells that are named, and notes.
-use Rattle.std.proofs.Common.{arith, ◌≡◌, ◌⊎◌, inl, inr, ⊎_elim, ℕ, Bool, true, false, cond, ◌++◌, List, [], ◌∷◌, Option, Some, None, sym, subst, refl}
+use Rattle.std.proofs.Common.{arith, ◌≡◌, ◌⊎◌, inl, inr, ⊎_elim, ℕ, Bool, true, false, cond, List, [], ◌∷◌, Option, Some, None, sym, subst, refl}
 use Rattle.std.proofs.lemmas.List.Elements.{recursion_from_All, All-from_recursion}
 use Rattle.std.specs.List.{All}
 use Rattle.std.specs.Option.{option_map, option_map_or, option_and_then, option_to_list}
@@ -8,7 +8,8 @@ use Rattle.netlist_schema.specs.Design.{Design, cell_at, insts_in, nets_in}
 use Rattle.netlist_schema.specs.Hierarchy.{IsCell, insts_at}
 use Rattle.netlist_schema.specs.Types.{CellId, Contents, Net, Note, Inst, Object, Port, Property}
 use Rattle.netlist_schema.specs.declared.ids.Object.TheVariants.{Notes}
-use Rattle.edit_core.specs.Edit.{Edit, inner, noted, IsChanged, IsChangedBy, GoesLast, AllGoLast, PlacesOld, AllPlaceOld, changed_at, FindsOld, AllFindOld}
+use Rattle.netlist_schema.proofs.Lists.{all_append}
+use Rattle.edit_core.specs.Edit.{Edit, inner, noted, IsChanged, GoesLast, AllGoLast, PlacesOld, AllPlaceOld, changed_at, FindsOld, AllFindOld}
 use Rattle.edit_core.specs.Objects.{AgreesOn, Grown, IsClosed, contents_object}
 use Rattle.edit_core.specs.Reading.{IsInside, IsForCell, IsForEnd}
 use Rattle.edit_core.specs.Rule.{Rule}
@@ -19,7 +20,7 @@ use Rattle.edit_spec.specs.AddInst.{new_inst, with_inst}
 use Rattle.edit_spec.specs.Inside.{set_nets, set_insts}
 use Rattle.edit_spec.specs.SetProp.{set_property}
 use Rattle.edit_core.proofs.Closed.{All-from_contained}
-use Rattle.edit_core.proofs.Lists.{All-drop, All-changed_at, each_append}
+use Rattle.edit_core.proofs.Lists.{All-drop, All-changed_at}
 use Rattle.edit_core.proofs.Same.{named_same, inside_same, end_ports_same, by_name}
 use Rattle.edit_spec.proofs.Shown.{insts_found}
 
@@ -43,14 +44,6 @@ nets_written at contents change o is = inside_written at.cell (record { insts = 
 
 pub insts_written : (at : Named) (contents : Option Contents) (change : List Inst → List Inst) (o : Object) → IsChanged (set_insts at contents change) o → IsInside at.cell o
 insts_written at contents change o is = inside_written at.cell (record { insts = change (insts_in contents); nets = nets_in contents }) o is
-
-pub changed_either : (xs ys : List Edit) (o : Object) → IsChanged (xs ++ ys) o → IsChanged xs o ⊎ IsChanged ys o
-changed_either [] ys o is = inr is
-changed_either (x ∷ xs) ys o is =
-    ⊎_elim
-    (λ (here : IsChangedBy x o). inl (inl here))
-    (λ (there : IsChanged (xs ++ ys) o). ⊎_elim (λ (left : IsChanged xs o). inl (inr left)) (λ (right : IsChanged ys o). inr right) (changed_either xs ys o there))
-    is
 
 pub is_notes : (b : Bool) (notes : List Note) (o : Object) → IsChanged (cond b [] (noted notes ∷ [])) o → o ≡ Notes
 is_notes true notes o is = absurd is
@@ -91,7 +84,7 @@ insts_there d (Some id) closed =
 pub more_insts : (d : Design) (name : List ℕ) (of : CellId) (insts : List Inst) → IsCell d of → All (λ inst. IsCell d inst.of) insts → All (λ inst. IsCell d inst.of) (with_inst name of insts)
 more_insts d name of insts there all =
     All-from_recursion (λ (inst : Inst). IsCell d inst.of) (with_inst name of insts)
-    (each_append (λ (inst : Inst). IsCell d inst.of) insts (new_inst name of ∷ []) (recursion_from_All (λ (inst : Inst). IsCell d inst.of) insts all) (there, tt))
+    (all_append (λ (inst : Inst). IsCell d inst.of) insts (new_inst name of ∷ []) (recursion_from_All (λ (inst : Inst). IsCell d inst.of) insts all) (there, tt))
 
 pub one_less : (d : Design) (place : Option ℕ) (insts : List Inst) → All (λ inst. IsCell d inst.of) insts → All (λ inst. IsCell d inst.of) (option_map_or (remove insts) place insts)
 one_less d None insts all = all

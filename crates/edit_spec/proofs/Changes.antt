@@ -9,12 +9,13 @@ use Rattle.netlist_schema.specs.Names.{AreDistinct, HasDistinctKeys}
 use Rattle.netlist_schema.specs.Typed.{IsTypedNet, IsTypedProperty}
 use Rattle.netlist_schema.specs.Types.{CellBody, End, Net, Property}
 use Rattle.netlist_schema.specs.Valid.{IsEndOf}
+use Rattle.netlist_schema.proofs.Lists.{all_append, all_behind}
 use Rattle.edit_core.specs.Edit.{changed_at}
 use Rattle.edit_core.specs.Find.{is_name, property_place}
 use Rattle.edit_spec.specs.Cut.{is_end, net_without_end, without_end}
 use Rattle.edit_spec.specs.SetProp.{set_property}
 use Rattle.edit_core.proofs.Edits.{map-changed_at}
-use Rattle.edit_core.proofs.Lists.{Apart, apart_of, distinct_of, each_append, each_left, each_right, All-changed_at, length-changed_at, All-drop, apart_drop, apart_filter, apart_more, apart_rest, apart_right, each_filter, filter_both, found_key, length_drop, length_filter, map_drop, missing_key}
+use Rattle.edit_core.proofs.Lists.{Apart, apart_of, distinct_of, each_left, All-changed_at, length-changed_at, All-drop, apart_drop, apart_filter, apart_more, apart_rest, apart_right, each_filter, filter_both, found_key, length_drop, length_filter, map_drop, missing_key}
 use Rattle.edit_core.proofs.Refusals.{is_name-refl, same_name}
 use Rattle.edit_spec.proofs.Joined.{ends_of_nets}
 use Rattle.edit_spec.proofs.Valid.{AreGoodNets}
@@ -22,9 +23,9 @@ use Rattle.edit_spec.proofs.Valid.{AreGoodNets}
 each_ends_drop : (P : End → Type 0) (i : ℕ) (nets : List Net) → AllByRecursion P (ends_of_nets nets) → AllByRecursion P (ends_of_nets (remove nets i))
 each_ends_drop P zero [] all = tt
 each_ends_drop P (suc i) [] all = tt
-each_ends_drop P zero (net ∷ nets) all = each_right P net.ends (ends_of_nets nets) all
+each_ends_drop P zero (net ∷ nets) all = all_behind P net.ends (ends_of_nets nets) all
 each_ends_drop P (suc i) (net ∷ nets) all =
-    each_append P net.ends (ends_of_nets (remove nets i)) (each_left P net.ends (ends_of_nets nets) all) (each_ends_drop P i nets (each_right P net.ends (ends_of_nets nets) all))
+    all_append P net.ends (ends_of_nets (remove nets i)) (each_left P net.ends (ends_of_nets nets) all) (each_ends_drop P i nets (all_behind P net.ends (ends_of_nets nets) all))
 
 apart_ends_drop : (i : ℕ) (nets : List Net) → Apart (ends_of_nets nets) → Apart (ends_of_nets (remove nets i))
 apart_ends_drop zero [] apart = tt

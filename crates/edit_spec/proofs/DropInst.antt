@@ -16,12 +16,13 @@ use Rattle.edit_core.specs.Reading.{IsForCell, IsForNotes}
 use Rattle.edit_core.specs.Rule.{first, no_lib, no_cell, no_inst}
 use Rattle.edit_core.specs.Seen.{named, inside}
 use Rattle.edit_core.specs.declared.reply.CellName.{CellName}
+use Rattle.edit_core.proofs.Edits.{changed-cases}
 use Rattle.edit_spec.specs.DropInst.{without_inst, set_notes, drop_inst, drop_inst_of, drop_inst_needs}
 use Rattle.edit_core.proofs.Named.{cell_there}
 use Rattle.edit_core.proofs.Reached.{either_same, iff_trans, seen_others_same, seen_notes_same, for_notes_same}
 use Rattle.edit_core.proofs.Refusals.{first_none}
 use Rattle.edit_core.proofs.Same.{both_ways, named_same, inside_same, cell_needs_same, by_name, cell_named_same}
-use Rattle.edit_spec.proofs.Changed.{insts_there, inside_written, changed_either, is_notes, one_less, set_last, set_places, set_finds}
+use Rattle.edit_spec.proofs.Changed.{insts_there, inside_written, is_notes, one_less, set_last, set_places, set_finds}
 use Rattle.edit_spec.proofs.DropValid.{drop_edit}
 use Rattle.edit_core.proofs.There.{named_cell_there}
 
@@ -74,7 +75,7 @@ drop_inst_local cell inst = record {
       inl (inl (inr (inside_written (cell_named d cell) (without_inst (inside d cell) inst) o here))))
       (λ (there : IsChanged (set_notes (seen_if (cell_named d cell) d.notes) (seen_if (cell_named d cell) (other_notes d (cell_named d cell) inst))) o).
       inl (inr (notes_written d (cell_named d cell) d.top d.notes (other_notes d (cell_named d cell) inst) o there)))
-      (changed_either (option_to_list (option_map (λ id. inner id (without_inst (inside d cell) inst)) (cell_named d cell))) (set_notes (seen_if (cell_named d cell) d.notes) (seen_if (cell_named d cell) (other_notes d (cell_named d cell) inst))) o is);
+      (changed-cases (option_to_list (option_map (λ id. inner id (without_inst (inside d cell) inst)) (cell_named d cell))) (set_notes (seen_if (cell_named d cell) d.notes) (seen_if (cell_named d cell) (other_notes d (cell_named d cell) inst))) o is);
   last = λ d. left_last d (cell_named d cell) (inside d cell) inst (seen_if (cell_named d cell) d.notes) (seen_if (cell_named d cell) (other_notes d (cell_named d cell) inst));
   finds = λ d. left_finds d (cell_named d cell) (inside d cell) inst (seen_if (cell_named d cell) d.notes) (seen_if (cell_named d cell) (other_notes d (cell_named d cell) inst)) (named_cell_there d cell);
   places = λ d closed. left_places d (cell_named d cell) (inside d cell) inst (seen_if (cell_named d cell) d.notes) (seen_if (cell_named d cell) (other_notes d (cell_named d cell) inst)) (insts_there d (cell_named d cell) closed);

@@ -45,15 +45,15 @@ put_written : (top : Option TopHead) (notes : List Note) (o : Object) → IsChan
 put_written None notes o is = absurd is
 put_written (Some top) notes o is = ⊎_elim (λ (here : o ≡ Notes). here) (λ (never : ⊥). absurd never) is
 
-put_last : (d : Design) (top : Option TopHead) (notes : List Note) → AllGoLast d (put_notes top notes)
+pub put_last : (d : Design) (top : Option TopHead) (notes : List Note) → AllGoLast d (put_notes top notes)
 put_last d None notes = tt
 put_last d (Some top) notes = (tt, tt)
 
-put_finds : (d : Design) (top : Option TopHead) (notes : List Note) → AllFindOld d (put_notes top notes)
+pub put_finds : (d : Design) (top : Option TopHead) (notes : List Note) → AllFindOld d (put_notes top notes)
 put_finds d None notes = tt
 put_finds d (Some top) notes = (tt, tt)
 
-put_places : (d : Design) (top : Option TopHead) (notes : List Note) → AllPlaceOld d (put_notes top notes)
+pub put_places : (d : Design) (top : Option TopHead) (notes : List Note) → AllPlaceOld d (put_notes top notes)
 put_places d None notes = tt
 put_places d (Some top) notes = (tt, tt)
 

@@ -1,6 +1,6 @@
 -- Removing an instance, with its ends and the notes whose paths go through it, keeps a design valid.
 use Rattle.std.proofs.Common.{◌≡◌, ◌≢◌, ⊎_elim, ℕ, zero, suc, ◌-◌, ◌<◌, ◌≤◌, Bool, true, false, cond, not, arith, List, [], ◌∷◌, ◌++◌, map, length, Option, Some, None, refl, sym, ap, subst, ◌∙◌, length-append, slice_get, slice_index_or, eq-eqb}
-use Rattle.std.proofs.lemmas.Bool.{ltb-true, ltb-false, eqb-true}
+use Rattle.std.proofs.lemmas.Bool.{ltb-true, ltb-false, eqb-true, not-true, or_parts}
 use Rattle.std.proofs.lemmas.List.{length-map}
 use Rattle.std.proofs.lemmas.List.Concat.{flat_map-append}
 use Rattle.std.proofs.lemmas.List.Elements.{recursion_from_All, All-from_recursion}
@@ -13,6 +13,7 @@ use Rattle.netlist_schema.specs.Names.{AreDistinct, HasDistinctKeys, note_key}
 use Rattle.netlist_schema.specs.Typed.{IsTypedInst, IsTypedNet, IsTypedNote}
 use Rattle.netlist_schema.specs.Types.{CellBody, CellId, Contents, End, Inst, Net, Note, TopHead}
 use Rattle.netlist_schema.specs.Valid.{IsValid, IsValidCell, IsEndAt, IsEndOf, HasBit, IsNoteBelow}
+use Rattle.netlist_schema.proofs.Lists.{all_weaker, all_append}
 use Rattle.edit_core.specs.Edit.{inner, edited_once, noted, edited}
 use Rattle.edit_core.specs.Find.{is_name, inst_named, inst_place}
 use Rattle.edit_core.specs.Notes.{goes_on, other_notes, seen_if}
@@ -25,10 +26,10 @@ use Rattle.edit_core.proofs.Edits.{cases_cell}
 use Rattle.edit_core.proofs.Filled.{fill, filled, inner_filled, has_contents}
 use Rattle.edit_core.proofs.InnerValid.{AreGoodContents, AreGoodNotes, good_notes_before, with_both, inner_valid, inst_after, inst_here, inst_elsewhere, below_with_more}
 use Rattle.edit_core.proofs.Levels.{same_cell-refl}
-use Rattle.edit_core.proofs.Lists.{All-drop, length_drop, map_drop, apart_drop, length_filter, Apart, apart_of, distinct_of, each_append}
+use Rattle.edit_core.proofs.Lists.{All-drop, length_drop, map_drop, apart_drop, length_filter, Apart, apart_of, distinct_of}
 use Rattle.edit_core.proofs.Named.{inst_at_place, leads, named_at}
 use Rattle.edit_core.proofs.Reached.{Contains-tail}
-use Rattle.edit_core.proofs.Refusals.{neither, is_name-refl}
+use Rattle.edit_core.proofs.Refusals.{is_name-refl}
 use Rattle.edit_spec.proofs.InsideStep.{inside_of}
 use Rattle.edit_spec.proofs.InstValid.{good_contents_before}
 use Rattle.edit_spec.proofs.JoinValid.{there}
@@ -107,7 +108,7 @@ ends_left p ends = flat_map (end_without_inst p) ends
 each_end_left : (d : Design) (old : CellBody) (p : ℕ) (ends : List End) → AllByRecursion (IsEndOf d old) ends → AllByRecursion (IsEndOf d (fill (left old p) old)) (ends_left p ends)
 each_end_left d old p [] all = tt
 each_end_left d old p (end ∷ ends) all =
-    each_append (IsEndOf d (fill (left old p) old)) (end_without_inst p end) (ends_left p ends) (end_left d old p end all.0) (each_end_left d old p ends all.1)
+    all_append (IsEndOf d (fill (left old p) old)) (end_without_inst p end) (ends_left p ends) (end_left d old p end all.0) (each_end_left d old p ends all.1)
 
 ends_of_left : (p : ℕ) (nets : List Net) → ends_of_nets (map (net_without_inst p) nets) ≡ ends_left p (ends_of_nets nets)
 ends_of_left p [] = refl
@@ -144,20 +145,16 @@ each_back p end =
     (λ none. let same : option_map (back_place p) end.inst ≡ end.inst = ap (option_map (back_place p)) none ∙ sym none in λ k. record end { inst = same k })
     (λ i some apart. let same : Some (back_place p (cond (nat_lt p i) (i - 1) i)) ≡ end.inst = ap (λ (j : ℕ). Some j) (back_moved p i (nat_lt p i) refl apart) ∙ sym some in λ k. record end { inst = same k })
 
-each_weaker : {X : Type 0} (P Q : X → Type 0) (xs : List X) → ((x : X) → P x → Q x) → AllByRecursion P xs → AllByRecursion Q xs
-each_weaker P Q [] follows all = tt
-each_weaker P Q (x ∷ xs) follows all = (follows x all.0, each_weaker P Q xs follows all.1)
-
 others_back : (p : ℕ) (end : End) (ends : List End) → AllByRecursion (λ e. end ≢ e) ends → AllByRecursion (λ e. end ≢ back p e) (ends_left p ends)
 others_back p end [] all = tt
 others_back p end (e ∷ ends) all =
-    each_append (λ x. end ≢ back p x) (end_without_inst p e) (ends_left p ends)
-    (each_weaker (λ x. back p x ≡ e) (λ x. end ≢ back p x) (end_without_inst p e) (λ x is same. all.0 (same ∙ is)) (each_back p e))
+    all_append (λ x. end ≢ back p x) (end_without_inst p e) (ends_left p ends)
+    (all_weaker (λ x. back p x ≡ e) (λ x. end ≢ back p x) (end_without_inst p e) (λ x is same. all.0 (same ∙ is)) (each_back p e))
     (others_back p end ends all.1)
 
 apart_join : {X : Type 0} (xs ys : List X) → Apart xs → Apart ys → AllByRecursion (λ x. AllByRecursion (λ y. x ≢ y) ys) xs → Apart (xs ++ ys)
 apart_join [] ys left right cross = right
-apart_join (x ∷ xs) ys left right cross = (each_append (λ y. x ≢ y) xs ys left.0 cross.0, apart_join xs ys left.1 right cross.1)
+apart_join (x ∷ xs) ys left right cross = (all_append (λ y. x ≢ y) xs ys left.0 cross.0, apart_join xs ys left.1 right cross.1)
 
 at_most_one : (p : ℕ) (end : End) (inst : Option ℕ) → Apart (end_moved p end inst) × (length (end_moved p end inst) ≤ 1)
 at_most_one p end None = ((tt, tt), omega arith)
@@ -171,8 +168,8 @@ apart_left : (p : ℕ) (ends : List End) → Apart ends → Apart (ends_left p e
 apart_left p [] apart = tt
 apart_left p (end ∷ ends) apart =
     apart_join (end_without_inst p end) (ends_left p ends) (at_most_one p end end.inst).0 (apart_left p ends apart.1)
-    (each_weaker (λ x. back p x ≡ end) (λ x. AllByRecursion (λ y. x ≢ y) (ends_left p ends)) (end_without_inst p end)
-    (λ x is. each_weaker (λ y. end ≢ back p y) (λ y. x ≢ y) (ends_left p ends) (λ y other same. other (sym is ∙ ap (back p) same)) (others_back p end ends apart.0))
+    (all_weaker (λ x. back p x ≡ end) (λ x. AllByRecursion (λ y. x ≢ y) (ends_left p ends)) (end_without_inst p end)
+    (λ x is. all_weaker (λ y. end ≢ back p y) (λ y. x ≢ y) (ends_left p ends) (λ y other same. other (sym is ∙ ap (back p) same)) (others_back p end ends apart.0))
     (each_back p end))
 
 length_left : (p : ℕ) (ends : List End) → length (ends_left p ends) ≤ length ends
@@ -224,7 +221,7 @@ still_leads d id old p gone notes valid found is_gone (step ∷ steps) at leads 
     let inst : Inst = leads.0 in
     let f = with_both d id (left old p) notes in
     let here : inst_named step (insts_at d at) ≡ Some inst = named_at d at inst step valid leads.1 leads.2 in
-    let both = neither (same_cell at id && is_name step gone.name.id) (option_map_or (λ next. goes_through d id gone.name.id next.of steps) (inst_named step (insts_at d at)) false) away in
+    let both = or_parts (same_cell at id && is_name step gone.name.id) (option_map_or (λ next. goes_through d id gone.name.id next.of steps) (inst_named step (insts_at d at)) false) away in
     let rest : goes_through d id gone.name.id inst.of steps ≡ false = sym (ap (λ (o : Option Inst). option_map_or (λ next. goes_through d id gone.name.id next.of steps) o false) here) ∙ both.1 in
     let has : HasInst f at inst = ⊎_elim
     (λ (same : at ≡ id).
@@ -272,10 +269,6 @@ all_kept {X} keep (x ∷ xs) same = by_test (keep x) same (all_kept keep xs)
     by_test true many rest = ap (λ ys. x ∷ ys) (rest (omega (arith, many)))
     by_test false many rest = let few = length_filter keep xs in absurd (omega (arith, many, few))
 
-not_true : (b : Bool) → not b ≡ true → b ≡ false
-not_true false is = refl
-not_true true is = let never : false ≡ true = is in cc
-
 notes_left : (d : Design) (id : CellId) (old : CellBody) (p : ℕ) (gone : Inst) (notes : List Note) (top : Option TopHead) → d.top ≡ top → IsValid d → cell_at d id ≡ Some old → slice_get (insts_of old) p ≡ Some gone → AreGoodNotes (with_both d id (left old p) notes) top (filter (λ note. not (goes_on d top (Some id) gone.name.id note)) d.notes)
 notes_left d id old p gone notes None is valid found is_gone =
     let was : AreGoodNotes d None d.notes = subst (λ (top : Option TopHead). AreGoodNotes d top d.notes) is (good_notes_before d valid) in
@@ -299,7 +292,7 @@ notes_left d id old p gone notes (Some t) is valid found is_gone =
       typed = All-from_recursion IsTypedNote (filter keep d.notes) (each_kept IsTypedNote IsTypedNote keep (λ note kept is. is) d.notes (recursion_from_All IsTypedNote d.notes was.typed));
       count = omega arith;
       below = All-from_recursion (IsNoteBelow f t.cell) (filter keep d.notes) (each_kept (IsNoteBelow d t.cell) (IsNoteBelow f t.cell) keep
-          (λ note kept below. record { has_step = below.has_step; resolves = still_leads d id old p gone notes valid found is_gone note.path t.cell below.resolves (not_true (goes_through d id gone.name.id t.cell note.path) kept) })
+          (λ note kept below. record { has_step = below.has_step; resolves = still_leads d id old p gone notes valid found is_gone note.path t.cell below.resolves (not-true (goes_through d id gone.name.id t.cell note.path) kept) })
           d.notes (recursion_from_All (IsNoteBelow d t.cell) d.notes was.below));
       need_top = tt;
       differ = distinct_of (map note_key (filter keep d.notes)) (apart_kept note_key keep d.notes (apart_of (map note_key d.notes) was.differ));

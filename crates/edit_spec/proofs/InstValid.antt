@@ -6,6 +6,7 @@ use Rattle.std.proofs.lemmas.List.Quantifiers.{all_pairs_push}
 use Rattle.std.specs.List.{All, Contains, list_any}
 use Rattle.std.specs.Option.{option_map_or}
 use Rattle.std.specs.Prelude.{IsSomeAnd}
+use Rattle.std.proofs.lemmas.Bool.{or_parts}
 use Rattle.netlist_schema.proofs.Cells.{All-cell_at}
 use Rattle.netlist_schema.proofs.WithCell.{All-weaker, with_cell_is_valid}
 use Rattle.netlist_schema.specs.Change.{shape_of}
@@ -16,6 +17,7 @@ use Rattle.netlist_schema.specs.Names.{AreDistinct, HasDistinctKeys}
 use Rattle.netlist_schema.specs.Typed.{IsTypedCell, IsTypedInst, IsTypedProperty}
 use Rattle.netlist_schema.specs.Types.{CellBody, CellId, Contents, Inst, Property}
 use Rattle.netlist_schema.specs.Valid.{IsValid, IsValidCell, IsEndAt, IsEndOf, HasBit, IsNoteBelow}
+use Rattle.netlist_schema.proofs.Ranks.{below_trans}
 use Rattle.edit_core.specs.Edit.{changed_at}
 use Rattle.edit_core.specs.Find.{is_same}
 use Rattle.edit_spec.specs.AddInst.{new_inst}
@@ -25,7 +27,7 @@ use Rattle.edit_core.proofs.Filled.{fill, filled, with_changed_is}
 use Rattle.edit_core.proofs.InnerValid.{AreGoodContents, good_notes_before, weaker_top, with_both, inner_valid, inst_after, inst_here, inst_elsewhere, resolves_with_more}
 use Rattle.edit_core.proofs.Lists.{All-changed_at, length-changed_at}
 use Rattle.edit_core.proofs.Reached.{Contains-tail}
-use Rattle.edit_core.proofs.Refusals.{neither, is_same-refl}
+use Rattle.edit_core.proofs.Refusals.{is_same-refl}
 use Rattle.edit_spec.proofs.Changes.{set_property_typed, set_property_distinct}
 
 -- the contents before are good
@@ -66,10 +68,10 @@ longer_end d old new (Some place) port bit is = some_and_longer (λ inst. IsSome
 inst_apart : (insts : List Inst) (name : List ℕ) → list_any (λ inst. is_same inst.name.id name) insts ≡ false → (k : ℕ) (x : List ℕ) → k < length (map (λ (inst : Inst). inst.name.id) insts) → slice_index_or (map (λ (inst : Inst). inst.name.id) insts) k x ≢ name
 inst_apart [] name none k x within = absurd (omega arith)
 inst_apart (inst ∷ insts) name none zero x within =
-    let here = (neither (is_same inst.name.id name) (list_any (λ n. is_same n.name.id name) insts) none).0 in
+    let here = (or_parts (is_same inst.name.id name) (list_any (λ n. is_same n.name.id name) insts) none).0 in
     λ same. let there : is_same inst.name.id name ≡ true = is_same-refl inst.name.id name same in let never : true ≡ false = sym there ∙ here in cc
 inst_apart (inst ∷ insts) name none (suc k) x within =
-    inst_apart insts name (neither (is_same inst.name.id name) (list_any (λ n. is_same n.name.id name) insts) none).1 k x (omega arith)
+    inst_apart insts name (or_parts (is_same inst.name.id name) (list_any (λ n. is_same n.name.id name) insts) none).1 k x (omega arith)
 
 pub more_good : (d : Design) (id of : CellId) (old : CellBody) (name : List ℕ) → IsIdentifier name → list_any (λ inst. is_same inst.name.id name) (insts_of old) ≡ false → length (insts_of old) < 1048576 → IsCell d of → of.lib.0 ≤ id.lib.0 → IsValid d → cell_at d id ≡ Some old → AreGoodContents d id old (record { insts = insts_of old ++ new_inst name of ∷ []; nets = nets_of old })
 more_good d id of old name identifier free room there not_later valid found =
@@ -106,10 +108,6 @@ kept_added : (xs : List Inst) (y x : Inst) (k : ℕ) → k < length xs → slice
 kept_added [] y x k within is = absurd (omega arith)
 kept_added (z ∷ xs) y x zero within is = (zero, omega arith, is)
 kept_added (z ∷ xs) y x (suc k) within is = Contains-tail z x (xs ++ y ∷ []) (kept_added xs y x k (omega arith) is)
-
-below_trans : (d : Design) {low middle high : CellId} → IsBelow d low middle → IsBelow d middle high → IsBelow d low high
-below_trans d first (placed inst has) = deeper inst has first
-below_trans d first (deeper inst has below) = deeper inst has (below_trans d first below)
 
 abbrev IsAtOrBelow : Design → CellId → CellId → Type 0
 IsAtOrBelow d low high = (low ≡ high) ⊎ IsBelow d low high

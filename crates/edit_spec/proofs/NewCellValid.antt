@@ -5,6 +5,7 @@ use Rattle.std.proofs.lemmas.List.Elements.{recursion_from_All, All-from_recursi
 use Rattle.std.specs.List.{All, AllByRecursion, list_any}
 use Rattle.std.specs.Option.{option_map, option_map_or, option_to_list}
 use Rattle.std.specs.Prelude.{sum_by, codes, flat_map}
+use Rattle.std.proofs.lemmas.Bool.{or_parts}
 use Rattle.netlist_schema.specs.Design.{Design, insts_of, nets_of, ends_of, port_width}
 use Rattle.netlist_schema.specs.Hierarchy.{IsCell}
 use Rattle.netlist_schema.specs.Ident.{IsIdentifier, is_identifier_byte}
@@ -19,7 +20,7 @@ use Rattle.edit_spec.specs.Typed.{IsTypedPortDecl}
 use Rattle.edit_spec.specs.declared.ops.PortDecl.{PortDecl}
 use Rattle.edit_core.proofs.Lists.{Apart, distinct_of}
 use Rattle.edit_core.proofs.MoreCell.{IsGoodCell, more_cell_valid}
-use Rattle.edit_core.proofs.Refusals.{neither, is_same-refl}
+use Rattle.edit_core.proofs.Refusals.{is_same-refl}
 
 pub nothing_inside : (name : List ℕ) (leaf : Bool) (ports : List PortDecl) → insts_of (new_cell name leaf ports) ≡ []
 nothing_inside name true ports = refl
@@ -44,19 +45,19 @@ port_names (port ∷ ports) = ap (λ (names : List (List ℕ)). port.name ∷ na
 none_same : (name : List ℕ) (names : List (List ℕ)) → list_any (is_same name) names ≡ false → AllByRecursion (λ other. name ≢ other) names
 none_same name [] none = tt
 none_same name (other ∷ names) none =
-    let both = neither (is_same name other) (list_any (is_same name) names) none in
+    let both = or_parts (is_same name other) (list_any (is_same name) names) none in
     (λ same. let there : is_same name other ≡ true = is_same-refl name other same in let never : true ≡ false = sym there ∙ both.0 in cc, none_same name names both.1)
 
 once_each : (names : List (List ℕ)) → has_twice names ≡ false → Apart names
 once_each [] none = tt
 once_each (name ∷ names) none =
-    let both = neither (list_any (is_same name) names) (has_twice names) none in
+    let both = or_parts (list_any (is_same name) names) (has_twice names) none in
     (none_same name names both.0, once_each names both.1)
 
 not_taken : (name : List ℕ) (names : List (List ℕ)) → list_any (λ other. is_same other name) names ≡ false → AllByRecursion (λ other. other ≢ name) names
 not_taken name [] none = tt
 not_taken name (other ∷ names) none =
-    let both = neither (is_same other name) (list_any (λ o. is_same o name) names) none in
+    let both = or_parts (is_same other name) (list_any (λ o. is_same o name) names) none in
     (λ same. let there : is_same other name ≡ true = is_same-refl other name same in let never : true ≡ false = sym there ∙ both.0 in cc, not_taken name names both.1)
 
 no_nets : (name : List ℕ) (leaf : Bool) (ports : List PortDecl) → nets_of (new_cell name leaf ports) ≡ []

@@ -4,7 +4,7 @@ use Rattle.std.specs.Prelude.{slice_set, nat_eq, nat_le, ◌==◌, ◌&&◌, is_
 use Rattle.std.specs.List.{All, AllByRecursion, position_from}
 use Rattle.std.specs.Option.{option_map_or}
 use Rattle.std.specs.Cmp.Lexicographic.{pointwise}
-use Rattle.std.proofs.lemmas.Bool.{leb-false}
+use Rattle.std.proofs.lemmas.Bool.{leb-false, not-false, and_parts}
 use Rattle.std.proofs.lemmas.List.{length-set}
 use Rattle.std.proofs.lemmas.List.Elements.{All-push, All-set}
 use Rattle.netlist_schema.specs.Design.{Design}
@@ -13,48 +13,34 @@ use Rattle.netlist_schema.specs.Names.{AreDistinct, note_key}
 use Rattle.netlist_schema.specs.Typed.{IsTypedProperty, IsTypedNote}
 use Rattle.netlist_schema.specs.Types.{Note, Property, TopHead, Object}
 use Rattle.netlist_schema.specs.Valid.{IsValid, IsNoteBelow}
-use Rattle.edit_core.specs.Edit.{edited, IsChanged, AllGoLast, AllPlaceOld, AllFindOld}
+use Rattle.flat_spec.proofs.TestLemmas.{names_same, names_refl}
+use Rattle.edit_core.specs.Edit.{edited, IsChanged}
 use Rattle.edit_core.specs.Find.{is_name}
 use Rattle.edit_core.specs.Local.{IsLocal}
 use Rattle.edit_core.specs.Notes.{notes_seen, note_place, put_notes}
 use Rattle.edit_core.specs.Paths.{resolves, is_path}
 use Rattle.edit_core.specs.Reading.{IsForPath}
 use Rattle.edit_core.specs.Rule.{first, refuse}
+use Rattle.edit_spec.proofs.DropNote.{put_last, put_finds, put_places}
 use Rattle.edit_spec.specs.SetNote.{set_note, set_note_of, set_note_needs}
 use Rattle.edit_spec.specs.Step.{step}
 use Rattle.edit_core.specs.declared.reply.Reply.{Reply}
 use Rattle.edit_core.specs.declared.reply.Reply.TheVariants.{NoTop, NoPath, TooMany}
 use Rattle.edit_core.proofs.InnerValid.{AreGoodNotes, good_notes_before, notes_valid}
-use Rattle.edit_core.proofs.Levels.{both_true}
 use Rattle.edit_core.proofs.Lists.{apart_more, missing_key, found_key, apart_of, distinct_of}
 use Rattle.edit_core.proofs.Named.{leads}
 use Rattle.edit_core.proofs.Reached.{iff_trans, is_path_same, path_notes_same, for_path_same}
-use Rattle.edit_core.proofs.Refusals.{same_name, first_none, not_refused, is_name-refl, not_not}
+use Rattle.edit_core.proofs.Refusals.{same_name, first_none, not_refused, is_name-refl}
 use Rattle.edit_core.proofs.Same.{both_ways}
 use Rattle.netlist_schema.specs.declared.ids.Object.TheVariants.{Notes}
-
--- the test of paths
-paths_same : (ps qs : List (List ℕ)) → pointwise (pointwise nat_eq) ps qs ≡ true → ps ≡ qs
-paths_same [] [] is = refl
-paths_same [] (q ∷ qs) is = let never : false ≡ true = is in cc
-paths_same (p ∷ ps) [] is = let never : false ≡ true = is in cc
-paths_same (p ∷ ps) (q ∷ qs) is =
-    let both = both_true (is_name p q) (pointwise (pointwise nat_eq) ps qs) is in
-    let here : p ≡ q = same_name p q both.0 in
-    let rest : ps ≡ qs = paths_same ps qs both.1 in
-    λ i. here i ∷ rest i
-
-paths-refl : (ps : List (List ℕ)) → pointwise (pointwise nat_eq) ps ps ≡ true
-paths-refl [] = refl
-paths-refl (p ∷ ps) = rw (is_name-refl p) (paths-refl ps)
 
 abbrev is_note : List (List ℕ) → List ℕ → Note → Bool
 is_note path key note = pointwise (pointwise nat_eq) note.path path && is_name note.property.key.id key
 
 note_same : (path : List (List ℕ)) (key : List ℕ) (note : Note) → is_note path key note ≡ true → note_key note ≡ (path, key)
 note_same path key note is =
-    let both = both_true (pointwise (pointwise nat_eq) note.path path) (is_name note.property.key.id key) is in
-    let paths : note.path ≡ path = paths_same note.path path both.0 in
+    let both = and_parts (pointwise (pointwise nat_eq) note.path path) (is_name note.property.key.id key) is in
+    let paths : note.path ≡ path = names_same note.path path both.0 in
     let keys : note.property.key.id ≡ key = same_name note.property.key.id key both.1 in
     λ i. (paths i, keys i)
 
@@ -62,7 +48,7 @@ note-test : (path : List (List ℕ)) (key : List ℕ) (note : Note) → note_key
 note-test path key note same =
     let paths : note.path ≡ path = ap (λ (k : List (List ℕ) × List ℕ). k.0) same in
     let keys : note.property.key.id ≡ key = ap (λ (k : List (List ℕ) × List ℕ). k.1) same in
-    let left : pointwise (pointwise nat_eq) note.path path ≡ true = subst (λ (p : List (List ℕ)). pointwise (pointwise nat_eq) note.path p ≡ true) paths (paths-refl note.path) in
+    let left : pointwise (pointwise nat_eq) note.path path ≡ true = subst (λ (p : List (List ℕ)). pointwise (pointwise nat_eq) note.path p ≡ true) paths (names_refl note.path) in
     let right : is_name note.property.key.id key ≡ true = subst (λ (k : List ℕ). is_name note.property.key.id k ≡ true) keys (is_name-refl note.property.key.id) in
     (λ i. left i && right i)
 
@@ -118,8 +104,8 @@ put_valid d (Some t) path property is ids typed valid leading free =
     let place : Option ℕ = note_place path property.key.id d.notes in
     let new : List Note = put place d.notes note in
     let was : AreGoodNotes d (Some t) d.notes = subst (λ (top : Option TopHead). AreGoodNotes d top d.notes) is (good_notes_before d valid) in
-    let path_is : is_path d (Some t) path ≡ true = not_not (is_path d (Some t) path) (not_refused (not (is_path d (Some t) path)) NoPath leading) in
-    let both = both_true (not (length path == 0)) (resolves d t.cell path) path_is in
+    let path_is : is_path d (Some t) path ≡ true = not-false (is_path d (Some t) path) (not_refused (not (is_path d (Some t) path)) NoPath leading) in
+    let both = and_parts (not (length path == 0)) (resolves d t.cell path) path_is in
     let below : IsNoteBelow d t.cell note = record { has_step = has_steps path both.0; resolves = leads d path t.cell both.1 } in
     let good : AreGoodNotes d (Some t) new = record {
       typed = put_all IsTypedNote place note d.notes (record { path = ids; property = typed }) was.typed;
@@ -142,18 +128,6 @@ set_note_done d path property ids typed valid allowed =
 path_written : (d : Design) (top : Option TopHead) (path : List (List ℕ)) (notes : List Note) (o : Object) → IsChanged (put_notes top notes) o → IsForPath d top path o
 path_written d None path notes o is = absurd is
 path_written d (Some top) path notes o is = ⊎_elim (λ (here : o ≡ Notes). inl here) (λ (never : ⊥). absurd never) is
-
-put_last : (d : Design) (top : Option TopHead) (notes : List Note) → AllGoLast d (put_notes top notes)
-put_last d None notes = tt
-put_last d (Some top) notes = (tt, tt)
-
-put_finds : (d : Design) (top : Option TopHead) (notes : List Note) → AllFindOld d (put_notes top notes)
-put_finds d None notes = tt
-put_finds d (Some top) notes = (tt, tt)
-
-put_places : (d : Design) (top : Option TopHead) (notes : List Note) → AllPlaceOld d (put_notes top notes)
-put_places d None notes = tt
-put_places d (Some top) notes = (tt, tt)
 
 pub set_note_local : (path : List (List ℕ)) (property : Property) → IsLocal (set_note_of path property) (set_note_needs path) (All IsIdentifier path × IsTypedProperty property)
 set_note_local path property = record {

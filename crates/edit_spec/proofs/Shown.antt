@@ -28,7 +28,7 @@ has_placed d (Some id) name inst is =
 pub placed_there : (d : Design) (cell : CellName) (name : List ℕ) (inst : Inst) → IsClosed d → placed d cell name ≡ Some inst → IsCell d inst.of
 placed_there d cell name inst closed is = let has = has_placed d (cell_named d cell) name inst is in closed has.0 inst has.1
 
-outside_there : (o : Option CellBody) → IsSome o → (outside : Outside) × (option_map outside_of o ≡ Some outside)
+pub outside_there : (o : Option CellBody) → IsSome o → (outside : Outside) × (option_map outside_of o ≡ Some outside)
 outside_there None is = let never : false ≡ true = is in cc
 outside_there (Some body) is = (outside_of body, refl)
 

@@ -8,13 +8,14 @@ use Rattle.netlist_schema.proofs.WithCell.{lib_of_cell}
 use Rattle.netlist_schema.specs.Design.{Design, cell_at, insts_of, nets_of, ends_of, port_width}
 use Rattle.netlist_schema.specs.Types.{CellBody, CellId, End, Inst, Lib, LibHead, Net, Port}
 use Rattle.netlist_schema.specs.Valid.{IsValid, IsEndAt, IsEndOf, HasBit}
+use Rattle.netlist_schema.proofs.Lists.{all_behind}
 use Rattle.edit_core.specs.Find.{cell_named, net_named, net_place}
 use Rattle.edit_core.specs.Objects.{face_at, face_of, outside_of, outside_at, head_at, name_of, cell_name_at}
 use Rattle.edit_core.specs.Seen.{inside, contents_at, ports_seen, placed}
 use Rattle.edit_core.specs.declared.reply.CellName.{CellName}
 use Rattle.edit_spec.specs.ShowNet.{ends_of_net, inst_of_end, ports_at, end_by_name, ends_by_name, net_shown}
 use Rattle.edit_core.proofs.Closed.{some_cell, valid_is_closed}
-use Rattle.edit_core.proofs.Lists.{each_left, each_right}
+use Rattle.edit_core.proofs.Lists.{each_left}
 use Rattle.edit_core.proofs.Named.{cell_there}
 use Rattle.edit_spec.proofs.Joined.{ends_of_nets}
 use Rattle.edit_spec.proofs.Shown.{placed_there}
@@ -49,7 +50,7 @@ each_shown d body (end ∷ ends) all =
 ends_of_one : (P : End → Type 0) (nets : List Net) (k : ℕ) (net : Net) → slice_get nets k ≡ Some net → AllByRecursion P (ends_of_nets nets) → AllByRecursion P net.ends
 ends_of_one P [] k net is all = cc
 ends_of_one P (n ∷ nets) zero net is all = let same : n ≡ net = cc in subst (λ (x : Net). AllByRecursion P x.ends) same (each_left P n.ends (ends_of_nets nets) all)
-ends_of_one P (n ∷ nets) (suc k) net is all = ends_of_one P nets k net is (each_right P n.ends (ends_of_nets nets) all)
+ends_of_one P (n ∷ nets) (suc k) net is all = ends_of_one P nets k net is (all_behind P n.ends (ends_of_nets nets) all)
 
 ends_at : (P : End → Type 0) (nets : List Net) (o : Option Net) (place : Option ℕ) → option_and_then (slice_get nets) place ≡ o → AllByRecursion P (ends_of_nets nets) → AllByRecursion P (option_map_or (λ net. net.ends) o [])
 ends_at P nets None place is all = tt

@@ -5,11 +5,13 @@ use Rattle.std.specs.declared.sync.Arc.{Arc}
 use Rattle.std.proofs.lemmas.Bool.{cases_eq}
 use Rattle.std.proofs.lemmas.List.{length-map, length-append, map-append, take_all, take_more}
 use Rattle.std.proofs.lemmas.List.Elements.{Contains-push_cases}
+use Rattle.std.proofs.lemmas.Option.{slice_get_past}
 use Rattle.netlist_schema.specs.Design.{Design, cell_at, cells_in, lib_at}
 use Rattle.netlist_schema.specs.Names.{AreDistinct, cell_names}
 use Rattle.netlist_schema.specs.Types.{CellBody, CellId, Contents as ContentsType, Lib, LibId, Object}
 use Rattle.netlist_schema.specs.declared.ids.Object.TheVariants.{Directory, Interface, Contents as Inside, Notes}
 use Rattle.netlist_schema.proofs.Objects.{is_listed}
+use Rattle.netlist_schema.proofs.Lists.{get_there}
 use Rattle.edit_core.specs.Edit.{changed_at, lib_with_more, with_changed_cell, with_more_cell}
 use Rattle.edit_core.specs.Objects.{Agrees, IsPrefix, face_of}
 use Rattle.edit_core.specs.Overlay.{HasSameHeads}
@@ -22,29 +24,10 @@ use Rattle.version_draft.proofs.Making.{each_distinct, more_cells, prefix_distin
 
 -- ---- options and lists
 
-some_of : {X : Type 0} (o : Option X) → IsSome o → (x : X) × (o ≡ Some x)
-some_of None is = cc
-some_of (Some x) is = (x, refl)
-
 names_at : (cells : List CellBody) (k : ℕ) → slice_get (cell_names cells) k ≡ option_map (λ (c : CellBody). c.name.id) (slice_get cells k)
 names_at [] k = refl
 names_at (c ∷ cells) zero = refl
 names_at (c ∷ cells) (suc k) = names_at cells k
-
-past_end : {X : Type 0} (xs : List X) (k : ℕ) → length xs ≤ k → slice_get xs k ≡ None
-past_end [] k past = refl
-past_end (x ∷ xs) zero past = absurd (omega arith)
-past_end (x ∷ xs) (suc k) past = past_end xs k (omega arith)
-
-get_there : {X : Type 0} (xs : List X) (k : ℕ) → k < length xs → (x : X) × (slice_get xs k ≡ Some x)
-get_there [] k within = absurd (omega arith)
-get_there (x ∷ xs) zero within = (x, refl)
-get_there (x ∷ xs) (suc k) within = get_there xs k (omega arith)
-
-get_front : {X : Type 0} (xs more : List X) (k : ℕ) → k < length xs → slice_get (xs ++ more) k ≡ slice_get xs k
-get_front [] more k within = absurd (omega arith)
-get_front (x ∷ xs) more zero within = refl
-get_front (x ∷ xs) more (suc k) within = get_front xs more k (omega arith)
 
 -- a beginning with the next item added is a beginning
 split_next : {X : Type 0} (xs more : List X) (x : X) → slice_get (xs ++ more) (length xs) ≡ Some x → (rest : List X) × (xs ++ more ≡ (xs ++ x ∷ []) ++ rest)
@@ -145,7 +128,7 @@ module _ (work : State) (t m : Design) (behind : IsBehind work t m) (id : CellId
   longer = omega (arith, ap length lib_same, length-map (cells_in work.design id.lib) (λ (c : CellBody). c.name.id), length-map (cells_in t id.lib) (λ (c : CellBody). c.name.id))
 
   none_yet : cell_at m id ≡ None
-  none_yet = past_end (cells_in m id.lib) id.slot (omega (arith, next))
+  none_yet = slice_get_past (cells_in m id.lib) id.slot (omega (arith, next))
 
   -- both its parts were written
   outside_written : Contains work.written (Interface id)

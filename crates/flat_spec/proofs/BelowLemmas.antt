@@ -83,7 +83,7 @@ Ascends-same {A} R apart (x ∷ xs) (y ∷ ys) p q to from =
     ]) in
     λ t. heads t ∷ rest t
 
-under_path-none : (os : List Occurrence) → map (under_path []) os ≡ os
+pub under_path-none : (os : List Occurrence) → map (under_path []) os ≡ os
 under_path-none [] = refl
 under_path-none (o ∷ os) = ap (λ v. o ∷ v) (under_path-none os)
 

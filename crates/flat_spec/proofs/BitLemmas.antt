@@ -11,6 +11,7 @@ use Rattle.std.proofs.lemmas.List.Sums.{sum_by-cons}
 use Rattle.netlist_schema.specs.Design.{Design, cell_at, ends_of, insts_of, nets_of, port_width}
 use Rattle.netlist_schema.specs.Types.{CellBody, CellId, End, Inst, Net, Port}
 use Rattle.netlist_schema.specs.Valid.{HasBit, IsEndOf, IsValid}
+use Rattle.netlist_schema.proofs.Lists.{get_behind, get_still}
 use Rattle.flat_spec.specs.Paths.{Bit, own, on, at_root, Joins, Reaches}
 use Rattle.flat_spec.specs.Pins.{own_bits}
 use Rattle.flat_spec.specs.declared.item.NetAt.{NetAt}
@@ -24,18 +25,6 @@ bits_from place ports = flat_map (λ (p : ℕ × Port). map (λ bit. record { po
 
 abbrev pub bits_in : ℕ → ℕ → ℕ → List Bit
 bits_in port from count = map (λ bit. record { port = port; bit = bit }) (range_with_len from count)
-
--- what stands in front is passed
-slice_get-front : {A : Type 0} (xs ys : List A) (k : ℕ) → slice_get (xs ++ ys) (length xs + k) ≡ slice_get ys k
-slice_get-front [] ys k = ap (slice_get ys) (omega arith)
-slice_get-front (x ∷ xs) ys k =
-    let step : length (x ∷ xs) + k ≡ suc (length xs + k) = omega arith in
-    ap (slice_get ((x ∷ xs) ++ ys)) step ∙ slice_get-front xs ys k
-
-slice_get-here : {A : Type 0} (xs ys : List A) (k : ℕ) (x : A) → slice_get xs k ≡ Some x → slice_get (xs ++ ys) k ≡ Some x
-slice_get-here [] ys k x e = absurd (cc e)
-slice_get-here (y ∷ xs) ys zero x e = e
-slice_get-here (y ∷ xs) ys (suc k) x e = slice_get-here xs ys k x e
 
 bits_in-length : (port from count : ℕ) → length (bits_in port from count) ≡ count
 bits_in-length port from zero = refl
@@ -58,7 +47,7 @@ number_at (p ∷ ports) place zero bit port e less =
     let at : 0 + bit ≡ bit = omega arith in
     let port_is : place ≡ place + 0 = omega arith in
     ap (slice_get (bits_from place (p ∷ ports))) at
-    ∙ slice_get-here (bits_in place 0 (port_width p)) (bits_from (place + 1) ports) bit (record { port = place; bit = 0 + bit }) here
+    ∙ get_still (bits_in place 0 (port_width p)) (bits_from (place + 1) ports) bit (record { port = place; bit = 0 + bit }) here
     ∙ ap (λ b. Some (record { port = place; bit = b })) at
     ∙ ap (λ v. Some (record { port = v; bit = bit })) port_is
   where
@@ -71,7 +60,7 @@ number_at (p ∷ ports) place (suc k) bit port e less =
     let index : sum_by port_width (take (suc k) (p ∷ ports)) + bit ≡ length front + (rest + bit) = omega (arith, more, bits_in-length place 0 (port_width p)) in
     let port_is : (place + 1) + k ≡ place + suc k = omega arith in
     ap (slice_get (bits_from place (p ∷ ports))) index
-    ∙ slice_get-front front (bits_from (place + 1) ports) (rest + bit)
+    ∙ get_behind front (bits_from (place + 1) ports) (rest + bit)
     ∙ number_at ports (place + 1) k bit port e less
     ∙ ap (λ v. Some (record { port = v; bit = bit })) port_is
 
@@ -115,7 +104,7 @@ number_back place (p ∷ ports) number b e = go (cases_lt number (port_width p))
         → IsNumbered place (p ∷ ports) number b
     go (inl less) further =
         let here : slice_get (bits_in place 0 (port_width p) ++ bits_from (place + 1) ports) number ≡ Some (record { port = place; bit = 0 + number }) =
-        slice_get-here (bits_in place 0 (port_width p)) (bits_from (place + 1) ports) number (record { port = place; bit = 0 + number }) (bits_in-at place 0 (port_width p) number less) in
+        get_still (bits_in place 0 (port_width p)) (bits_from (place + 1) ports) number (record { port = place; bit = 0 + number }) (bits_in-at place 0 (port_width p) number less) in
         let same : b ≡ record { port = place; bit = 0 + number } = Some-bit b (record { port = place; bit = 0 + number }) (sym e ∙ here) in
         let bit : b.bit ≡ 0 + number = ap (λ (v : Bit). v.bit) same in
         let port : b.port ≡ place = ap (λ (v : Bit). v.port) same in
@@ -125,7 +114,7 @@ number_back place (p ∷ ports) number b e = go (cases_lt number (port_width p))
         let long = bits_in-length place 0 (port_width p) in
         let index : number ≡ length (bits_in place 0 (port_width p)) + k = omega (arith, more, long) in
         let later : slice_get (bits_from (place + 1) ports) k ≡ Some b =
-        sym (slice_get-front (bits_in place 0 (port_width p)) (bits_from (place + 1) ports) k) ∙ ap (slice_get (bits_from place (p ∷ ports))) (sym index) ∙ e in
+        sym (get_behind (bits_in place 0 (port_width p)) (bits_from (place + 1) ports) k) ∙ ap (slice_get (bits_from place (p ∷ ports))) (sym index) ∙ e in
         let rest = further k b later in
         let sum : sum_by port_width (take (suc rest.at) (p ∷ ports)) ≡ port_width p + sum_by port_width (take rest.at ports) = sum_by-cons port_width p (take rest.at ports) in
         record { at = suc rest.at; port = rest.port; port_is = omega (arith, rest.port_is); there = rest.there; within = rest.within; number_is = omega (arith, sum, rest.number_is, more) }

@@ -1,5 +1,6 @@
 -- The representative of a net below the root: that of a net of the parent, or a net of the same contents.
 use Rattle.std.proofs.Common.{◌≡◌, ℕ, List, [], ◌∷◌, ◌++◌, refl, sym, ap, subst, inl, inr, ◌∙◌, arith, append_assoc, append-nil}
+use Rattle.std.proofs.lemmas.List.{same_from_push}
 use Rattle.netlist_schema.specs.Design.{Design}
 use Rattle.netlist_schema.specs.Hierarchy.{NoCellIsBelowItself}
 use Rattle.netlist_schema.specs.Types.{CellId}
@@ -11,7 +12,7 @@ use Rattle.flat_spec.specs.Paths.{own, on, at_path, at_root, Joins, IsNet}
 use Rattle.flat_spec.specs.Representatives.{IsRepresentative, representative}
 use Rattle.flat_spec.specs.declared.item.NetAt.{NetAt}
 use Rattle.flat_spec.proofs.ConnectionLemmas.{Connected-same, Connected-sym, Connected-append, Connected-one, Connected-below, Meets-inward, Meets-here}
-use Rattle.flat_spec.proofs.ListLemmas.{last_cases, last_same, append-same}
+use Rattle.flat_spec.proofs.ListLemmas.{last_cases, append-same}
 use Rattle.flat_spec.proofs.PathLemmas.{Joins-inward, Joins-net, net_of-below}
 use Rattle.flat_spec.proofs.RepresentativeLemmas.{IsRepresentative-connected, representative-first, representative-is, representative-connected}
 
@@ -61,7 +62,7 @@ module _ (d : Design) (root : CellId) (o : Inner) (is : IsInner d root o) where
         | inl empty ↦
             let whole : y.path ++ m.step ∷ [] ≡ o.parent ++ o.step ∷ [] =
             sym m.below ∙ h.1 ∙ ap (λ s. inner_path o ++ s) empty ∙ append-nil (inner_path o) in
-            let parts = last_same y.path o.parent m.step o.step whole in
+            let parts = same_from_push y.path o.parent m.step o.step whole in
             let over : Joins d root (outer_net o y.net) (on o.step m.joint) =
             subst (λ s. Joins d root (outer_net o y.net) (on s m.joint)) parts.1
             (subst (λ p. Joins d root (at_path p y.net) (on m.step m.joint)) parts.0 m.joins_on) in
@@ -78,7 +79,7 @@ module _ (d : Design) (root : CellId) (o : Inner) (is : IsInner d root o) where
         | inr e ↦
             let whole : y.path ++ m.step ∷ [] ≡ (inner_path o ++ e.0) ++ e.1 ∷ [] =
             sym m.below ∙ h.1 ∙ ap (λ s. inner_path o ++ s) e.2 ∙ sym (append_assoc (inner_path o) e.0 (e.1 ∷ [])) in
-            let parts = last_same y.path (inner_path o ++ e.0) m.step e.1 whole in
+            let parts = same_from_push y.path (inner_path o ++ e.0) m.step e.1 whole in
             let over = subst (λ p. Joins d root (at_path p y.net) (on m.step m.joint)) parts.0 m.joins_on in
             let rest_is : e.0 ++ m.step ∷ [] ≡ h.0 = ap (λ s. e.0 ++ s ∷ []) parts.1 ∙ sym e.2 in
             let path_is : x.path ≡ inner_path o ++ (e.0 ++ m.step ∷ []) = h.1 ∙ ap (λ s. inner_path o ++ s) (sym rest_is) in

@@ -10,6 +10,7 @@ pub mod PathLemmas
 pub mod PinLemmas
 pub mod ReachLemmas
 pub mod RepresentativeLemmas
+pub mod RunLemmas
 pub mod TestLemmas
 pub mod TowerLemmas
 pub mod TreeLemmas

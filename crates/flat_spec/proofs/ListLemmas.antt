@@ -1,7 +1,9 @@
 -- Elements of a list, its last element, and what stands behind a beginning.
-use Rattle.std.proofs.Common.{◌≡◌, ◌⊎◌, ℕ, zero, suc, ◌<◌, List, [], ◌∷◌, ◌++◌, map, length, get_or, refl, sym, ap, subst, ◌∙◌, inl, inr, arith, Some, slice_get}
+use Rattle.std.proofs.Common.{◌≡◌, ◌≢◌, ◌⊎◌, ℕ, zero, suc, ◌+◌, ◌<◌, ◌≤◌, List, [], ◌∷◌, ◌++◌, map, length, get_or, refl, sym, ap, subst, ◌∙◌, inl, inr, arith, Some, slice_get, Bool, true, false}
 use Rattle.std.proofs.lemmas.Option.{slice_get_within, get_or_from_slice_get}
+use Rattle.std.specs.Prelude.{cond, filter}
 use Rattle.std.specs.List.{AllPairs, Contains}
+use Rattle.std.proofs.lemmas.Bool.{false≢true}
 
 -- x is in the list
 abbrev pub Member : {A : Type 0} → List A → A → Type 0
@@ -69,6 +71,50 @@ without (z ∷ zs) x m =
           (z ∷ w.0, ap suc w.1, λ y k other. elim k [ inl same ↦ inl same | inr there ↦ inr (w.2 y there other) ])
     ]
 
+-- a list of fewer elements can't have all of so many
+pub pigeons : {X : Type 0} (f : ℕ → X) (n a : ℕ) (ys : List X) → ((j k : ℕ) → a ≤ j → j < k → k < a + n → f k ≢ f j)
+    → ((k : ℕ) → a ≤ k → k < a + n → Member ys (f k)) → n ≤ length ys
+pigeons f zero a ys apart all = omega arith
+pigeons f (suc n) a ys apart all =
+    let low : a ≤ a = omega arith in
+    let high : a < a + suc n = omega arith in
+    let w = without ys (f a) (all a low high) in
+    let fewer = pigeons f n (a + 1) w.0
+    (λ j k p q r. let p' : a ≤ j = omega (arith, p) in let r' : k < a + suc n = omega (arith, r) in apart j k p' q r')
+    (λ k p q.
+    let p' : a ≤ k = omega (arith, p) in
+    let less : a < k = omega (arith, p) in
+    let q' : k < a + suc n = omega (arith, q) in
+    w.2 (f k) (all k p' q') (apart a k low less q')) in
+    omega (arith, fewer, w.1)
+
+pub Member-filter : {A : Type 0} (test : A → Bool) (xs : List A) (x : A) → Member xs x → test x ≡ true → Member (filter test xs) x
+Member-filter test [] x m e = m
+Member-filter {A} test (y ∷ xs) x m e = go (λ k. Member-filter test xs x k e) (test y) refl
+  where
+    go : (Member xs x → Member (filter test xs) x) → (b : Bool) → test y ≡ b → Member (cond b (y ∷ filter test xs) (filter test xs)) x
+    go further true is = elim m [ inl same ↦ inl same | inr rest ↦ inr (further rest) ]
+    go further false is = elim m [ inl same ↦ absurd (false≢true (sym is ∙ ap test same ∙ e)) | inr rest ↦ further rest ]
+
+pub Member-from_filter : {A : Type 0} (test : A → Bool) (xs : List A) (x : A) → Member (filter test xs) x → Member xs x × (test x ≡ true)
+Member-from_filter test [] x m = absurd m
+Member-from_filter {A} test (y ∷ xs) x m = go (λ k. Member-from_filter test xs x k) (test y) refl m
+  where
+    go : (Member (filter test xs) x → Member xs x × (test x ≡ true)) → (b : Bool) → test y ≡ b
+        → Member (cond b (y ∷ filter test xs) (filter test xs)) x → ((y ≡ x) ⊎ Member xs x) × (test x ≡ true)
+    go further true is m = elim m [
+      | inl same ↦ (inl same, sym (ap test same) ∙ is)
+      | inr rest ↦ let found = further rest in (inr found.0, found.1)
+    ]
+    go further false is m = let found = further m in (inr found.0, found.1)
+
+pub filter_same : {A : Type 0} (t u : A → Bool) (xs : List A) → ((x : A) → Member xs x → t x ≡ u x) → filter t xs ≡ filter u xs
+filter_same t u [] same = refl
+filter_same t u (x ∷ xs) same =
+    let here = same x (inl refl) in
+    let later = filter_same t u xs (λ y m. same y (inr m)) in
+    λ i. cond (here i) (x ∷ later i) (later i)
+
 -- each element comes before all that follow it
 abbrev pub Ascends : {A : Type 0} → (A → A → Type 0) → List A → Type 0
 Ascends R [] = Unit {0}
@@ -113,20 +159,15 @@ last_cases (x ∷ xs) =
       | inr e ↦ inr (x ∷ e.0, e.1, ap (λ v. x ∷ v) e.2)
     ]
 
--- lists with a last element are equal in both parts
-pub last_same : {A : Type 0} (xs ys : List A) (x y : A) → xs ++ x ∷ [] ≡ ys ++ y ∷ [] → (xs ≡ ys) × (x ≡ y)
-last_same [] [] x y e = (refl, cc)
-last_same [] (v ∷ []) x y e = (cc, cc)
-last_same [] (v ∷ w ∷ ys) x y e = (cc, cc)
-last_same (u ∷ []) [] x y e = (cc, cc)
-last_same (u ∷ w ∷ xs) [] x y e = (cc, cc)
-last_same (u ∷ xs) (v ∷ ys) x y e =
-    let tails : xs ++ x ∷ [] ≡ ys ++ y ∷ [] = cc in
-    let heads : u ≡ v = cc in
-    let parts = last_same xs ys x y tails in
-    (cc (heads, parts.0), parts.1)
-
 -- nothing stands behind a list that is its own beginning
 pub append-same : {A : Type 0} (xs s : List A) → xs ++ s ≡ xs → s ≡ []
 append-same [] s e = e
 append-same (x ∷ xs) s e = let tails : xs ++ s ≡ xs = cc in append-same xs s tails
+
+pub Ascends-filter : {A : Type 0} (R : A → A → Type 0) (test : A → Bool) (xs : List A) → Ascends R xs → Ascends R (filter test xs)
+Ascends-filter R test [] p = p
+Ascends-filter {A} R test (y ∷ xs) p = go (Ascends-filter R test xs p.1) (test y)
+  where
+    go : Ascends R (filter test xs) → (b : Bool) → Ascends R (cond b (y ∷ filter test xs) (filter test xs))
+    go further true = (λ z m. p.0 z (Member-from_filter test xs z m).0, further)
+    go further false = further

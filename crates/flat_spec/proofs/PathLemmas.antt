@@ -93,12 +93,12 @@ Joins-net d root x e j = there (net_of d root x) j
     there None j = absurd (omega arith)
     there (Some net) j = refl
 
-slice_get-within : {A : Type 0} (xs : List A) (i : ℕ) → IsSome (slice_get xs i) → i < length xs
+pub slice_get-within : {A : Type 0} (xs : List A) (i : ℕ) → IsSome (slice_get xs i) → i < length xs
 slice_get-within [] i is = absurd (false≢true is)
 slice_get-within (x ∷ xs) zero is = omega arith
 slice_get-within (x ∷ xs) (suc i) is = let below : i < length xs = slice_get-within xs i is in omega arith
 
-slice_get-is : {A : Type 0} (xs : List A) (i : ℕ) → i < length xs → IsSome (slice_get xs i)
+pub slice_get-is : {A : Type 0} (xs : List A) (i : ℕ) → i < length xs → IsSome (slice_get xs i)
 slice_get-is [] i within = absurd (omega arith)
 slice_get-is (x ∷ xs) zero within = refl
 slice_get-is (x ∷ xs) (suc i) within = let below : i < length xs = omega arith in slice_get-is xs i below

@@ -112,7 +112,7 @@ position-joins d root c path n e at found = there (nets_at d c) refl found
         ∙ slice_get-get_or (first ∷ nets) n first some.0 in
         subst (λ o. Contains (option_map_or (λ (v : Net). v.ends) o []) e) (sym here) (has_end-true net.ends e some.1)
 
-map-parts : {A B : Type 0} (f : A → B) (o : Option A) (y : B) → option_map f o ≡ Some y → (x : A) × (o ≡ Some x) × (f x ≡ y)
+pub map-parts : {A B : Type 0} (f : A → B) (o : Option A) (y : B) → option_map f o ≡ Some y → (x : A) × (o ≡ Some x) × (f x ≡ y)
 map-parts f None y e = absurd (none-some y e)
 map-parts f (Some x) y e = (x, refl, same_Some (f x) y e)
 

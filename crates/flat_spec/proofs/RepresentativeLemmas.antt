@@ -48,7 +48,7 @@ connects-from d acyclic root x y k =
       | inr through ↦ or_right (same_net x y) _ through
     ]
 
-PathBefore-not_both : (p q : List ℕ) → PathBefore p q → PathBefore q p → ⊥
+pub PathBefore-not_both : (p q : List ℕ) → PathBefore p q → PathBefore q p → ⊥
 PathBefore-not_both [] [] h k = h
 PathBefore-not_both [] (j ∷ q) h k = k
 PathBefore-not_both (i ∷ p) [] h k = h

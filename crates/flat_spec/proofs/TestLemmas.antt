@@ -137,3 +137,19 @@ are_neighbours-from d root x y t =
       | inl down ↦ or_left _ _ (meets-from d root x y down)
       | inr up ↦ or_right _ _ (meets-from d root y x up)
     ]
+
+-- ---- lists of names
+
+pub names_same : (a b : List (List ℕ)) → pointwise (pointwise nat_eq) a b ≡ true → a ≡ b
+names_same [] [] e = refl
+names_same [] (y ∷ b) e = absurd (false≢true e)
+names_same (x ∷ a) [] e = absurd (false≢true e)
+names_same (x ∷ a) (y ∷ b) e =
+    let parts = and_parts (pointwise nat_eq x y) (pointwise (pointwise nat_eq) a b) e in
+    let head = (same_path x y).0 parts.0 in
+    let tail = names_same a b parts.1 in
+    λ i. head i ∷ tail i
+
+pub names_refl : (a : List (List ℕ)) → pointwise (pointwise nat_eq) a a ≡ true
+names_refl [] = refl
+names_refl (x ∷ a) = and_from (pointwise nat_eq x x) (pointwise (pointwise nat_eq) a a) ((same_path x x).1 refl) (names_refl a)

@@ -8,17 +8,15 @@ use Rattle.std.specs.List.{list_any, range_with_len}
 use Rattle.std.specs.Ordering.{nat_cmp, is_eq, match_ordering}
 use Rattle.std.specs.declared.cmp.Ordering.{Ordering}
 use Rattle.std.specs.declared.cmp.Ordering.TheVariants.{Less, Equal, Greater}
-use Rattle.std.specs.Str.Parse.{AllDigits}
-use Rattle.std.proofs.lemmas.Bool.{true≢false, false≢true, cond-true, cond-false}
+use Rattle.std.proofs.lemmas.Bool.{true≢false, false≢true, cond-true, cond-false, not-true, not-false}
 use Rattle.std.proofs.lemmas.Fmt.{decimal_is_IsNumeral}
-use Rattle.std.proofs.lemmas.Str.Parse.{digit_from_value}
 use Rattle.edit_core.specs.Find.{is_name, is_same}
-use Rattle.edit_core.proofs.Refusals.{same_name, not_not}
+use Rattle.edit_core.proofs.Refusals.{same_name}
 use Rattle.flat_spec.proofs.ListLemmas.{Member, Member-from_map}
 use Rattle.flat_spec.proofs.OccurrenceLemmas.{range_with_len-most}
 use Rattle.netlist_schema.specs.Ident.{IsIdentifier, is_identifier_byte}
 use Rattle.ungroup_spec.specs.Names.{is_taken, numbered, free_name}
-use Rattle.ungroup_spec.proofs.FreshLemmas.{free_name-is, wanted_identifier, All-member}
+use Rattle.ungroup_spec.proofs.FreshLemmas.{free_name-is, wanted_identifier, All-member, digits_pass}
 use Rattle.free_names.specs.Taken.{IsMadeFree, IsOf, IsTold, lower}
 
 -- ---- the set
@@ -158,15 +156,11 @@ first_free names name (suc m) few taken free = elim (cases (suc m) (length names
 
 -- ---- the name that is made free
 
-not_true : (b : Bool) → not b ≡ true → b ≡ false
-not_true true e = absurd (false≢true e)
-not_true false e = refl
-
 -- the name itself
 pub made_first : (old new : List (List ℕ)) (name bytes : List ℕ) (free : Bool) → bytes ≡ name → IsTold old bytes new free → free ≡ true → IsMadeFree old name name new
 made_first old new name bytes free same told is names of few =
     let t = told names of in
-    let not_taken : is_taken names name ≡ false = ap (is_taken names) (sym same) ∙ not_true (is_taken names bytes) (sym t.0 ∙ is) in
+    let not_taken : is_taken names name ≡ false = ap (is_taken names) (sym same) ∙ not-true (is_taken names bytes) (sym t.0 ∙ is) in
     (sym (first_free names name 0 few (λ k less. absurd (omega (arith, less))) not_taken), subst (λ v. IsOf new (v ∷ names)) same t.1)
 
 -- the names with lesser numbers are taken
@@ -181,13 +175,13 @@ made_later old set new name bytes made number free same made_is low taken told i
     let so_far = taken names of in
     let t = told names so_far.0 in
     let here : bytes ≡ candidate name number = same ∙ made_is ∙ sym (with_number name number low) in
-    let not_taken : is_taken names (candidate name number) ≡ false = ap (is_taken names) (sym here) ∙ not_true (is_taken names bytes) (sym t.0 ∙ is) in
+    let not_taken : is_taken names (candidate name number) ≡ false = ap (is_taken names) (sym here) ∙ not-true (is_taken names bytes) (sym t.0 ∙ is) in
     (sym same ∙ here ∙ sym (first_free names name number few so_far.1 not_taken), subst (λ v. IsOf new (v ∷ names)) same t.1)
 
 pub taken_first : (old new : List (List ℕ)) (name bytes : List ℕ) (free : Bool) → bytes ≡ name → IsTold old bytes new free → free ≡ false → AreTaken old name 1 new
 taken_first old new name bytes free same told is names of =
     let t = told names of in
-    let taken : is_taken names bytes ≡ true = not_not (is_taken names bytes) (sym t.0 ∙ is) in
+    let taken : is_taken names bytes ≡ true = not-false (is_taken names bytes) (sym t.0 ∙ is) in
     (still_of new names bytes taken t.1, λ k less. only k less (ap (is_taken names) (sym same) ∙ taken))
   where
     only : (k : ℕ) → k < 1 → is_taken names name ≡ true → is_taken names (candidate name k) ≡ true
@@ -200,7 +194,7 @@ taken_later old set new name bytes made number free same made_is low taken told 
     let so_far = taken names of in
     let t = told names so_far.0 in
     let here : bytes ≡ candidate name number = same ∙ made_is ∙ sym (with_number name number low) in
-    let is_in : is_taken names bytes ≡ true = not_not (is_taken names bytes) (sym t.0 ∙ is) in
+    let is_in : is_taken names bytes ≡ true = not-false (is_taken names bytes) (sym t.0 ∙ is) in
     (still_of new names bytes is_in t.1, λ k less. below k less (cases k number less) so_far.1 (ap (is_taken names) (sym here) ∙ is_in))
   where
     cases : (k n : ℕ) → k < n + 1 → (k < n) ⊎ (n ≡ k)
@@ -211,17 +205,6 @@ taken_later old set new name bytes made number free same made_is low taken told 
     below k less c before last = elim c [ inl lower ↦ before k lower | inr same ↦ subst (λ v. is_taken names (candidate name v) ≡ true) same last ]
 
 -- ---- names are identifiers
-
-digit_byte : (c : ℕ) → 48 ≤ c → c ≤ 57 → is_identifier_byte c ≡ true
-digit_byte c low high = grind (arith, low, high)
-
-digits_pass : (ds : List ℕ) → AllDigits 10 ds → (b : ℕ) → Member ds b → is_identifier_byte b ≡ true
-digits_pass [] d b m = absurd m
-digits_pass (c ∷ cs) d b m =
-    elim m [
-      | inl same ↦ let r = digit_from_value c d.0 in subst (λ v. is_identifier_byte v ≡ true) same (digit_byte c (omega (arith, r)) (omega (arith, r)))
-      | inr rest ↦ digits_pass cs d.1 b rest
-    ]
 
 -- a number in digits is one
 digits_identifier : (n : ℕ) → n < 2 ^ 64 → IsIdentifier (decimal n)

@@ -1,8 +1,10 @@
 -- The numbers of states along a legal history.
-use Rattle.std.proofs.Common.{◌≡◌, ℕ, ◌+◌, ◌<◌, ◌≤◌, ◌==◌, ◌||◌, not, cond, Bool, true, false, List, [], ◌∷◌, ◌++◌, length, filter, Contains, ◌⊎◌, inl, inr, refl, ap, sym, subst, arith, length-append, ◌↔◌}
+use Rattle.std.proofs.Common.{◌≡◌, ℕ, ◌+◌, ◌<◌, ◌≤◌, ◌==◌, not, true, List, [], ◌∷◌, ◌++◌, length, Contains, ◌⊎◌, inl, inr, refl, ap, sym, subst, arith, length-append, ◌↔◌}
 use Rattle.std.proofs.lemmas.Bool.Decides.{nat_tests}
 use Rattle.std.proofs.lemmas.List.Elements.{Contains-push, Contains-push_cases, Contains-append_left}
+use Rattle.std.proofs.lemmas.Bool.{or_left, or_right, or_cases}
 use Rattle.netlist_schema.specs.Design.{Design}
+use Rattle.edit_core.proofs.Lists.{length_filter}
 use Rattle.history_spec.specs.declared.event.Call.{Call}
 use Rattle.history_spec.specs.declared.event.Call.TheVariants.{Pin, PinAt, Release, Collect, Commit}
 use Rattle.history_spec.specs.declared.event.Answer.{Answer}
@@ -44,17 +46,9 @@ fine_pinned s caller v call number kept h = record {
   ];
 }
 
-filter_shorter : {X : Type 0} (test : X → Bool) (xs : List X) → length (filter test xs) ≤ length xs
-filter_shorter test [] = omega arith
-filter_shorter {X} test (x ∷ xs) = one (test x) (filter_shorter test xs)
-  where
-    one : (b : Bool) → length (filter test xs) ≤ length xs → length (cond b (x ∷ filter test xs) (filter test xs)) ≤ length (x ∷ xs)
-    one true le = omega arith
-    one false le = omega arith
-
 fine_released : (s : State) (caller number : ℕ) → IsFine s → IsFine (changed s caller (Release number) Released)
 fine_released s caller number h = record {
-  live = let le = h.live in let less = filter_shorter (λ (pin : LivePin). not (pin.number == number)) s.pins in omega arith;
+  live = let le = h.live in let less = length_filter (λ (pin : LivePin). not (pin.number == number)) s.pins in omega arith;
   numbered = λ pin m. h.numbered pin (from_filter (λ (q : LivePin). not (q.number == number)) s.pins pin m);
   rising = rises_filter (λ (pin : LivePin). pin.number) (λ (q : LivePin). not (q.number == number)) s.pins h.rising;
   there = h.there;
@@ -63,23 +57,14 @@ fine_released s caller number h = record {
   pinned_kept = λ pin m. h.pinned_kept pin (from_filter (λ (q : LivePin). not (q.number == number)) s.pins pin m);
 }
 
--- the last version stays, and so does that of a live pin
-either_left : (a b : Bool) → a ≡ true → (a || b) ≡ true
-either_left true b e = refl
-either_left false b e = cc
-
-either_right : (a b : Bool) → b ≡ true → (a || b) ≡ true
-either_right true b e = refl
-either_right false b e = e
-
 itself : (n : ℕ) → (n == n) ≡ true
 itself n = grind (arith, nat_tests)
 
 head_stays : (s : State) → stays s (head s) ≡ true
-head_stays s = either_left (head s == head s) (is_pinned s (head s)) (itself (head s))
+head_stays s = or_left (head s == head s) (is_pinned s (head s)) (itself (head s))
 
 pinned_stays : (s : State) (pin : LivePin) → Contains s.pins pin → stays s pin.version ≡ true
-pinned_stays s pin m = either_right (pin.version == head s) (is_pinned s pin.version) (any_in (λ (q : LivePin). q.version == pin.version) s.pins pin m (itself pin.version))
+pinned_stays s pin m = or_right (pin.version == head s) (is_pinned s pin.version) (any_in (λ (q : LivePin). q.version == pin.version) s.pins pin m (itself pin.version))
 
 fine_collected : (s : State) (caller count : ℕ) → IsFine s → IsFine (changed s caller Collect (Collected count))
 fine_collected s caller count h = record {
@@ -248,10 +233,6 @@ one_pin s number caller v other w h a b = one_by_number (λ (pin : LivePin). pin
 equal_numbers : (m n : ℕ) → (m == n) ≡ true → m ≡ n
 equal_numbers m n e = grind (arith, nat_tests)
 
-either : (a b : Bool) → (a || b) ≡ true → (a ≡ true) ⊎ (b ≡ true)
-either true b e = inl refl
-either false b e = inr e
-
 -- just the last version and those of live pins
 pub collect_leaves : (d : Design) (xs : List Event) (v : ℕ) → Legal d xs
     → IsKept (collected (state_after d xs)) v ↔ ((v ≡ head (state_after d xs)) ⊎ ((number caller : ℕ) × IsLive (state_after d xs) number caller v))
@@ -261,7 +242,7 @@ collect_leaves d xs v legal = (left, right)
     s = state_after d xs
 
     left : IsKept (collected s) v → (v ≡ head s) ⊎ ((number caller : ℕ) × IsLive s number caller v)
-    left m = elim (either (v == head s) (is_pinned s v) (filter_test (stays s) s.kept v m)) [
+    left m = elim (or_cases (v == head s) (is_pinned s v) (filter_test (stays s) s.kept v m)) [
       | inl e ↦ inl (equal_numbers v (head s) e)
       | inr e ↦
           let found = in_any (λ (pin : LivePin). pin.version == v) s.pins e in

@@ -1,13 +1,12 @@
 -- Pairs of nets whose joints are of one class.
 use Rattle.std.proofs.Common.{◌≡◌, ◌<◌, ◌≤◌, ◌+◌, ◌⊎◌, ℕ, List, [], ◌∷◌, ◌++◌, Bool, true, false, length, get_or, refl, sym, ap, subst, ◌∙◌, inl, inr, arith, Some, None, Option}
 use Rattle.std.specs.List.{Contains}
-use Rattle.std.specs.declared.cmp.Ordering.{Ordering}
-use Rattle.std.specs.declared.cmp.Ordering.TheVariants.{Less, Equal, Greater}
 use Rattle.std.specs.FinMap.{nat_cmp-IsAntisymmetric}
-use Rattle.std.specs.Ordering.{is_eq, nat_cmp, ordering_then}
+use Rattle.std.specs.Ordering.{is_eq, nat_cmp}
 use Rattle.std.proofs.lemmas.Bool.{cases_eq}
 use Rattle.std.proofs.lemmas.List.{get_or_default}
 use Rattle.std.proofs.lemmas.List.Elements.{Contains-push, Contains-push_cases, Contains-append_left}
+use Rattle.netlist_schema.proofs.Objects.{both_are_Equal}
 use Rattle.flat_spec.specs.Chains.{Chain}
 use Rattle.flat_spec.proofs.ChainLemmas.{Chain-same, Chain-one, Chain-append, Chain-mono, Chain-sym}
 use Rattle.joined_numbers.specs.Joined.{AreJoined, IsPairOf}
@@ -184,16 +183,9 @@ early_cases joints count x within at j e =
       | inr other ↦ inl (e.0, omega (arith, e.1, other), e.2, e.3)
     ]
 
-both_Equal : (r s : Ordering) → is_eq (ordering_then r s) ≡ true → (r ≡ Equal) × (s ≡ Equal)
-both_Equal Less s e = cc
-both_Equal Equal Less e = cc
-both_Equal Equal Equal e = (refl, refl)
-both_Equal Equal Greater e = cc
-both_Equal Greater s e = cc
-
 pub same_class : (k q : Class) → is_eq (class_cmp k q) ≡ true → k ≡ q
 same_class k q e =
-    let both = both_Equal (nat_cmp k.inst q.inst) (nat_cmp k.first q.first) e in
+    let both = both_are_Equal (nat_cmp k.inst q.inst) (nat_cmp k.first q.first) e in
     λ i. record { inst = nat_cmp-IsAntisymmetric k.inst q.inst both.0 i; first = nat_cmp-IsAntisymmetric k.first q.first both.1 i }
 
 module _ (class : Joint → Option Class) (joints : List Joint) (count : ℕ) (x : Joint) (within : count < length joints) (at : x ≡ get_or joints count x) where

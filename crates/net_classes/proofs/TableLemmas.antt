@@ -7,7 +7,9 @@ use Rattle.std.proofs.lemmas.Bool.{cases_eq, false≢true}
 use Rattle.std.proofs.lemmas.Option.{slice_get-map, slice_get_past, slice_get_within, slice_get-get_or}
 use Rattle.netlist_schema.specs.Design.{Design, cell_at, cells_in}
 use Rattle.netlist_schema.specs.Types.{CellId}
-use Rattle.order_spec.proofs.Places.{lib_of_cell, some_of}
+use Rattle.netlist_schema.proofs.Lists.{some_of}
+use Rattle.order_spec.proofs.Places.{lib_of_cell}
+use Rattle.flat_spec.proofs.PathLemmas.{slice_get-is}
 use Rattle.net_classes.specs.Facts.{CellFacts, Facts, entry, facts_at, no_facts}
 use Rattle.net_classes.specs.Known.{AreKnown, AreSetAt}
 use Rattle.net_classes.proofs.NestedLemmas.{nested_here, nested_other}
@@ -15,11 +17,6 @@ use Rattle.net_classes.proofs.NestedLemmas.{nested_here, nested_other}
 -- a row of so many cells of which nothing is known
 abbrev pub IsBlankRow : {T : Type 0} → (T → CellFacts) → ℕ → List T → Type 0
 IsBlankRow facts count row = (length row ≡ count) × All (λ t. facts t ≡ no_facts) row
-
-there : {A : Type 0} (xs : List A) (i : ℕ) → i < length xs → IsSome (slice_get xs i)
-there [] i l = absurd (omega arith)
-there (x ∷ xs) zero l = refl
-there (x ∷ xs) (suc i) l = there xs i (omega arith)
 
 module _ {R T : Type 0} (items : R → List T) (facts : T → CellFacts) where
   abbrev pub told : List R → Facts
@@ -44,7 +41,7 @@ module _ {R T : Type 0} (items : R → List T) (facts : T → CellFacts) where
   row_room : (o : Option R) (count slot : ℕ) → IfSome o (λ row. IsBlankRow facts count (items row)) → IsSome o → slot < count
       → IsSome (option_map facts (option_and_then (λ row. slice_get (items row) slot) o))
   row_room None count slot h is l = absurd (false≢true is)
-  row_room (Some r) count slot h is l = mapped (slice_get (items r) slot) (there (items r) slot (omega (arith, l, h.0)))
+  row_room (Some r) count slot h is l = mapped (slice_get (items r) slot) (slice_get-is (items r) slot (omega (arith, l, h.0)))
     where
       mapped : (o : Option T) → IsSome o → IsSome (option_map facts o)
       mapped None is = is
@@ -75,7 +72,7 @@ module _ {R T : Type 0} (items : R → List T) (facts : T → CellFacts) where
         let low : c.lib.0 < length d.libs = slice_get_within d.libs c.lib.0 lib.0 lib.1 in
         let slot : c.slot < length (cells_in d c.lib) = slice_get_within (cells_in d c.lib) c.slot body.0 body.1 in
         subst (λ o. IsSome o) (sym (facts_through rows c))
-        (row_room (slice_get rows c.lib.0) (length (cells_in d c.lib)) c.slot (each c.lib.0) (there rows c.lib.0 (omega (arith, low, long))) slot);
+        (row_room (slice_get rows c.lib.0) (length (cells_in d c.lib)) c.slot (each c.lib.0) (slice_get-is rows c.lib.0 (omega (arith, low, long))) slot);
     told = λ c has. absurd (omega (arith, has.1));
     others = λ c bit none.
         ap (option_and_then (λ (f : CellFacts). entry f.least bit)) (facts_through rows c)

@@ -2,7 +2,7 @@
 use Rattle.std.proofs.Common.{◌≡◌, ◌+◌, ℕ, suc, List, [], ◌∷◌, ◌++◌, length, length-append, map, refl, sym, ap, ◌∙◌, arith, Some, None, Option, slice_get}
 use Rattle.std.specs.List.{flat_map, range_with_len}
 use Rattle.std.specs.Option.{option_map_or}
-use Rattle.std.proofs.lemmas.List.{map-append}
+use Rattle.std.proofs.lemmas.List.{length-map, map-append}
 use Rattle.netlist_schema.specs.Types.{Contents, End, Inst, Net}
 use Rattle.ungroup_spec.specs.Dissolved.{ends_up, inner_end_at, outer_end_at}
 use Rattle.ungroup_spec.specs.Groups.{Site, outer, inner, ends_of_net, parts}
@@ -73,12 +73,8 @@ ends_are around place within children lists count is inst =
     ∙ (λ t. sym (map_twice (ends_up s) outer (range_with_len 0 (length around.nets))) t ++ sym (map_twice (ends_up s) inner (range_with_len 0 (length within.nets))) t)
     ∙ sym (map-append (ends_up s) (map outer (range_with_len 0 (length around.nets))) (map inner (range_with_len 0 (length within.nets))))
 
-length_map : {A B : Type 0} (f : A → B) (xs : List A) → length (map f xs) ≡ length xs
-length_map f [] = refl
-length_map f (x ∷ xs) = ap suc (length_map f xs)
-
 pub ends_count : (around : Contents) (place : ℕ) (within : Contents) (children : ℕ) (lists : List (List End))
     → lists ≡ map (outer_ends place children) around.nets ++ map (inner_ends place) within.nets → length lists ≡ length around.nets + length within.nets
 ends_count around place within children lists is =
     ap length is ∙ length-append (map (outer_ends place children) around.nets) (map (inner_ends place) within.nets)
-    ∙ (λ t. length_map (outer_ends place children) around.nets t + length_map (inner_ends place) within.nets t)
+    ∙ (λ t. length-map around.nets (outer_ends place children) t + length-map within.nets (inner_ends place) t)

@@ -4,7 +4,8 @@ use Rattle.std.specs.Prelude.{◌==◌, cond}
 use Rattle.std.specs.List.{enumerate_from, flat_map, range_with_len}
 use Rattle.std.proofs.lemmas.Bool.{false≢true}
 use Rattle.netlist_schema.specs.Types.{End, Net}
-use Rattle.flat_spec.proofs.ListLemmas.{Member}
+use Rattle.netlist_schema.proofs.Lists.{same_test}
+use Rattle.flat_spec.proofs.ListLemmas.{Member, filter_same}
 use Rattle.ungroup_spec.specs.Dissolved.{ends_after, ends_up, joined}
 use Rattle.ungroup_spec.specs.Groups.{Site, Part, outer, inner, IsPart, head_of, is_grouped, is_head, parts}
 use Rattle.ungroup_spec.proofs.GroupLemmas.{grouped-from, grouped-true, head_of-head, member-part, one_group, one_head, same_part-from, same_part-true}
@@ -15,15 +16,6 @@ use Rattle.net_groups.specs.Lists.{AreGathered, gathered}
 use Rattle.net_groups.specs.declared.groups.Grouped.{Grouped}
 use Rattle.net_groups.proofs.HeadLemmas.{number_same}
 use Rattle.net_groups.proofs.ListsLemmas.{gathered_hit, gathered_miss}
-
-both : (b c : Bool) → (b ≡ true → c ≡ true) → (c ≡ true → b ≡ true) → b ≡ c
-both true c to back = sym (to refl)
-both false true to back = absurd (false≢true (back refl))
-both false false to back = refl
-
-filter_same : {A : Type 0} (t u : A → Bool) (xs : List A) → ((x : A) → Member xs x → t x ≡ u x) → filter t xs ≡ filter u xs
-filter_same t u [] same = refl
-filter_same t u (x ∷ xs) same = λ i. cond (same x (inl refl) i) (x ∷ filter_same t u xs (λ y m. same y (inr m)) i) (filter_same t u xs (λ y m. same y (inr m)) i)
 
 map_filter_same : {A B : Type 0} (f g : A → B) (t u : A → Bool) (xs : List A) → ((x : A) → Member xs x → t x ≡ u x) → ((x : A) → Member xs x → u x ≡ true → f x ≡ g x)
     → map f (filter t xs) ≡ map g (filter u xs)
@@ -96,7 +88,7 @@ module _ (s : Site) (heads : List ℕ) (are : AreHeads s heads) where
   same_group y y_is own x m =
       let x_is = member-part s x m in
       let head = head_of-head s x x_is in
-      both (number s (head_of s x) == number s y) (is_grouped s y x)
+      same_test (number s (head_of s x) == number s y) (is_grouped s y x)
       (λ t.
       let one : head_of s x ≡ y = number_same s (head_of s x) y head.part y_is (eqb-true _ _ t) in
       grouped-from s y x (one_group s y x y_is x_is (own ∙ sym one)))
@@ -123,7 +115,7 @@ module _ (s : Site) (heads : List ℕ) (are : AreHeads s heads) where
   first_is_head x x_is =
       let head = head_of-head s x x_is in
       ap (λ v. v == number s x) (are.each x x_is)
-      ∙ both (number s (head_of s x) == number s x) (is_head s x)
+      ∙ same_test (number s (head_of s x) == number s x) (is_head s x)
       (λ t. same_part-from (head_of s x) x (number_same s (head_of s x) x head.part x_is (eqb-true _ _ t)))
       (λ t. eq-eqb _ _ (ap (number s) (same_part-true (head_of s x) x t)))
 
@@ -151,7 +143,7 @@ module _ (s : Site) (heads : List ℕ) (are : AreHeads s heads) where
       ap (λ v. get_or lists v []) (numbers p.0) ∙ made.each (number s x) (inside x x_is) ∙ group_gathered x x_is (same_part-true (head_of s x) x is) in
       λ t. record p.1 { ends = ends t })
 
--- both kinds of first nets
+-- same_test kinds of first nets
 pub grouped_are : (s : Site) (heads : List ℕ) (ends lists : List (List End)) (made : Grouped) → AreHeads s heads → ends ≡ map (ends_up s) (parts s) → AreGathered heads ends lists
     → made.kept ≡ first_nets 0 heads lists s.around.nets → made.loose ≡ first_nets (length s.around.nets) heads lists s.within.nets → AreGrouped s made
 grouped_are s heads ends lists made are ends_is gathered kept_is loose_is =

@@ -1,35 +1,26 @@
 -- The least number to which pairs lead is that of the first net of the group.
-use Rattle.std.proofs.Common.{◌≡◌, ◌<◌, ◌≤◌, ◌+◌, ◌-◌, ◌^◌, ◌⊎◌, ℕ, List, [], length, get_or, refl, sym, ap, subst, ◌∙◌, inl, inr, arith, Some, None, Option, cond, slice_get, nat_lt}
+use Rattle.std.proofs.Common.{◌≡◌, ◌<◌, ◌≤◌, ◌+◌, ◌-◌, ◌^◌, ◌⊎◌, ℕ, List, [], length, get_or, refl, sym, ap, subst, ◌∙◌, inl, inr, arith, Some, None, Option, cond, nat_lt}
 use Rattle.std.specs.Prelude.{option_map}
 use Rattle.std.specs.List.{All, Contains, filter_map}
-use Rattle.std.specs.Option.{option_map_or}
 use Rattle.std.proofs.lemmas.Bool.{lt-ltb, le-ltb, cond-true, cond-false}
 use Rattle.std.proofs.lemmas.List.{get_or_default}
-use Rattle.std.proofs.lemmas.Option.{slice_get_within}
-use Rattle.netlist_schema.specs.Types.{Contents, End, Inst, Net}
+use Rattle.netlist_schema.specs.Types.{Contents, Inst, Net}
 use Rattle.flat_spec.specs.Chains.{Chain}
 use Rattle.flat_spec.specs.Paths.{own, on}
 use Rattle.flat_spec.proofs.ChainLemmas.{Chain-same, Chain-one, Chain-mono}
 use Rattle.flat_spec.proofs.ListLemmas.{Member, Contains-member, Member-contains}
+use Rattle.ungroup_spec.proofs.TreeLemmas.{Member-filter_map, Member-from_filter_map}
 use Rattle.joined_numbers.specs.Joined.{AreJoined, AreLeastJoined, IsWithin}
 use Rattle.joined_numbers.specs.declared.joined.Pair.{Pair}
-use Rattle.ungroup_spec.specs.Groups.{Site, Part, outer, inner, IsPart, ShareBit, AreLinked, AreOneGroup, ends_of_net, head_of}
-use Rattle.ungroup_spec.proofs.GroupLemmas.{PartBefore, head_of-head}
+use Rattle.ungroup_spec.specs.Groups.{Site, Part, outer, inner, IsPart, ShareBit, AreLinked, AreOneGroup, head_of}
+use Rattle.ungroup_spec.proofs.GroupLemmas.{PartBefore, head_of-head, ends-net}
 use Rattle.net_groups.specs.Bits.{IsJoined, bits_from, end_at}
 use Rattle.net_groups.specs.Heads.{AreHeads, AreSound, number, site}
 use Rattle.net_groups.specs.Links.{HasNets, link}
 use Rattle.net_groups.specs.declared.bits.JoinedBit.{JoinedBit}
 use Rattle.net_groups.specs.declared.bits.PortBit.{PortBit}
 use Rattle.net_groups.proofs.BitLemmas.{joined_listed, listed_joined}
-use Rattle.net_groups.proofs.LinkLemmas.{filter_map-from, filter_map-member, link_is}
-
--- what has an end is a net
-pub ends_net : (nets : List Net) (n : ℕ) (e : End) → Contains (ends_of_net nets n) e → n < length nets
-ends_net nets n e c = there (slice_get nets n) refl c
-  where
-    there : (o : Option Net) → slice_get nets n ≡ o → Contains (option_map_or (λ (net : Net). net.ends) o []) e → n < length nets
-    there None is c = absurd (omega (arith, c.1))
-    there (Some net) is c = slice_get_within nets n net is
+use Rattle.net_groups.proofs.LinkLemmas.{link_is}
 
 -- the nets that join listed bits are numbered within bounds
 pub links_fit : (inst : Option ℕ) (nets : List Net) (bits : List JoinedBit) (behind : ℕ) → bits ≡ bits_from inst 0 nets → length nets ≤ 1048576 → behind ≤ 1048576 → All (λ j. behind + j.net < 2 ^ 32) bits
@@ -37,7 +28,7 @@ links_fit inst nets bits behind is few low k d inside =
     let j = get_or bits k d in
     let c : Contains bits j = (k, inside, get_or_default bits k j d inside) in
     let joined = listed_joined inst nets j (subst (λ v. Member v j) is (Contains-member bits j c)) in
-    let less : j.net < length nets = ends_net nets j.net (end_at inst j.at) joined in
+    let less : j.net < length nets = ends-net nets j.net (end_at inst j.at) joined in
     omega (arith, less, few, low)
 
 -- some instance: which one it is does not matter for what nets join
@@ -82,7 +73,7 @@ module _ (around : Contents) (place : ℕ) (within : Contents) (nets : PortBit �
 
   link-sound : (pair : Pair) → Contains pairs pair → IsLink pair
   link-sound pair c =
-      let found = filter_map-from (link nets a) (bits_from None 0 within.nets) pair (subst (λ v. Member v pair) is (Contains-member pairs pair c)) in
+      let found = Member-from_filter_map (link nets a) (bits_from None 0 within.nets) pair (subst (λ v. Member v pair) is (Contains-member pairs pair c)) in
       let j = found.0 in
       let of_link = link_is nets a j pair found.2 in
       let n = of_link.0 in
@@ -114,7 +105,7 @@ module _ (around : Contents) (place : ℕ) (within : Contents) (nets : PortBit �
       let linked : link nets a j ≡ Some (record { first = n; second = a + m }) =
       ap (option_map (λ v. let p : Pair = record { first = v; second = a + m } in p)) at in
       Member-contains pairs (record { first = n; second = a + m })
-      (subst (λ v. Member v (record { first = n; second = a + m })) (sym is) (filter_map-member (link nets a) (bits_from None 0 within.nets) j (record { first = n; second = a + m }) listed linked))
+      (subst (λ v. Member v (record { first = n; second = a + m })) (sym is) (Member-filter_map (link nets a) (bits_from None 0 within.nets) j (record { first = n; second = a + m }) listed linked))
 
   linked_joined : (x y : Part) → AreLinked s x y → AreJoined pairs (number s x) (number s y)
   linked_joined (outer n) (inner m) l = (record { first = n; second = a + m }, link-complete n m l, inl (refl, refl))
@@ -125,7 +116,7 @@ module _ (around : Contents) (place : ℕ) (within : Contents) (nets : PortBit �
   joined_linked : (u v : ℕ) → AreJoined pairs u v → AreLinked s (part_of a u) (part_of a v)
   joined_linked u v j =
       let link = link-sound j.0 j.1 in
-      let low : link.n < a = ends_net around.nets link.n (on place link.share.0) link.share.1 in
+      let low : link.n < a = ends-net around.nets link.n (on place link.share.0) link.share.1 in
       let first : part_of a j.0.first ≡ outer link.n = ap (λ (p : Pair). part_of a p.first) link.pair_is ∙ part_outer a link.n low in
       let second : part_of a j.0.second ≡ inner link.m = ap (λ (p : Pair). part_of a p.second) link.pair_is ∙ part_inner a link.m in
       elim j.2 [
@@ -184,8 +175,8 @@ module _ (around : Contents) (place : ℕ) (within : Contents) (nets : PortBit �
   pairs_within k d inside =
       let pair = get_or pairs k d in
       let link = link-sound pair (k, inside, get_or_default pairs k pair d inside) in
-      let low : link.n < a = ends_net around.nets link.n (on place link.share.0) link.share.1 in
-      let high : link.m < length within.nets = ends_net within.nets link.m (own link.share.0) link.share.2 in
+      let low : link.n < a = ends-net around.nets link.n (on place link.share.0) link.share.1 in
+      let high : link.m < length within.nets = ends-net within.nets link.m (own link.share.0) link.share.2 in
       let first : pair.first ≡ link.n = ap (λ (p : Pair). p.first) link.pair_is in
       let second : pair.second ≡ a + link.m = ap (λ (p : Pair). p.second) link.pair_is in
       record { first = omega (arith, first, low); second = omega (arith, second, high) }

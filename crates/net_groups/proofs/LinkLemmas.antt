@@ -1,29 +1,20 @@
 -- Nets by bits, and the pairs of nets that join one bit.
 use Rattle.std.proofs.Common.{◌≡◌, ◌<◌, ◌+◌, ℕ, List, [], ◌∷◌, ◌++◌, Bool, true, false, length, get_or, take, refl, sym, ap, subst, ◌∙◌, inl, inr, arith, Some, None, Option}
 use Rattle.std.specs.Prelude.{option_map}
-use Rattle.std.specs.List.{Contains, cons_option, filter_map}
-use Rattle.std.specs.declared.cmp.Ordering.{Ordering}
-use Rattle.std.specs.declared.cmp.Ordering.TheVariants.{Less, Equal, Greater}
+use Rattle.std.specs.List.{Contains}
 use Rattle.std.specs.FinMap.{nat_cmp-IsAntisymmetric}
-use Rattle.std.specs.Ordering.{is_eq, nat_cmp, ordering_then}
+use Rattle.std.specs.Ordering.{is_eq, nat_cmp}
 use Rattle.std.proofs.lemmas.List.{take_more}
 use Rattle.std.proofs.lemmas.List.Elements.{Contains-push, Contains-push_cases, Contains-append_left}
-use Rattle.flat_spec.proofs.ListLemmas.{Member}
+use Rattle.netlist_schema.proofs.Objects.{both_are_Equal}
 use Rattle.joined_numbers.specs.declared.joined.Pair.{Pair}
 use Rattle.net_groups.specs.Links.{HasNets, bit_cmp, link}
 use Rattle.net_groups.specs.declared.bits.JoinedBit.{JoinedBit}
 use Rattle.net_groups.specs.declared.bits.PortBit.{PortBit}
 
-both_Equal : (r s : Ordering) → is_eq (ordering_then r s) ≡ true → (r ≡ Equal) × (s ≡ Equal)
-both_Equal Less s e = cc
-both_Equal Equal Less e = cc
-both_Equal Equal Equal e = (refl, refl)
-both_Equal Equal Greater e = cc
-both_Equal Greater s e = cc
-
 same_bit : (k q : PortBit) → is_eq (bit_cmp k q) ≡ true → k ≡ q
 same_bit k q e =
-    let both = both_Equal (nat_cmp k.port q.port) (nat_cmp k.bit q.bit) e in
+    let both = both_are_Equal (nat_cmp k.port q.port) (nat_cmp k.bit q.bit) e in
     λ i. record { port = nat_cmp-IsAntisymmetric k.port q.port both.0 i; bit = nat_cmp-IsAntisymmetric k.bit q.bit both.1 i }
 
 -- one bit more
@@ -63,29 +54,6 @@ no_nets nets none = record {
     omega-none c = absurd (omega (arith, c.1))
 
 -- ---- pairs
-
-pub filter_map-member : {A B : Type 0} (f : A → Option B) (xs : List A) (x : A) (y : B) → Member xs x → f x ≡ Some y → Member (filter_map f xs) y
-filter_map-member f [] x y m e = absurd m
-filter_map-member {B = B} f (v ∷ xs) x y m e = elim m [
-  | inl same ↦ subst (λ o. Member (cons_option o (filter_map f xs)) y) (sym (ap f same ∙ e)) (inl refl)
-  | inr rest ↦ behind (f v) (filter_map-member f xs x y rest e)
-]
-  where
-    behind : (o : Option B) → Member (filter_map f xs) y → Member (cons_option o (filter_map f xs)) y
-    behind None m = m
-    behind (Some w) m = inr m
-
-pub filter_map-from : {A B : Type 0} (f : A → Option B) (xs : List A) (y : B) → Member (filter_map f xs) y → (x : A) × Member xs x × (f x ≡ Some y)
-filter_map-from f [] y m = absurd m
-filter_map-from {A = A} {B = B} f (v ∷ xs) y m = at (f v) refl m (filter_map-from f xs y)
-  where
-    at : (o : Option B) → f v ≡ o → Member (cons_option o (filter_map f xs)) y → (Member (filter_map f xs) y → (x : A) × Member xs x × (f x ≡ Some y))
-        → (x : A) × Member (v ∷ xs) x × (f x ≡ Some y)
-    at None is m rec = let h = rec m in (h.0, inr h.1, h.2)
-    at (Some w) is m rec = elim m [
-      | inl same ↦ (v, inl refl, is ∙ ap (λ b. Some b) same)
-      | inr rest ↦ let h = rec rest in (h.0, inr h.1, h.2)
-    ]
 
 -- a pair is of a net that was noted, and of that of the bit
 pub link_is : (outer : PortBit → Option ℕ) (behind : ℕ) (j : JoinedBit) (pair : Pair) → link outer behind j ≡ Some pair

@@ -1,8 +1,8 @@
 -- What is listed so far, and what is left, when a loop has gone on by one.
-use Rattle.std.proofs.Common.{◌≡◌, ◌<◌, ◌≤◌, ◌+◌, ℕ, List, [], ◌∷◌, ◌++◌, length, get_or, drop, sym, ap, ◌∙◌, append_assoc, append-nil, Option, Some, None, refl}
+use Rattle.std.proofs.Common.{◌≡◌, ◌<◌, ◌+◌, ℕ, List, ◌∷◌, ◌++◌, length, get_or, drop, sym, ap, ◌∙◌, append_assoc, Option, Some, None, refl}
 use Rattle.std.specs.Prelude.{option_to_list}
 use Rattle.std.specs.List.{cons_option, filter_map}
-use Rattle.std.proofs.lemmas.List.{drop_more, drop_all}
+use Rattle.std.proofs.lemmas.List.{drop_more}
 
 -- the first of what is left of a list, and the others
 pub drop_first : {A : Type 0} (xs : List A) (i : ℕ) (x : A) → i < length xs → x ≡ get_or xs i x → drop i xs ≡ x ∷ drop (i + 1) xs
@@ -14,12 +14,6 @@ pub part_more : {A B : Type 0} (rest : List A → List B) (xs : List A) (i : ℕ
 part_more rest xs i x part found added whole within is opens added_is so_far =
     ap (λ v. v ++ rest (drop (i + 1) xs)) added_is ∙ append_assoc found part (rest (drop (i + 1) xs))
     ∙ ap (λ v. found ++ v) (sym (ap rest (drop_first xs i x within is) ∙ opens)) ∙ so_far
-
--- nothing is left
-pub all_found : {A B : Type 0} (rest : List A → List B) → rest [] ≡ [] → (xs : List A) (i : ℕ) (found whole : List B) → length xs ≤ i
-    → found ++ rest (drop i xs) ≡ whole → found ≡ whole
-all_found rest none xs i found whole past so_far =
-    sym (append-nil found) ∙ ap (λ v. found ++ v) (sym (ap rest (drop_all i xs past) ∙ none)) ∙ so_far
 
 -- one element more of those that give something
 pub given_more : {A B : Type 0} (f : A → Option B) (xs : List A) (i : ℕ) (x : A) (found added whole : List B) → i < length xs → x ≡ get_or xs i x → added ≡ found ++ option_to_list (f x)

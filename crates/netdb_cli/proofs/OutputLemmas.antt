@@ -1,8 +1,9 @@
 -- What was written, and what its counts say.
-use Rattle.std.proofs.Common.{◌≡◌, ◌+◌, Bool, true, false, ◌||◌, List, [], ◌∷◌, ◌⊎◌, inl, inr, Option, refl, ap, sym, ◌∙◌, subst, arith}
+use Rattle.std.proofs.Common.{◌≡◌, ◌+◌, Bool, true, ◌||◌, List, [], ◌∷◌, inl, inr, Option, refl, ap, sym, ◌∙◌, subst, arith}
 use Prim.Native.Nat.{ℕ}
 use Rattle.std.specs.Prelude.{◌↔◌, IsTrue}
 use Rattle.std.specs.List.{list_any}
+use Rattle.std.proofs.lemmas.Bool.{or_cases, or_right}
 use Rattle.netlist_schema.specs.Design.{Design}
 use Rattle.netdb_outside.specs.Outside.{Shelf}
 use Rattle.session_spec.specs.Headline.{HasWalk, SomeWalks}
@@ -110,17 +111,9 @@ walks_a_line (line ∷ lines) h = walks_step line.step (list_any walks_line line
 abbrev walks_script : Parts → Bool
 walks_script script = list_any walks_line script.lines
 
-one_of : (a b : Bool) → (a || b) ≡ true → (a ≡ true) ⊎ (b ≡ true)
-one_of true b h = inl refl
-one_of false b h = inr h
-
-or_right : (a b : Bool) → b ≡ true → (a || b) ≡ true
-or_right true b h = refl
-or_right false b h = h
-
 script_walks : (scripts : List Parts) → list_any walks_script scripts ≡ true → SomeWalks (all_steps scripts)
 script_walks [] h = absurd (cc h)
-script_walks (script ∷ scripts) h = elim (one_of (walks_script script) (list_any walks_script scripts) h) [
+script_walks (script ∷ scripts) h = elim (or_cases (walks_script script) (list_any walks_script scripts) h) [
   | inl is ↦ inl (line_walks script.lines is)
   | inr is ↦ inr (script_walks scripts is)
 ]

@@ -1,22 +1,15 @@
 -- What was given to a buffered sink, step by step.
 use Rattle.std.proofs.Common.{◌≡◌, ◌<◌, ◌≤◌, ℕ, List, [], ◌++◌, Option, Some, None, false, refl, ap, sym, ◌∙◌, subst, arith, append_assoc, append-nil, inl, inr}
-use Rattle.std.specs.Prelude.{is_some, option_map, ◌⊎◌, ◌^◌, ◌-◌, OnOk, OnErr, IfErr, Result, Ok, Err}
+use Rattle.std.specs.Prelude.{is_some, ◌⊎◌, ◌^◌, ◌-◌, OnOk, OnErr, IfErr, Result, Ok, Err}
 use Rattle.std.proofs.Math.Nat.{eq-or-lt_of_le}
+use Rattle.netdb_outside.proofs.Appending.{appends_none, appends_then}
 use Rattle.netdb_outside.specs.Outside.{Appends, AppendsFront, Rose}
 use Rattle.netdb_outside.specs.Buffered.{Buffered, Writes, Comes, IsParted, nothing_waits, out_of_memory}
 use Rattle.netdb_outside.specs.declared.write_error.WriteError.{WriteError}
 use Rattle.netdb_outside.specs.declared.write_error.WriteError.TheVariants.{NoMemory}
 
-appends_nothing : (told : Option (List ℕ)) → Appends told told []
-appends_nothing None = refl
-appends_nothing (Some held) = ap Some (sym (append-nil held))
-
-appends_then : (a b c : Option (List ℕ)) (x y : List ℕ) → Appends a b x → Appends b c y → Appends a c (x ++ y)
-appends_then None b c x y h k = k ∙ ap (option_map (λ held. held ++ y)) h
-appends_then (Some held) b c x y h k = k ∙ (ap (option_map (λ v. v ++ y)) h ∙ ap Some (append_assoc held x y))
-
 comes_nothing : (told : Option (List ℕ)) (n : ℕ) (waiting : List ℕ) (failure : Option WriteError) → Comes told told n n (waiting ++ []) waiting failure failure
-comes_nothing told n waiting None = ([], append-nil waiting, appends_nothing told)
+comes_nothing told n waiting None = ([], append-nil waiting, appends_none told)
 comes_nothing told n waiting (Some e) = (refl, refl)
 
 -- no bytes are given by doing nothing
@@ -83,10 +76,10 @@ stuck_comes : (told : Option (List ℕ)) (n : ℕ) (w v : List ℕ) (failure : O
 stuck_comes told n w v failure e h = rw h (refl, refl)
 
 held_comes : (told : Option (List ℕ)) (n : ℕ) (w v : List ℕ) (before after : Option WriteError) → before ≡ None → after ≡ None → v ≡ w → Comes told told n n w v before after
-held_comes told n w v before after h k e = rw (h, k) ([], sym e, appends_nothing told)
+held_comes told n w v before after h k e = rw (h, k) ([], sym e, appends_none told)
 
 failed_comes : (told : Option (List ℕ)) (n : ℕ) (w v : List ℕ) (before after : Option WriteError) → before ≡ None → after ≡ Some NoMemory → Comes told told n n w v before after
-failed_comes told n w v before after h k = rw (h, k) (([], w, refl, appends_nothing told), λ i. cc)
+failed_comes told n w v before after h k = rw (h, k) (([], w, refl, appends_none told), λ i. cc)
 
 -- after a failure nothing is written
 pub writes_stuck : {K : Type 0} {written : K → Option (List ℕ)} {faults : K → ℕ} (k : K) (page : Buffered) (e : WriteError) (x : List ℕ)

@@ -44,10 +44,17 @@ slot_of o = (object_number o).slot
 pub object_cmp_total : IsTotalOrder object_cmp
 object_cmp_total = then_total (on_total object_kind nat_cmp_total) (then_total (on_total lib_of nat_cmp_total) (on_total slot_of nat_cmp_total))
 
-both_Equal : (r s : Ordering) → ordering_then r s ≡ Equal → (r ≡ Equal) × (s ≡ Equal)
+pub both_Equal : (r s : Ordering) → ordering_then r s ≡ Equal → (r ≡ Equal) × (s ≡ Equal)
 both_Equal Less s e = cc
 both_Equal Equal s e = (refl, e)
 both_Equal Greater s e = cc
+
+pub both_are_Equal : (r s : Ordering) → is_eq (ordering_then r s) ≡ true → (r ≡ Equal) × (s ≡ Equal)
+both_are_Equal Less s e = cc
+both_are_Equal Equal Less e = cc
+both_are_Equal Equal Equal e = (refl, refl)
+both_are_Equal Equal Greater e = cc
+both_are_Equal Greater s e = cc
 
 pub object_cmp_exact : IsAntisymmetric object_cmp
 object_cmp_exact a b e =

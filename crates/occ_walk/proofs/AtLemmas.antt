@@ -1,5 +1,5 @@
 -- The items at and below a path are those of the flattening whose paths begin with it.
-use Rattle.std.proofs.Common.{◌≡◌, ℕ, List, [], ◌∷◌, ◌++◌, map, refl, sym, ap, subst, ◌∙◌, inl, inr, arith, Bool, true, false, Some}
+use Rattle.std.proofs.Common.{◌≡◌, ℕ, List, [], ◌∷◌, ◌++◌, map, refl, sym, ap, subst, ◌∙◌, inl, inr, Bool, true, false, Some}
 use Rattle.std.specs.Prelude.{cond, filter, nat_eq}
 use Rattle.std.specs.List.{flat_map, range_with_len}
 use Rattle.std.specs.Option.{option_map_or}
@@ -20,6 +20,7 @@ use Rattle.flat_spec.proofs.ListLemmas.{Ascends, Ascends-map, Member, Member-app
 use Rattle.flat_spec.proofs.OccurrenceLemmas.{occurrences-member, occurrences-reaches, occurrences_are_all}
 use Rattle.flat_spec.proofs.PathLemmas.{Reaches-append, Reaches-front, Some-same}
 use Rattle.flat_spec.proofs.PinLemmas.{AllPairs-ascends}
+use Rattle.flat_spec.proofs.RepresentativeLemmas.{PathBefore-not_both}
 use Rattle.occ_walk.specs.At.{begins_with, items_below, path_of}
 
 -- what stands behind a beginning
@@ -39,16 +40,6 @@ begins-rest (i ∷ front) (j ∷ path) is =
 -- the order of occurrences
 abbrev Earlier : Occurrence → Occurrence → Type 0
 Earlier o q = PathBefore o.path q.path
-
-not_both : (p q : List ℕ) → PathBefore p q → PathBefore q p → ⊥
-not_both [] [] h k = h
-not_both [] (j ∷ q) h k = k
-not_both (i ∷ p) [] h k = h
-not_both (i ∷ p) (j ∷ q) h k =
-    elim h [
-      | inl less ↦ elim k [ inl more ↦ omega (arith, less, more) | inr same ↦ omega (arith, less, same.0) ]
-      | inr same ↦ elim k [ inl more ↦ omega (arith, same.0, more) | inr same_too ↦ not_both p q same.1 same_too.1 ]
-    ]
 
 earlier_below : (path p q : List ℕ) → PathBefore p q → PathBefore (path ++ p) (path ++ q)
 earlier_below [] p q h = h
@@ -159,7 +150,7 @@ module _ (d : Design) (acyclic : NoCellIsBelowItself d) (top : TopHead) (path : 
 
     occurrences_below : filter is_below (occurrences d top.cell) ≡ map (under_path path) (occurrences d c)
     occurrences_below =
-        Ascends-same Earlier (λ o q h k. not_both o.path q.path h k) (filter is_below (occurrences d top.cell)) (map (under_path path) (occurrences d c))
+        Ascends-same Earlier (λ o q h k. PathBefore-not_both o.path q.path h k) (filter is_below (occurrences d top.cell)) (map (under_path path) (occurrences d c))
         (kept_ascend (occurrences d top.cell) (all_ascend top.cell))
         (Ascends-map Earlier Earlier (under_path path) (λ o q h. earlier_below path o.path q.path h) (occurrences d c) (all_ascend c))
         kept_is_under under_is_kept

@@ -1,12 +1,13 @@
 -- What is left of a walk when it gives an item, enters an occurrence, leaves one, or begins.
-use Rattle.std.proofs.Common.{◌≡◌, ◌<◌, ◌+◌, ◌-◌, ℕ, zero, suc, List, [], ◌∷◌, ◌++◌, length, take, drop, refl, sym, ap, subst, ◌∙◌, arith, append_assoc, append-nil, true, false, Option, Some, None, slice_get}
+use Rattle.std.proofs.Common.{◌≡◌, ◌<◌, ◌+◌, ◌-◌, ℕ, List, [], ◌∷◌, ◌++◌, length, take, drop, refl, sym, ap, subst, ◌∙◌, arith, append_assoc, append-nil, true, false, Option, Some, None, slice_get}
 use Rattle.std.specs.List.{enumerate_from, flat_map}
 use Rattle.std.proofs.lemmas.List.{drop_more, length_push, same_from_push, take_at}
-use Rattle.std.proofs.lemmas.Option.{get_or_from_slice_get, none-some, same_Some, slice_get_within}
+use Rattle.std.proofs.lemmas.Option.{get_or_from_slice_get, same_Some, slice_get_within}
 use Rattle.netlist_schema.specs.Design.{Design}
 use Rattle.netlist_schema.specs.Hierarchy.{insts_at}
 use Rattle.netlist_schema.specs.Types.{CellId, Inst}
 use Rattle.netlist_schema.specs.Valid.{IsValid}
+use Rattle.netlist_schema.proofs.Lists.{drop_past}
 use Rattle.flat_spec.specs.Below.{items_under}
 use Rattle.flat_spec.specs.Flattening.{flattening}
 use Rattle.flat_spec.specs.Paths.{Reaches}
@@ -31,12 +32,6 @@ use Rattle.occ_walk.proofs.BelowLemmas.{next_is_small}
 drop_at : {A : Type 0} (xs : List A) (k : ℕ) (x : A) → slice_get xs k ≡ Some x → drop k xs ≡ x ∷ drop (k + 1) xs
 drop_at xs k x e = drop_more xs k x (slice_get_within xs k x e) ∙ ap (λ v. v ∷ drop (k + 1) xs) (get_or_from_slice_get xs k x x e)
 
-past_of_none : {A : Type 0} (xs : List A) (k : ℕ) → slice_get xs k ≡ None → drop k xs ≡ []
-past_of_none [] zero e = refl
-past_of_none [] (suc k) e = refl
-past_of_none (x ∷ xs) zero e = absurd (none-some x (sym e))
-past_of_none (x ∷ xs) (suc k) e = past_of_none xs k e
-
 -- an instance opens into what is at and below its occurrence, and the others
 below_opened : (d : Design) → IsValid d → (path : List ℕ) (c : CellId) (i : ℕ) (inst : Inst) → slice_get (insts_at d c) i ≡ Some inst
     → below_from d path c i
@@ -47,7 +42,7 @@ below_opened d valid path c i inst there =
 
 below_ended : (d : Design) (path : List ℕ) (c : CellId) (i : ℕ) → slice_get (insts_at d c) i ≡ None → below_from d path c i ≡ []
 below_ended d path c i none =
-    ap (λ (v : List Inst). flat_map (λ (p : ℕ × Inst). items_under d (top_of d) (path ++ p.0 ∷ []) p.1.of) (enumerate_from i v)) (past_of_none (insts_at d c) i none)
+    ap (λ (v : List Inst). flat_map (λ (p : ℕ × Inst). items_under d (top_of d) (path ++ p.0 ∷ []) p.1.of) (enumerate_from i v)) (drop_past (insts_at d c) i none)
 
 -- what is below the lowest frame comes first
 pub above_pushed : (d : Design) (start path : List ℕ) (step : ℕ) (others : List Frame) (f : Frame) → AreAbove d start path others

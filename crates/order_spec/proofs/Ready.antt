@@ -4,11 +4,13 @@ use Rattle.std.specs.Prelude.{IsSome, cond, ◌&&◌, ◌||◌, option_map, unwr
 use Rattle.std.specs.List.{list_all, list_any}
 use Rattle.std.proofs.lemmas.Bool.{and_from, and_parts, or_parts, not-true, not-false, cases_Bool}
 use Rattle.std.proofs.lemmas.Bool.Decides.{nat_tests}
+use Rattle.std.proofs.lemmas.Option.{slice_get_within}
+use Rattle.netlist_schema.proofs.Lists.{get_there}
 use Rattle.order_spec.specs.Order.{is_written, is_ready, first_ready, order_from, order_of}
 use Rattle.order_spec.specs.After.{AllAfter}
 use Rattle.netlist_schema.specs.Design.{insts_of}
 use Rattle.netlist_schema.specs.Types.{CellBody, Inst}
-use Rattle.order_spec.proofs.Places.{any_append, get_below, get_there}
+use Rattle.order_spec.proofs.Places.{any_append}
 
 -- a rank falls from each cell to those that it places in its library
 pub record IsRank (own : ℕ) (cells : List CellBody) (rank : ℕ → ℕ) : Type 0 where
@@ -144,7 +146,7 @@ covers own cells rank (suc fuel) written r l s m = go (first_ready own written 0
         let f = found_ready own written 0 k cells e in
         let b = and_parts (not (list_any (nat_eq k) written)) (list_all (is_written own written) (insts_of f.1.0)) f.1.3 in
         let new : list_any (nat_eq k) written ≡ false = not-true (list_any (nat_eq k) written) b.0 in
-        let in_range : k < length cells = get_below cells k f.1.0 ((let q : k ≡ f.0 = omega (arith, f.1.1) in ap (slice_get cells) q) ∙ f.1.2) in
+        let in_range : k < length cells = slice_get_within cells k f.1.0 ((let q : k ≡ f.0 = omega (arith, f.1.1) in ap (slice_get cells) q) ∙ f.1.2) in
         let less = left_less written k (length cells) in_range new in
         ap (list_any (nat_eq s)) (sym (append_assoc written (k ∷ []) (order_from own cells fuel (written ++ k ∷ [])))) ∙ more k (omega (arith, less, l))
     go None e more = ap (list_any (nat_eq s)) (append-nil written) ∙ all (cases_Bool (list_any (nat_eq s) written))

@@ -8,17 +8,18 @@ use Rattle.std.proofs.lemmas.Bool.{and_parts, or_cases, or_parts, or_from, or_le
 use Rattle.std.proofs.lemmas.Bool.Decides.{nat_tests}
 use Rattle.std.proofs.lemmas.List.Elements.{All-from_recursion, recursion_from_All}
 use Rattle.std.proofs.lemmas.List.Sorted.{IsPermutation-refl, IsPermutation-cons, IsPermutation-trans, IsPermutation-sym, IsPermutation-middle}
-use Rattle.std.proofs.lemmas.Option.{get_or_from_slice_get}
+use Rattle.std.proofs.lemmas.Option.{get_or_from_slice_get, slice_get_within}
 use Rattle.netlist_schema.specs.Hierarchy.{IsCell, HasInst, insts_at}
 use Rattle.netlist_schema.specs.Valid.{IsValid}
 use Rattle.netlist_schema.proofs.Cells.{All-slice_get}
 use Rattle.netlist_schema.proofs.Ranks.{valid_is_ranked}
+use Rattle.netlist_schema.proofs.Lists.{some_of, same_test}
 use Rattle.order_spec.specs.Order.{is_written, is_ready, order_of}
 use Rattle.order_spec.specs.After.{AllAfter}
 use Rattle.netlist_schema.specs.Design.{Design, cell_at, insts_of}
 use Rattle.netlist_schema.specs.Types.{CellBody, CellId, Inst, Lib}
 use Rattle.order_spec.specs.InTime.{ComesInTime, NoneEarlier}
-use Rattle.order_spec.proofs.Places.{any_append, get_below, lib_of_cell, range, some_of}
+use Rattle.order_spec.proofs.Places.{any_append, lib_of_cell, range}
 use Rattle.order_spec.proofs.Ready.{IsRank, StepReady, NoneReady, order_covers, order_ready, order_first}
 
 -- the id of a cell
@@ -33,7 +34,7 @@ pub has_inst : (d : Design) (id : CellId) (c : CellBody) (j : ℕ) (i : Inst) �
 has_inst d id c j i e f =
     let same : insts_at d id ≡ insts_of c = ap (λ o. option_map_or insts_of o []) e in
     let P : List Inst → Type 0 = λ is. Contains is i in
-    subst P (sym same) (j, get_below (insts_of c) j i f, get_or_from_slice_get (insts_of c) j i i f)
+    subst P (sym same) (j, slice_get_within (insts_of c) j i f, get_or_from_slice_get (insts_of c) j i i f)
 
 same_number : (own : ℕ) (id : CellId) → id.lib.0 ≡ own → id_at own id.slot ≡ id
 same_number own id e = λ i. record { lib = record { 0 = sym e i }; slot = id.slot }
@@ -60,7 +61,7 @@ valid_rank d own l v e =
         let k = lib_of_cell d id c.0 c.1 in
         let s : Some k.0 ≡ Some l = sym k.1 ∙ (ap (slice_get d.libs) h ∙ e) in
         let w : k.0 ≡ l = cc s in
-        get_below l.cells id.slot c.0 (ap (λ (x : Lib). slice_get x.cells id.slot) (sym w) ∙ k.2)
+        slice_get_within l.cells id.slot c.0 (ap (λ (x : Lib). slice_get x.cells id.slot) (sym w) ∙ k.2)
 
 -- tests and membership
 pub contains_from_any : (s : ℕ) (xs : List ℕ) → list_any (nat_eq s) xs ≡ true → Contains xs s
@@ -132,11 +133,6 @@ order_none_earlier own cells = after_weaker (NoneReady own cells) (NoneEarlier o
 abbrev pub IsNew : List ℕ → Type 0
 IsNew [] = Unit {0}
 IsNew (x ∷ xs) = (list_any (nat_eq x) xs ≡ false) × IsNew xs
-
-same_test : (a b : Bool) → (a ≡ true → b ≡ true) → (b ≡ true → a ≡ true) → a ≡ b
-same_test true b f g = sym (f refl)
-same_test false true f g = g refl
-same_test false false f g = refl
 
 -- a number that is there stands between others
 parted : (s : ℕ) (ys : List ℕ) → list_any (nat_eq s) ys ≡ true → (front : List ℕ) × (back : List ℕ) × (ys ≡ front ++ s ∷ back)
@@ -220,7 +216,7 @@ new_after own cells before (k ∷ o) h =
 pub below_after : (own : ℕ) (cells : List CellBody) (before o : List ℕ) (s : ℕ) → AllAfter (StepReady own cells) before o → list_any (nat_eq s) o ≡ true → s < length cells
 below_after own cells before [] s h k = absurd (cc k)
 below_after own cells before (x ∷ o) s h k = ⊎_elim
-    (λ (e : nat_eq s x ≡ true). get_below cells s h.0.0 (ap (slice_get cells) (eqb-true s x e) ∙ h.0.1))
+    (λ (e : nat_eq s x ≡ true). slice_get_within cells s h.0.0 (ap (slice_get cells) (eqb-true s x e) ∙ h.0.1))
     (λ (e : list_any (nat_eq s) o ≡ true). below_after own cells (before ++ x ∷ []) o s h.1 e)
     (or_cases (nat_eq s x) (list_any (nat_eq s) o) k)
 

@@ -144,12 +144,6 @@ count_after before (spot ∷ spots) = sum_by-cons (λ (s : Spot). cond (is_some 
 pub counted : (top : CellId) (spots : List Spot) → count_by (λ (spot : Spot). is_some spot.twin) spots ≡ length (copies_of (seats top spots))
 counted top spots = count_after ([] ∷ []) spots
 
--- what holds of all items holds of one
-pub each_got : {X : Type 0} (P : X → Type 0) (xs : List X) (i : ℕ) (x : X) → AllByRecursion P xs → slice_get xs i ≡ Some x → P x
-each_got P [] i x all at = cc
-each_got P (y ∷ xs) zero x all at = let same : y ≡ x = cc in subst P same all.0
-each_got P (y ∷ xs) (suc i) x all at = each_got P xs i x all.1 at
-
 pub whole_chain : (steps : List Step) (i : ℕ) → length steps ≤ i → take i steps ≡ steps
 whole_chain [] zero past = refl
 whole_chain [] (suc i) past = refl

@@ -1,12 +1,13 @@
 -- There are fewer copies than a design may have cells.
-use Rattle.std.proofs.Common.{◌≡◌, ◌≢◌, ◌<◌, ◌+◌, ◌*◌, ◌^◌, ℕ, zero, suc, true, false, List, [], ◌∷◌, ◌++◌, map, length, refl, sym, ap, subst, inl, inr, arith}
-use Rattle.std.specs.Prelude.{IsSome, nat_eq, nat_le, slice_get}
+use Rattle.std.proofs.Common.{◌≡◌, ◌≢◌, ◌<◌, ◌+◌, ◌*◌, ◌^◌, ℕ, suc, true, false, List, [], ◌∷◌, ◌++◌, map, length, refl, sym, ap, subst, inl, inr, arith}
+use Rattle.std.specs.Prelude.{nat_eq, nat_le}
 use Rattle.std.specs.List.{AllByRecursion, IsDistinct, list_any}
 use Rattle.std.proofs.lemmas.Bool.{eqb-true, leb-false, ne_eqb, or_cases, or_parts, true≢false}
 use Rattle.std.proofs.lemmas.Map.Steps.{length-le_from_distinct_below}
 use Rattle.netlist_schema.specs.Design.{Design}
 use Rattle.netlist_schema.specs.Types.{CellId}
 use Rattle.netlist_schema.specs.Valid.{IsValid}
+use Rattle.flat_spec.proofs.PathLemmas.{slice_get-within}
 use Rattle.edit_core.proofs.Edits.{same_id}
 use Rattle.edit_core.proofs.Lists.{Apart}
 use Rattle.flat_spec.proofs.ListLemmas.{Member}
@@ -53,16 +54,11 @@ distinct (x ∷ xs) apart = (each x xs apart.0, distinct xs apart.1)
     each x [] all = tt
     each x (y ∷ ys) all = (ne_eqb x y all.0, each x ys all.1)
 
-there : {A : Type 0} (xs : List A) (i : ℕ) → IsSome (slice_get xs i) → i < length xs
-there [] i is = absurd (true≢false (sym is))
-there (x ∷ xs) zero is = omega arith
-there (x ∷ xs) (suc i) is = let less = there xs i is in omega (arith, less)
-
 bounded : (d : Design) → IsValid d → (copies before : List Copy) → AreNew d before copies → AllByRecursion (λ (c : Copy). c.id.slot < 65536) copies
     → AllByRecursion (λ n. n < 67108864) (map (λ (c : Copy). c.id.lib.0 * 65536 + c.id.slot) copies)
 bounded d valid [] before new room = tt
 bounded d valid (m ∷ ms) before new room =
-    let lib = there d.libs m.id.lib.0 (lib_of_new d before m new.0) in
+    let lib = slice_get-within d.libs m.id.lib.0 (lib_of_new d before m new.0) in
     let few = valid.limits.libs in
     let slot = room.0 in
     (omega (arith, lib, few, slot), bounded d valid ms (before ++ m ∷ []) new.1 room.1)

@@ -12,13 +12,12 @@ use Rattle.edit_core.specs.Rule.{refuse}
 use Rattle.edit_core.specs.declared.reply.Reply.TheVariants.{TooMany}
 use Rattle.flat_spec.specs.Occurrences.{Occurrence}
 use Rattle.flat_spec.specs.Paths.{Reaches}
-use Rattle.flat_spec.proofs.ListLemmas.{Member}
+use Rattle.flat_spec.proofs.ListLemmas.{Member, Member-from_filter}
 use Rattle.uniquify_spec.specs.Blocks.{along_path, blocks, is_block, root_of, steps_along}
 use Rattle.uniquify_spec.specs.Copies.{copies_after}
 use Rattle.uniquify_spec.specs.Rows.{too_many_cells}
 use Rattle.uniquify_spec.specs.Split.{Split}
 use Rattle.uniquify_spec.proofs.PathSplit.{step_reached}
-use Rattle.uniquify_spec.proofs.Reached.{filter-cases}
 use Rattle.uniquify_spec.proofs.SplitEdits.{block_is_cell, each_of}
 use Rattle.cell_copies.proofs.DraftSeats.{draft_seats, draft_split, split_for}
 use Rattle.cell_copies.specs.Changes.{AreSeats}
@@ -36,7 +35,7 @@ IsTop d top = (head : TopHead) × (d.top ≡ Some head) × (head.cell ≡ top)
 module _ (d : Design) (top : CellId) (path : List (List ℕ)) (steps : List Step) (valid : IsValid d) (is_top : IsTop d top) (are : blocks d (steps_along d top path) ≡ chain [] steps) where
   in_chain : (o : Occurrence) → Member (chain [] steps) o → Reaches d top o.path o.cell × (is_block d o.cell ≡ true)
   in_chain o member =
-      let both = filter-cases (λ (x : Occurrence). is_block d x.cell) (steps_along d top path) o (subst (λ os. Member os o) (sym are) member) in
+      let both = Member-from_filter (λ (x : Occurrence). is_block d x.cell) (steps_along d top path) o (subst (λ os. Member os o) (sym are) member) in
       (step_reached d path top o both.0, both.1)
 
   steps_are : (path : List ℕ) (ss : List Step) → ((o : Occurrence) → Member (chain path ss) o → IsCell d o.cell) → (s : Step) → Member ss s → IsCell d s.of

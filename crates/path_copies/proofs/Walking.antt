@@ -12,12 +12,12 @@ use Rattle.netlist_schema.specs.Types.{CellId, Inst}
 use Rattle.edit_core.specs.Find.{inst_place}
 use Rattle.edit_core.specs.Paths.{resolves}
 use Rattle.edit_core.specs.Seen.{contents_at}
-use Rattle.eco_reads.proofs.Paths.{insts_of_found}
 use Rattle.flat_spec.specs.Occurrences.{Occurrence, under}
 use Rattle.flat_spec.proofs.ListLemmas.{Contains-member, Member-append_left, Member-append_right, Member-append_cases, Member-contains}
 use Rattle.uniquify_spec.specs.Blocks.{blocks, is_block, root_of, steps_along}
 use Rattle.uniquify_spec.specs.Parts.{IsPartOf}
 use Rattle.uniquify_spec.proofs.Reached.{block_of_inst}
+use Rattle.uniquify_spec.proofs.Agreed.{insts_inside}
 use Rattle.cells_model.specs.State.{State, HasRead}
 use Rattle.cells_model.proofs.Growing.{grows_by_same}
 use Rattle.eco_reads.proofs.Reading.{read_then}
@@ -199,14 +199,14 @@ walk_step s u v top at of path rest name steps new walk gone = record {
 
 -- what the call finds and reads
 pub gone_none : (s u : State) (at : CellId) (name : List ℕ) (old : List Step) → inst_place name (insts_in (contents_at s.design at)) ≡ None → u ≡ s → HasGone s u at name old old None
-gone_none s u at name old none same = (subst (λ insts. inst_place name insts ≡ None) (insts_of_found (cell_at s.design at)) none, same, refl)
+gone_none s u at name old none same = (subst (λ insts. inst_place name insts ≡ None) (insts_inside (cell_at s.design at)) none, same, refl)
 
 pub gone_some : (s t u : State) (at : CellId) (name : List ℕ) (old new : List Step) (step : Step) (block : Bool) → IsStep (insts_in (contents_at s.design at)) name (Some step) → t ≡ s
     → block ≡ is_block t.design step.of → HasRead t u (IsForBlock t.design step.of) → new ≡ old ++ cond block (step ∷ []) [] → HasGone s u at name old new (Some step.of)
 gone_some s t u at name old new step block found same block_is read added = (
   step,
   refl,
-  subst (λ insts. IsStep insts name (Some step)) (insts_of_found (cell_at s.design at)) found,
+  subst (λ insts. IsStep insts name (Some step)) (insts_inside (cell_at s.design at)) found,
   subst (λ (x : State). HasRead x u (IsForBlock x.design step.of)) same read,
   added ∙ ap (λ b. old ++ cond b (step ∷ []) []) (block_is ∙ ap (λ (x : State). is_block x.design step.of) same),
 )

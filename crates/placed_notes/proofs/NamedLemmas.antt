@@ -2,13 +2,12 @@
 use Rattle.std.proofs.Common.{◌≡◌, ◌+◌, ◌<◌, ◌≤◌, ℕ, Bool, true, false, cond, List, length, get_or, Option, Some, None, nat_eq, slice_get, refl, sym, ap, subst, ◌∙◌, arith, below_more}
 use Rattle.std.specs.Prelude.{IfSome}
 use Rattle.std.specs.Cmp.Lexicographic.{pointwise, bytes_decides}
-use Rattle.std.specs.Ordering.{is_eq, nat_cmp, ordering_then}
-use Rattle.std.specs.declared.cmp.Ordering.{Ordering}
-use Rattle.std.specs.declared.cmp.Ordering.TheVariants.{Less, Equal, Greater}
+use Rattle.std.specs.Ordering.{is_eq, nat_cmp}
 use Rattle.std.specs.FinMap.{nat_cmp-IsAntisymmetric}
 use Rattle.std.proofs.lemmas.List.{get_or_default}
 use Rattle.std.proofs.lemmas.Option.{slice_get-get_or}
 use Rattle.netlist_schema.specs.Types.{CellId, Inst}
+use Rattle.netlist_schema.proofs.Objects.{both_are_Equal}
 use Rattle.placed_notes.specs.Named.{ArePlaces, cell_cmp}
 use Rattle.placed_notes.specs.Ways.{IsNameFound}
 
@@ -45,16 +44,9 @@ all_found insts i place past known q = go (place q) (known q)
     go (Some p) below = below
     go None below = λ x there named. below there.0 (omega (arith, there.1, past)) x (ap (λ (v : Inst). v.name.id) there.2 ∙ named)
 
-both_Equal : (r s : Ordering) → is_eq (ordering_then r s) ≡ true → (r ≡ Equal) × (s ≡ Equal)
-both_Equal Less s e = cc
-both_Equal Equal Less e = cc
-both_Equal Equal Equal e = (refl, refl)
-both_Equal Equal Greater e = cc
-both_Equal Greater s e = cc
-
 same_cell : (a b : CellId) → is_eq (cell_cmp a b) ≡ true → a ≡ b
 same_cell a b e =
-    let both = both_Equal (nat_cmp a.lib.0 b.lib.0) (nat_cmp a.slot b.slot) e in
+    let both = both_are_Equal (nat_cmp a.lib.0 b.lib.0) (nat_cmp a.slot b.slot) e in
     λ i. record { lib = record { 0 = nat_cmp-IsAntisymmetric a.lib.0 b.lib.0 both.0 i }; slot = nat_cmp-IsAntisymmetric a.slot b.slot both.1 i }
 
 -- what is kept of each cell fits it, where what is added for one cell fits that

@@ -4,7 +4,7 @@ use Rattle.std.specs.Prelude.{cond, filter, nat_eq}
 use Rattle.std.specs.Cmp.Lexicographic.{pointwise}
 use Rattle.std.specs.List.{cons_option}
 use Rattle.std.specs.Option.{option_map}
-use Rattle.std.proofs.lemmas.Bool.{and_from, and_parts, false_from_ne_true}
+use Rattle.std.proofs.lemmas.Bool.{false_from_ne_true}
 use Rattle.std.proofs.lemmas.List.{map-append, take_more, take_all}
 use Rattle.std.proofs.lemmas.List.Elements.{filter-append, filter_map-append}
 use Rattle.std.proofs.lemmas.Option.{slice_get-get_or}
@@ -13,27 +13,12 @@ use Rattle.netlist_schema.specs.Types.{CellId, Note}
 use Rattle.netlist_schema.specs.Valid.{IsValid}
 use Rattle.flat_spec.specs.Effective.{names_along, notes_for}
 use Rattle.flat_spec.specs.Paths.{Reaches}
-use Rattle.flat_spec.proofs.TestLemmas.{same_path}
+use Rattle.flat_spec.proofs.TestLemmas.{same_path, names_same, names_refl}
 use Rattle.placed_notes.specs.Placed.{ArePlaced, IsAdded, places_in, properties_at}
 use Rattle.placed_notes.specs.Ways.{IsWay}
 use Rattle.placed_notes.specs.declared.notes.PlacedNotes.{PlacedNotes}
 use Rattle.placed_notes.specs.declared.steps.Steps.{Steps}
 use Rattle.placed_notes.proofs.WayLemmas.{one_way}
-
--- lists of identifiers that pass the test are equal, and equal ones pass
-names_same : (a b : List (List ℕ)) → pointwise (pointwise nat_eq) a b ≡ true → a ≡ b
-names_same [] [] t = refl
-names_same [] (y ∷ b) t = absurd (cc t)
-names_same (x ∷ a) [] t = absurd (cc t)
-names_same (x ∷ a) (y ∷ b) t =
-    let parts = and_parts (pointwise nat_eq x y) (pointwise (pointwise nat_eq) a b) t in
-    let head = (same_path x y).0 parts.0 in
-    let tail = names_same a b parts.1 in
-    λ i. head i ∷ tail i
-
-names_pass : (a : List (List ℕ)) → pointwise (pointwise nat_eq) a a ≡ true
-names_pass [] = refl
-names_pass (x ∷ a) = and_from (pointwise nat_eq x x) (pointwise (pointwise nat_eq) a a) ((same_path x x).1 refl) (names_pass a)
 
 one_passes : (names : List (List ℕ)) (note : Note) (b : Bool) → pointwise (pointwise nat_eq) note.path names ≡ b → notes_for names (note ∷ []) ≡ cond b (note.property ∷ []) []
 one_passes names note b is = go b is
@@ -71,7 +56,7 @@ placed_more d valid top i note way old new within is leads added so_far s c at =
     go true test =
         let same : s.steps.items ≡ way.steps.items = (same_path s.steps.items way.steps.items).0 test in
         let path : names_along d top s.steps.items ≡ note.path = ap (names_along d top) same ∙ leads.named in
-        let passes : pointwise (pointwise nat_eq) note.path (names_along d top s.steps.items) ≡ true = ap (pointwise (pointwise nat_eq) note.path) path ∙ names_pass note.path in
+        let passes : pointwise (pointwise nat_eq) note.path (names_along d top s.steps.items) ≡ true = ap (pointwise (pointwise nat_eq) note.path) path ∙ names_refl note.path in
         ap (properties_at d.notes) (added.here s same)
         ∙ filter_map-append (λ place. option_map (λ (v : Note). v.property) (slice_get d.notes place)) (places_in old s) (i ∷ [])
         ∙ ap (λ v. v ++ properties_at d.notes (i ∷ [])) (so_far s c at)

@@ -14,7 +14,7 @@ use Rattle.edit_core.specs.Seen.{contents_at, inside, placed as placed_inst}
 use Rattle.edit_core.specs.declared.reply.CellName.{CellName}
 use Rattle.edit_core.proofs.Closed.{valid_is_closed}
 use Rattle.edit_core.proofs.Named.{inst_at, named_inst}
-use Rattle.edit_core.proofs.There.{named_cell_there, named_lib_there}
+use Rattle.edit_core.proofs.There.{named_cell_there, named_lib_there, some_map}
 use Rattle.edit_spec.specs.Needs.{Needs}
 use Rattle.edit_spec.specs.ShowNet.{IsAtEnd, ends_of_net, inst_of_end}
 use Rattle.edit_spec.specs.declared.ops.Op.{Op}
@@ -31,10 +31,6 @@ use Rattle.uniquify_spec.proofs.Reached.{top_is_cell}
 use Rattle.read_spec.specs.Laws.{NeedsAreThere}
 
 -- ---- the objects of a cell and of its library
-
-some_map : {X Y : Type 0} (f : X → Y) (x : Option X) → IsSome x → IsSome (option_map f x)
-some_map f None is = is
-some_map f (Some x) is = refl
 
 pub face_there : (d : Design) (id : CellId) → IsCell d id → IsThere d (face_object id)
 face_there d id is = some_map of_interface (option_map face_of (cell_at d id)) (some_map face_of (cell_at d id) is)

@@ -11,7 +11,7 @@ use Rattle.edit_core.specs.Edit.{Edit, fresh, inner, own, noted, IsChanged, IsMa
 use Rattle.edit_core.specs.Rule.{first, unless}
 use Rattle.edit_core.specs.declared.reply.Reply.{Reply}
 use Rattle.edit_core.specs.Objects.{Agrees, Grown, IsClosed, IsThere, face_of, of_contents, of_directory, of_interface}
-use Rattle.edit_core.proofs.There.{there_stays}
+use Rattle.edit_core.proofs.There.{there_stays, some_from_map}
 use Rattle.edit_spec.specs.Needs.{Needs, Reads, Writes, Written}
 use Rattle.edit_spec.specs.Rows.{row_of}
 use Rattle.edit_spec.specs.Step.{step}
@@ -50,16 +50,12 @@ IsReadPart d ops (Interface id) = IsCell d id ⊎ Reads d ops (Directory id.lib)
 IsReadPart d ops (Contents id) = IsCell d id ⊎ Reads d ops (Directory id.lib)
 IsReadPart d ops Notes = Unit {0}
 
-some_from : {X Y : Type 0} (f : X → Y) (x : Option X) → IsSome (option_map f x) → IsSome x
-some_from f None is = is
-some_from f (Some x) is = refl
-
 -- the cell of an object that is there
 pub cell_of_face : (d : Design) (id : CellId) → IsThere d (Interface id) → IsCell d id
-cell_of_face d id is = some_from face_of (cell_at d id) (some_from of_interface (option_map face_of (cell_at d id)) is)
+cell_of_face d id is = some_from_map face_of (cell_at d id) (some_from_map of_interface (option_map face_of (cell_at d id)) is)
 
 pub cell_of_inside : (d : Design) (id : CellId) → IsThere d (Contents id) → IsCell d id
-cell_of_inside d id is = some_from (λ (b : CellBody). b.contents) (cell_at d id) (some_from of_contents (option_map (λ (b : CellBody). b.contents) (cell_at d id)) is)
+cell_of_inside d id is = some_from_map (λ (b : CellBody). b.contents) (cell_at d id) (some_from_map of_contents (option_map (λ (b : CellBody). b.contents) (cell_at d id)) is)
 
 -- an object that is there
 there_part : (d : Design) (ops : List Op) (o : Object) → IsThere d o → IsReadPart d ops o

@@ -2,7 +2,7 @@
 use Rattle.std.proofs.Common.{◌≡◌, ◌<◌, ◌+◌, ℕ, suc, List, [], ◌∷◌, ◌++◌, ◌||◌, length, map, get_or, ap, sym, ◌∙◌, subst, refl, arith, append-nil, Bool}
 use Rattle.std.specs.List.{All, list_any}
 use Rattle.std.proofs.lemmas.List.{get_or-map, length-map}
-use Rattle.std.specs.Prelude.{IfOk, Ok, Err, Result}
+use Rattle.std.specs.Prelude.{IfOk, Ok, Result}
 use Rattle.netlist_schema.specs.Design.{Design}
 use Rattle.netlist_schema.specs.declared.memory.NoMemory.{NoMemory}
 use Rattle.history_spec.specs.declared.event.Event.{Event}
@@ -152,8 +152,3 @@ are_done d scripts callers db passes back all same opens many each parts =
       each = λ k x less. each k x (omega (arith, less, count, same, opens.many));
       parts = parts;
     }
-
--- a fact about a value that came, from another one
-pub weaker : {T E : Type 0} (r : Result T E) (P Q : T → Type 0) → ((x : T) → P x → Q x) → IfOk r P → IfOk r Q
-weaker (Ok x) P Q f h = f x h
-weaker (Err e) P Q f h = h

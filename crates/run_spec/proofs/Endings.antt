@@ -8,10 +8,11 @@ use Rattle.history_spec.proofs.Promised.{growth}
 use Rattle.session_spec.specs.Headline.{HoldsNone}
 use Rattle.session_spec.specs.Report.{transcript}
 use Rattle.session_spec.specs.Session.{Whole, Full, Exchange, Goes, Held, Nothing, Runs, Stop, Word, exchanges, last_release}
+use Rattle.session_spec.proofs.Stays.{filter_append}
 use Rattle.run_spec.specs.Calls.{HoldsJust, Makes}
 use Rattle.run_spec.specs.Laws.{ComesToBreak, ComesToEnd, ComesToFull}
 use Rattle.run_spec.proofs.Along.{resumed, written_more, written_on}
-use Rattle.run_spec.proofs.Pins.{exchanges-append, holds_after, none_is_live, own_after, released_all}
+use Rattle.run_spec.proofs.Pins.{holds_after, none_is_live, own_after, released_all}
 use Rattle.run_spec.proofs.Places.{begun_can_end}
 
 -- the history itself, as one that goes on by nothing
@@ -48,7 +49,7 @@ both_makes d caller old new last done released m n = record {
   legal = n.legal;
   more = m.more ++ n.more;
   on = n.on ∙ ap (λ (xs : List Event). xs ++ n.more) m.on ∙ append_assoc old m.more n.more;
-  own = exchanges-append caller m.more n.more ∙ ap (λ (xs : List Exchange). xs ++ exchanges caller n.more) m.own ∙ ap (λ (xs : List Exchange). done ++ xs) n.own;
+  own = filter_append caller m.more n.more ∙ ap (λ (xs : List Exchange). xs ++ exchanges caller n.more) m.own ∙ ap (λ (xs : List Exchange). done ++ xs) n.own;
 }
 
 pub comes_to_full : ComesToFull

@@ -17,6 +17,7 @@ use Rattle.history_spec.proofs.Lists.{from_filter, in_head, in_tail, to_filter}
 use Rattle.history_spec.proofs.Sound.{IsFine, fine_after, fine_opening, is_sound, kept_up_after, one_pin}
 use Rattle.session_spec.specs.Headline.{HoldsNone}
 use Rattle.session_spec.specs.Session.{Exchange, Told, Held, Nothing, OnPin, OffPin, InBlock, exchanges, last_release, release}
+use Rattle.session_spec.proofs.Stays.{filter_append}
 use Rattle.run_spec.specs.Calls.{HoldsJust, Makes, held_pins, pins_of}
 
 pub same_number : (n : ℕ) → (n == n) ≡ true
@@ -151,24 +152,10 @@ along_own caller s (event ∷ more) fine legal =
 
 -- ---- what calls make of what is held
 
-pub exchanges-append : (k : ℕ) (xs ys : List Event) → exchanges k (xs ++ ys) ≡ exchanges k xs ++ exchanges k ys
-exchanges-append k [] ys = refl
-exchanges-append k (x ∷ xs) ys = one (x.caller == k) (exchanges-append k xs ys)
-  where
-    whole : List Event
-    whole = filter (λ e. e.caller == k) (xs ++ ys)
-
-    front : List Event
-    front = filter (λ e. e.caller == k) xs
-
-    one : (b : Bool) → told whole ≡ told front ++ exchanges k ys → told (cond b (x ∷ whole) whole) ≡ told (cond b (x ∷ front) front) ++ exchanges k ys
-    one true e = ap (λ (rest : List Exchange). Told x.call x.answer ∷ rest) e
-    one false e = e
-
 -- the caller's calls after the history went on
 pub own_after : (d : Design) (caller : ℕ) (old new : List Event) (done : List Exchange) → Makes d caller old new done → exchanges caller new ≡ exchanges caller old ++ done
 own_after d caller old new done m =
-    ap (exchanges caller) m.on ∙ exchanges-append caller old m.more ∙ ap (λ (xs : List Exchange). exchanges caller old ++ xs) m.own
+    ap (exchanges caller) m.on ∙ filter_append caller old m.more ∙ ap (λ (xs : List Exchange). exchanges caller old ++ xs) m.own
 
 pub legal_before : (d : Design) (caller : ℕ) (old new : List Event) (done : List Exchange) → Makes d caller old new done → Legal d old
 legal_before d caller old new done m = legal-left (opening d) old m.more (subst (λ (xs : List Event). Legal d xs) m.on m.legal)

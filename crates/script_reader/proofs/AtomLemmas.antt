@@ -1,22 +1,19 @@
 -- What std reads as a number or an integer is spelled, and no other word; and what stands between quotes.
-use Rattle.std.proofs.Common.{◌≡◌, ◌≢◌, ◌∙◌, ℕ, ◌<◌, ◌≤◌, ◌^◌, Bool, true, false, cond, List, [], ◌∷◌, ◌++◌, drop, None, Some, Result, Ok, Err, ℤ, zero, suc, lit<, refl, sym, ap, subst, arith}
+use Rattle.std.proofs.Common.{◌≡◌, ◌≢◌, ◌∙◌, ℕ, ◌<◌, ◌≤◌, ◌^◌, Bool, true, false, cond, List, [], ◌∷◌, ◌++◌, drop, None, Some, Result, Ok, Err, ℤ, refl, sym, ap, subst}
 use Rattle.std.specs.Prelude.{Option, MatchOption, ◌==◌, slice_index}
-use Rattle.std.specs.Int.{w64}
-use Rattle.std.specs.Result.{result_ok}
-use Rattle.std.specs.Str.{IsAscii, IsUtf8, all_ascii_digits}
-use Rattle.std.specs.Str.Parse.{IsNumeral, ParsesSigned, ParsesUnsigned, digits_value, signed_digits_value, without_leading_plus}
-use Rattle.std.proofs.lemmas.Bool.{and_parts, cond-true, cond-false, false_from_ne_true}
+use Rattle.std.specs.Str.{IsUtf8, all_ascii_digits}
+use Rattle.std.specs.Str.Parse.{IsNumeral, ParsesUnsigned, digits_value, without_leading_plus}
 use Rattle.std.proofs.lemmas.Str.{IsUtf8-from_ascii}
-use Rattle.std.specs.List.{list_all}
-use Rattle.spelling_spec.specs.Bytes.{is_unquoted, is_word_byte}
+use Rattle.spelling_spec.specs.Bytes.{is_unquoted}
 use Rattle.spelling_spec.specs.Grammar.{SpellsInteger, SpellsString, StandsFor}
 use Rattle.spelling_spec.specs.Strings.{escape_fault, segments, value}
 use Rattle.spelling_spec.specs.Words.{begins_number, identifier, integer, or_fault, word_kind}
 use Rattle.spelling_spec.specs.declared.token.LexKind.TheVariants.{BadByte, BadNumber}
 use Rattle.spelling_spec.specs.declared.token.TokenKind.TheVariants as kinds
-use Rattle.spelling_spec.proofs.IntegerLemmas.{digits_test, numeral_from_test, test_from_numeral, test_of}
+use Rattle.spelling_spec.proofs.IntegerLemmas.{digits_test}
 use Rattle.spelling_spec.proofs.RowLemmas.{integer_spells, integer_word}
 use Rattle.spelling_spec.proofs.TextLemmas.{stands_value, value_stands}
+use Rattle.spelling_spec.proofs.ParseLemmas.{IsAscii-from_word}
 use Rattle.edif_strings.proofs.CodeLemmas.{IsAscii-from_digits}
 use Rattle.script_reader.specs.Reading.{IsBetween}
 
@@ -42,10 +39,6 @@ numeral_utf8 word h = IsUtf8-from_ascii word (IsAscii-from_digits word (digits_t
 
 -- ---- integers
 
-pub integer_from_parse : {E : Type 0} (word : List ℕ) (r : Result ℤ E) → ParsesSigned w64 10 word r → result_ok r ≡ integer word
-integer_from_parse word (Ok x) h = ap Some h.1 ∙ sym (cond-true (test_of word) (Some (signed_digits_value 10 word)) None (test_from_numeral word h.0))
-integer_from_parse word (Err e) h = sym (cond-false (test_of word) (Some (signed_digits_value 10 word)) None (false_from_ne_true (test_of word) (λ t. h (numeral_from_test word t))))
-
 from_kind : (t : Bool) (i : Option ℤ) (n : Option (List ℕ)) (z : ℤ) → cond t (or_fault kinds.Integer BadNumber i) (or_fault kinds.Word BadByte n) ≡ Ok (kinds.Integer z) → i ≡ Some z
 from_kind true (Some y) n z e = cc (e)
 from_kind true None n z e = absurd (cc (e))
@@ -60,20 +53,12 @@ pub spells_integer : (word : List ℕ) (z : ℤ) → integer word ≡ Some z →
 spells_integer [] z e = absurd (cc (e))
 spells_integer (b ∷ bs) z e = integer_spells b bs z e
 
-word_byte_ascii : (b : ℕ) → is_word_byte b ≡ true → b < 128
-word_byte_ascii b e = grind arith
-
-ascii_word : (word : List ℕ) → list_all is_word_byte word ≡ true → IsAscii word
-ascii_word [] h i = lit< tt
-ascii_word (b ∷ bs) h zero = word_byte_ascii b (and_parts (is_word_byte b) (list_all is_word_byte bs) h).0
-ascii_word (b ∷ bs) h (suc i) = ascii_word bs (and_parts (is_word_byte b) (list_all is_word_byte bs) h).1 i
-
 pub none_of_utf8 : (word : List ℕ) → ¬ IsUtf8 word → None ≡ integer word
 none_of_utf8 word n = decide (integer word) refl
   where
     decide : (found : Option ℤ) → integer word ≡ found → None ≡ found
     decide None e = refl
-    decide (Some z) e = absurd (n (IsUtf8-from_ascii word (ascii_word word (integer_word word z (spells_integer word z e)).run)))
+    decide (Some z) e = absurd (n (IsUtf8-from_ascii word (IsAscii-from_word word (integer_word word z (spells_integer word z e)).run)))
 
 pub no_integer : (word : List ℕ) → None ≡ integer word → (z : ℤ) → ¬ SpellsInteger word z
 no_integer word e z s = let wrong : None ≡ Some z = e ∙ integer_of word z s in cc (wrong)

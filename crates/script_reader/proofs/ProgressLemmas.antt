@@ -5,6 +5,7 @@ use Rattle.std.specs.List.{All, AllByRecursion}
 use Rattle.std.proofs.lemmas.List.{drop_more, map-append, take-append-drop, take_more}
 use Rattle.std.proofs.lemmas.List.Elements.{All-from_recursion}
 use Rattle.std.proofs.lemmas.List.Kept.{AllPairs-cons}
+use Rattle.netlist_schema.proofs.Lists.{all_push, all_weaker}
 use Rattle.session_spec.specs.Lines.{IsSayable}
 use Rattle.session_spec.specs.ScriptText.{AreScript, AreSome, ArePlaced, Free, IsFirstBad, IsScript, IsScriptText, lines_of, Parts, Place, Says, SayLines, behind, is_comment, steps_of, words}
 use Rattle.session_spec.specs.declared.script.ScriptLine.{ScriptLine}
@@ -38,10 +39,6 @@ leads_more : (place last next : Place) (steps : List Step) (step : Step) → Lea
 leads_more place last next [] step l e = (next, ap (λ p. behind p step) l ∙ e, refl)
 leads_more place last next (first ∷ steps) step l e = (l.0, l.1, leads_more l.0 last next steps step l.2 e)
 
-all_more : {X : Type 0} (P : X → Type 0) (xs : List X) (x : X) → AllByRecursion P xs → P x → AllByRecursion P (xs ++ x ∷ [])
-all_more P [] x a p = (p, tt)
-all_more P (y ∷ ys) x a p = (a.0, all_more P ys x a.1 p)
-
 abbrev CanSay : ScriptLine → Type 0
 CanSay line = IsSayable line.step
 
@@ -59,7 +56,7 @@ more_read lines line number found more place next e r (inr g) =
       said = say_more 1 number lines line found g.0 (omega (arith, e)) g.1.plain g.1.says r.said;
       leads = subst (λ (s : List Step). Leads Free s next) (sym (map-append (λ (l : ScriptLine). l.step) found (numbered number g.0 ∷ [])))
           (leads_more Free place next (steps_of found) g.0 r.leads g.2);
-      sayable = all_more CanSay found (numbered number g.0) r.sayable g.1.sayable;
+      sayable = all_push CanSay found (numbered number g.0) r.sayable g.1.sayable;
     })
 
 -- ---- the whole
@@ -85,10 +82,6 @@ between at (line ∷ lines) found (inr s) =
     subst (λ (f : List ScriptLine). AllByRecursion (Between at (at + length (line ∷ lines))) f) (sym s.4)
     ((omega arith, omega arith), wider at (at + 1) (at + 1 + length lines) (at + length (line ∷ lines)) s.1 (omega arith) (omega arith) (between (at + 1) lines s.1 s.5))
 
-all_map : {X : Type 0} (P Q : X → Type 0) (xs : List X) → ((x : X) → P x → Q x) → AllByRecursion P xs → AllByRecursion Q xs
-all_map P Q [] f a = tt
-all_map P Q (x ∷ xs) f a = (f x a.0, all_map P Q xs f a.1)
-
 abbrev Rises : ScriptLine → ScriptLine → Type 0
 Rises line later = line.number < later.number
 
@@ -98,7 +91,7 @@ rising at (line ∷ lines) found (inl s) = rising (at + 1) lines found s.1
 rising at (line ∷ lines) found (inr s) =
     subst (λ (f : List ScriptLine). AllPairs Rises f) (sym s.4)
     (AllPairs-cons Rises (numbered at s.0) s.1
-    (All-from_recursion (Rises (numbered at s.0)) s.1 (all_map (Between (at + 1) (at + 1 + length lines)) (Rises (numbered at s.0)) s.1 (λ x b. let low = b.0 in omega (arith, low)) (between (at + 1) lines s.1 s.5)))
+    (All-from_recursion (Rises (numbered at s.0)) s.1 (all_weaker (Between (at + 1) (at + 1 + length lines)) (Rises (numbered at s.0)) s.1 (λ x b. let low = b.0 in omega (arith, low)) (between (at + 1) lines s.1 s.5)))
     (rising (at + 1) lines s.1 s.5))
 
 abbrev Within : ℕ → ScriptLine → Type 0
@@ -108,7 +101,7 @@ pub is_script : (lines : List (List ℕ)) (found : List ScriptLine) (place : Pla
     → IsScript (record { lines = found; last = last })
 is_script lines found place last r e short = record {
   rising = rising 1 lines found r.said;
-  within = All-from_recursion (Within last) found (all_map (Between 1 (1 + length lines)) (Within last) found (λ x b. let low = b.0 in let high = b.1 in (low, omega (arith, high, e))) (between 1 lines found r.said));
+  within = All-from_recursion (Within last) found (all_weaker (Between 1 (1 + length lines)) (Within last) found (λ x b. let low = b.0 in let high = b.1 in (low, omega (arith, high, e))) (between 1 lines found r.said));
   short = omega (arith, e, short);
   sayable = All-from_recursion CanSay found r.sayable;
   placed = placed_from Free place (steps_of found) r.leads;

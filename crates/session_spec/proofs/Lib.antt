@@ -9,7 +9,7 @@ mod Places
 mod ReadAlike
 mod ReadLines
 mod Retried
-mod Settled
+pub mod Settled
 pub mod Spelled
 pub mod Stays
 mod Unique

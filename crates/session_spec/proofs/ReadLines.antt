@@ -1,8 +1,8 @@
 -- The canonical line of an operation says it.
 use Rattle.std.proofs.Common.{◌≡◌, ◌∙◌, ℕ, suc, ◌^◌, ◌<◌, ◌≤◌, ℤ, pos, negsuc, List, [], ◌∷◌, ◌++◌, Option, None, Some, Bool, true, false, not, length, map, inl, inr, refl, ap, sym, subst, arith, append_assoc, append-nil}
-use Rattle.std.specs.Prelude.{◌⊎◌, FitsSigned, codes, decimal, neg_ℤ}
+use Rattle.std.specs.Prelude.{◌⊎◌, FitsSigned, codes, decimal}
 use Rattle.std.specs.Fmt.{signed_decimal}
-use Rattle.std.specs.Int.{w32, w64}
+use Rattle.std.specs.Int.{w64}
 use Rattle.std.specs.List.{All, list_all}
 use Rattle.std.specs.Str.{all_ascii_digits}
 use Rattle.std.proofs.lemmas.Bool.{and_parts, and_from}
@@ -16,12 +16,13 @@ use Rattle.netlist_schema.specs.Types.{Direction, Value}
 use Rattle.netlist_schema.specs.declared.cell.Direction.TheVariants as directions
 use Rattle.netlist_schema.specs.declared.property.Num.TheVariants as numbers
 use Rattle.netlist_schema.specs.declared.property.Value.TheVariants as values
-use Rattle.spelling_spec.specs.Grammar.{SpellsInteger}
 use Rattle.spelling_spec.specs.Names.{is_empty}
 use Rattle.spelling_spec.proofs.IntegerLemmas.{digits_test}
 use Rattle.spelling_spec.proofs.RowLemmas.{is_name-from_identifier}
 use Rattle.edif_spec.specs.Canonical.{plain_text, string_text}
 use Rattle.edif_spec.proofs.StringLemmas.{string_spelled}
+use Rattle.edif_spec.proofs.Fine.{wide}
+use Rattle.edif_spec.proofs.Layouts.{integer_spelled}
 use Rattle.edit_spec.specs.declared.ops.Op.{Op}
 use Rattle.edit_spec.specs.declared.ops.Op.TheVariants as op
 use Rattle.edit_spec.specs.declared.ops.PortDecl.{PortDecl}
@@ -37,20 +38,12 @@ use Rattle.session_spec.proofs.Words.{AreBare, are_bare, bare_words, is_bare, is
 
 -- ---- what can be said is spelled by its text
 
-integer_spelled : (z : ℤ) → FitsSigned w64 z → SpellsInteger (signed_decimal z) z
-integer_spelled (pos n) h = let b : n < 2 ^ 63 = h.sfits in let d = decimal_is_IsNumeral n (omega arith) in (h, (decimal n, d.0, inl (inl refl, ap pos (sym d.1))))
-integer_spelled (negsuc n) h = let b : n < 2 ^ 63 = h.sfits in let d = decimal_is_IsNumeral (suc n) (omega arith) in (h, (decimal (suc n), d.0, inr (refl, ap (λ m. neg_ℤ (pos m)) (sym d.1))))
-
-wider : (z : ℤ) → FitsSigned w32 z → FitsSigned w64 z
-wider (pos n) h = let b : n < 2 ^ 31 = h.sfits in record { sfits = omega arith }
-wider (negsuc n) h = let b : n < 2 ^ 31 = h.sfits in record { sfits = omega arith }
-
 atom_spelled : (atom : Atom) → IsSayableAtom atom → SpellsAtom (atom_text atom) atom
 atom_spelled (Said word) s = refl
 atom_spelled (Named id) s = (refl, s)
 atom_spelled (Number least most n) s = let d = decimal_is_IsNumeral n s.2 in (d.0, sym d.1, s.0, s.1)
 atom_spelled (Integer z) s = integer_spelled z s
-atom_spelled (Exponent z) s = (integer_spelled z (wider z s), s)
+atom_spelled (Exponent z) s = (integer_spelled z (wide z s), s)
 atom_spelled (Quoted text) s = string_spelled text s
 
 atoms_spelled : (atoms : List Atom) → All IsSayableAtom atoms → SpellAtoms (map atom_text atoms) atoms
@@ -128,7 +121,7 @@ atom_bare (Said word) f s = f
 atom_bare (Named id) f s = name_bare id s
 atom_bare (Number least most n) f s = decimal_bare n s.2
 atom_bare (Integer z) f s = signed_bare z s
-atom_bare (Exponent z) f s = signed_bare z (wider z s)
+atom_bare (Exponent z) f s = signed_bare z (wide z s)
 atom_bare (Quoted text) f s = absurd f
 
 bare_append : (xs ys : List ℕ) → is_bare xs ≡ true → are_bare ys ≡ true → is_bare (xs ++ ys) ≡ true

@@ -8,10 +8,11 @@ use Rattle.netlist_schema.specs.Types.{CellBody, CellId, Lib, LibHead, Object}
 use Rattle.netlist_schema.specs.declared.ids.Object.TheVariants.{Directory, Interface, Contents, Notes}
 use Rattle.edif_spec.proofs.CellPlaces.{all_append_parts}
 use Rattle.edit_core.specs.Objects.{Grown, IsThere, Outside, face_of, of_contents, of_interface, outside_at, outside_of}
-use Rattle.edit_core.proofs.There.{there_stays}
+use Rattle.edit_core.proofs.There.{there_stays, some_from_map}
 use Rattle.edit_core.specs.declared.reply.Reply.{Reply}
 use Rattle.edit_spec.specs.Step.{run}
 use Rattle.edit_spec.specs.declared.ops.Op.{Op}
+use Rattle.edit_spec.proofs.Shown.{outside_there}
 use Rattle.history_spec.specs.Answers.{Answers}
 use Rattle.history_spec.specs.History.{IsLegalFrom, Legal, state_after, state_from, version_at}
 use Rattle.history_spec.specs.State.{State, head, opening}
@@ -54,32 +55,24 @@ by_outside : (found : Option CellBody) (outside : Outside) → option_map outsid
 by_outside None outside e = absurd (cc (e))
 by_outside (Some body) outside e = let same : outside_of body ≡ outside = cc (e) in ap (λ (o : Outside). o.name.id) same
 
-some_outside : (found : Option CellBody) → IsSome found → (outside : Outside) × (option_map outside_of found ≡ Some outside)
-some_outside None is = absurd (cc (is))
-some_outside (Some body) is = (outside_of body, refl)
-
 cell_name_stays : (d e : Design) (id : CellId) → Grown d e → IsSome (cell_at d id) → cell_text e id ≡ cell_text d id
 cell_name_stays d e id g is =
-    let outside = some_outside (cell_at d id) is in
+    let outside = outside_there (cell_at d id) is in
     by_outside (cell_at e id) outside.0 (g.cells id outside.0 outside.1) ∙ sym (by_outside (cell_at d id) outside.0 outside.1)
-
-some_from : {X Y : Type 0} (f : X → Y) (o : Option X) → IsSome (option_map f o) → IsSome o
-some_from f None is = is
-some_from f (Some x) is = refl
 
 cell_words_stay : (d e : Design) (id : CellId) → Grown d e → IsSome (cell_at d id) → (word : List ℕ) → word ∷ lib_text e id ∷ cell_text e id ∷ [] ≡ word ∷ lib_text d id ∷ cell_text d id ∷ []
 cell_words_stay d e id g is word = ap (λ lib. word ∷ lib ∷ cell_text e id ∷ []) (lib_name_stays d e id.lib.0 g) ∙ ap (λ cell. word ∷ lib_text d id ∷ cell ∷ []) (cell_name_stays d e id g is)
 
-words_stay : (d e : Design) (o : Object) → Grown d e → IsThere d o → object_words e o ≡ object_words d o
+pub words_stay : (d e : Design) (o : Object) → Grown d e → IsThere d o → object_words e o ≡ object_words d o
 words_stay d e (Directory lib) g is = ap (λ name. codes "directory" ∷ name ∷ []) (lib_name_stays d e lib.0 g)
-words_stay d e (Interface id) g is = cell_words_stay d e id g (some_from face_of (cell_at d id) (some_from of_interface (option_map face_of (cell_at d id)) is)) (codes "interface")
+words_stay d e (Interface id) g is = cell_words_stay d e id g (some_from_map face_of (cell_at d id) (some_from_map of_interface (option_map face_of (cell_at d id)) is)) (codes "interface")
 words_stay d e (Contents id) g is =
-    cell_words_stay d e id g (some_from (λ (b : CellBody). b.contents) (cell_at d id) (some_from of_contents (option_map (λ (b : CellBody). b.contents) (cell_at d id)) is)) (codes "contents")
+    cell_words_stay d e id g (some_from_map (λ (b : CellBody). b.contents) (cell_at d id) (some_from_map of_contents (option_map (λ (b : CellBody). b.contents) (cell_at d id)) is)) (codes "contents")
 words_stay d e Notes g is = refl
 
 -- ---- along a history
 
-later : (d : Design) (seen more : List Event) → head (state_after d seen) ≤ head (state_after d (seen ++ more))
+pub later : (d : Design) (seen more : List Event) → head (state_after d seen) ≤ head (state_after d (seen ++ more))
 later d seen more =
     subst (λ (s : State). head (state_after d seen) ≤ head s) (sym (state_from-append (opening d) seen more))
     (later_head (state_after d seen) (state_from (state_after d seen) more) (goes_on_from (state_after d seen) more))

@@ -122,7 +122,7 @@ same_runs old new h agree held (step ∷ steps) done said ending k a (inr x) =
 
 -- ---- events of others
 
-filter_append : (k : ℕ) (xs ys : List Event) → exchanges k (xs ++ ys) ≡ exchanges k xs ++ exchanges k ys
+pub filter_append : (k : ℕ) (xs ys : List Event) → exchanges k (xs ++ ys) ≡ exchanges k xs ++ exchanges k ys
 filter_append k [] ys = refl
 filter_append k (x ∷ xs) ys = decide (x.caller == k) (filter (λ e. e.caller == k) (xs ++ ys)) (filter (λ e. e.caller == k) xs) (filter_append k xs ys)
   where

@@ -2,7 +2,7 @@
 use Rattle.std.proofs.Common.{◌≡◌, ◌∙◌, ℕ, suc, ◌+◌, List, [], ◌∷◌, ◌++◌, Bool, true, false, not, ◌&&◌, length, take, drop, refl, ap, sym, arith, append_assoc, append-nil}
 use Rattle.std.specs.Prelude.{filter, cond, codes}
 use Rattle.std.specs.List.{All, AllByRecursion, list_all, before_first, position_or_len, slice_split}
-use Rattle.std.proofs.lemmas.Bool.{and_parts, and_from}
+use Rattle.std.proofs.lemmas.Bool.{and_parts, and_from, not-true}
 use Rattle.std.proofs.lemmas.List.{drop_all, drop_at}
 use Rattle.std.proofs.lemmas.List.Elements.{All-from_recursion}
 use Rattle.std.proofs.lemmas.List.Folds.{list_all-append}
@@ -26,12 +26,8 @@ abbrev pub AreBare : List (List ℕ) → Type 0
 AreBare [] = Unit {0}
 AreBare (word ∷ words) = (is_bare word ≡ true) × AreBare words
 
-not_false : (b : Bool) → not b ≡ true → b ≡ false
-not_false true e = absurd (cc (e))
-not_false false e = refl
-
 no_blank : (b : ℕ) → is_bare_byte b ≡ true → is_blank b ≡ false
-no_blank b e = not_false (is_blank b) (and_parts (not (is_blank b)) (not (is_quote b)) e).0
+no_blank b e = not-true (is_blank b) (and_parts (not (is_blank b)) (not (is_quote b)) e).0
 
 -- ---- the bytes before the first quote
 

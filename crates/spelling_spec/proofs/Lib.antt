@@ -9,6 +9,7 @@ pub mod LexedLemmas
 pub mod Listings
 pub mod Mended
 pub mod OneTreeFault
+pub mod ParseLemmas
 pub mod PlacedListings
 pub mod RowLemmas
 pub mod SpelledTokens

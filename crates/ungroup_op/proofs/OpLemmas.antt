@@ -3,6 +3,7 @@ use Rattle.std.proofs.Common.{Bor, ◌≡◌, ◌⊎◌, ◌↔◌, ◌+◌, inl
 use Rattle.std.specs.Prelude.{IfSome, IsSome, MatchResult, Result, Ok, Err, option_and_then, option_map, option_to_list}
 use Rattle.std.specs.List.{position_from}
 use Rattle.std.specs.Option.{option_copied}
+use Rattle.std.proofs.lemmas.List.{length-map}
 use Rattle.netlist_schema.specs.Design.{Design, insts_in}
 use Rattle.netlist_schema.specs.Types.{CellId, Contents, Inst, Note, Object, TopHead}
 use Rattle.netlist_schema.specs.Valid.{IsValid}
@@ -259,14 +260,9 @@ pub planned_here : (around : Option Contents) (inst : List ℕ) (within : Option
 planned_here around inst within read notes places made same also is =
     subst (λ v. IsMade around inst within v read.places.items made) same (subst (λ v. IsMade around inst within notes v made) also is)
 
--- a place for each note
-length_map : {A B : Type 0} (f : A → B) (xs : List A) → length (map f xs) ≡ length xs
-length_map f [] = refl
-length_map f (x ∷ xs) = ap suc (length_map f xs)
-
 places_long : (d : Design) (cell : CellId) (inst : List ℕ) (top : Option TopHead) (notes : List Note) → length (places_of d cell inst top notes) ≡ length notes
-places_long d cell inst None notes = length_map (λ _. let none : Option ℕ = None in none) notes
-places_long d cell inst (Some t) notes = length_map (λ (note : Note). crossing d cell inst t.cell note.path) notes
+places_long d cell inst None notes = length-map notes (λ _. let none : Option ℕ = None in none)
+places_long d cell inst (Some t) notes = length-map notes (λ (note : Note). crossing d cell inst t.cell note.path)
 
 pub read_long : (d : Design) (cell : CellId) (inst : List ℕ) (read : ReadNotes) (places : List (Option ℕ)) (notes : List Note) → AreRead d cell inst read → places ≡ read.places.items → notes ≡ read.notes
     → length places ≡ length notes

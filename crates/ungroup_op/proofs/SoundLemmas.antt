@@ -1,6 +1,6 @@
 -- The contents of a cell of a valid design.
 use Rattle.std.proofs.Common.{◌≡◌, ◌<◌, ◌≤◌, inl, inr, ℕ, zero, suc, arith, List, [], ◌∷◌, length, get_or, refl, sym, ap, subst, ◌∙◌, Option, Some, None, slice_get}
-use Rattle.std.specs.Prelude.{IfSome, IsSomeAnd, flat_map, option_and_then}
+use Rattle.std.specs.Prelude.{IfSome, IsSomeAnd, flat_map}
 use Rattle.std.specs.List.{All}
 use Rattle.std.specs.Option.{option_map_or}
 use Rattle.std.proofs.lemmas.Option.{slice_get_within}
@@ -13,11 +13,8 @@ use Rattle.flat_spec.proofs.PinLemmas.{AllPairs-ascends, ends-member, joined_onc
 use Rattle.ungroup_spec.specs.Groups.{ends_of_net}
 use Rattle.ungroup_spec.proofs.FreshLemmas.{All-member, member-All}
 use Rattle.ungroup_spec.proofs.PlaceLemmas.{slice_get-member}
+use Rattle.ungroup_spec.proofs.AtLemmas.{contents-body}
 use Rattle.net_groups.specs.Heads.{AreSound, IsLow}
-
-body_of : (o : Option CellBody) (c : Contents) → option_and_then (λ (b : CellBody). b.contents) o ≡ Some c → (b : CellBody) × (o ≡ Some b) × (b.contents ≡ Some c)
-body_of None c is = absurd (cc is)
-body_of (Some b) c is = (b, refl, is)
 
 found : (nets : List Net) (n : ℕ) (e : End) → Member (ends_of_net nets n) e → (net : Net) × (slice_get nets n ≡ Some net) × Member net.ends e
 found nets n e m = go (slice_get nets n) m
@@ -35,7 +32,7 @@ place_of_member (x ∷ nets) net m = elim m [
 
 pub sound_at : (d : Design) (id : CellId) (c : Contents) → IsValid d → contents_at d id ≡ Some c → AreSound c
 sound_at d id c valid is =
-    let b = body_of (cell_at d id) c is in
+    let b = contents-body (cell_at d id) c is in
     let body = b.0 in
     let good : IsValidCell d id body = valid.cells id body b.1 in
     let insts : insts_of body ≡ c.insts = ap insts_in b.2 in

@@ -1,6 +1,6 @@
 -- The instances afterwards, as they are listed.
-use Rattle.std.proofs.Common.{◌≡◌, ◌≤◌, ◌<◌, ◌+◌, ◌-◌, ◌^◌, ℕ, suc, arith, List, [], ◌∷◌, ◌++◌, length, length-drop, get_or, drop, map, take, Option, Some, slice_get, refl, sym, ap, ◌∙◌, append_assoc}
-use Rattle.std.proofs.lemmas.List.{take_all}
+use Rattle.std.proofs.Common.{◌≡◌, ◌≤◌, ◌<◌, ◌+◌, ◌-◌, ◌^◌, ℕ, arith, List, [], ◌++◌, length, length-drop, get_or, drop, map, take, Option, Some, slice_get, sym, ap, ◌∙◌, append_assoc}
+use Rattle.std.proofs.lemmas.List.{length-map, take_all}
 use Rattle.std.proofs.lemmas.Option.{get_or_from_slice_get}
 use Rattle.netlist_schema.specs.Types.{Contents, Inst, Name}
 use Rattle.ungroup_spec.specs.Dissolved.{children, insts_after, inst_name, with_inst_name}
@@ -12,14 +12,10 @@ pub item_is : (insts around : List Inst) (place : ℕ) (item inst : Inst) → in
 item_is insts around place item inst same is at =
     is ∙ ap (λ v. get_or v place item) same ∙ get_or_from_slice_get around place inst item at
 
-length_map : {A B : Type 0} (f : A → B) (xs : List A) → length (map f xs) ≡ length xs
-length_map f [] = refl
-length_map f (x ∷ xs) = ap suc (length_map f xs)
-
 pub few_names : (insts around children within : List Inst) → insts ≡ around → children ≡ within → length around ≤ 1048576 → length within ≤ 1048576
     → length (map (λ (i : Inst). i.name.id) insts) + length children < 2 ^ 62
 few_names insts around children within e f p q =
-    omega (arith, length_map (λ (i : Inst). i.name.id) insts, ap length e, ap length f, p, q)
+    omega (arith, length-map insts (λ (i : Inst). i.name.id), ap length e, ap length f, p, q)
 
 pub insts_are : (around : Contents) (place : ℕ) (inst : Inst) (within : Contents) (insts inner : List Inst) (item : Inst) (m0 m1 m2 m3 : List Inst) → insts ≡ around.insts → inner ≡ within.insts
     → item ≡ inst → m0 ≡ [] → m1 ≡ m0 ++ take place insts → m2 ≡ m1 ++ named_up inst_name with_inst_name (map (λ (i : Inst). i.name.id) insts) item.name inner

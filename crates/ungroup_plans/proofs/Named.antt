@@ -3,11 +3,12 @@ use Rattle.std.proofs.Common.{◌≡◌, ◌<◌, ◌≤◌, ◌+◌, ◌^◌, �
 use Rattle.std.specs.Prelude.{◌||◌}
 use Rattle.std.specs.List.{list_any}
 use Rattle.std.proofs.lemmas.List.{map-append, take_more, take_all}
+use Rattle.flat_spec.proofs.RunLemmas.{all_found}
 use Rattle.edit_core.specs.Find.{is_name}
 use Rattle.netlist_schema.specs.Types.{Name}
 use Rattle.ungroup_spec.specs.Names.{named_up, name_up}
 use Rattle.free_names.specs.Taken.{IsNamedUp, IsOf, lower}
-use Rattle.ungroup_plans.proofs.Steps.{all_found, drop_first}
+use Rattle.ungroup_plans.proofs.Steps.{drop_first}
 
 -- ---- sets of names, in whatever order
 

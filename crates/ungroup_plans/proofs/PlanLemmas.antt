@@ -4,6 +4,7 @@ use Rattle.std.specs.Prelude.{is_none, option_and_then, option_map, slice_range}
 use Rattle.std.specs.Option.{option_or}
 use Rattle.netlist_schema.specs.Design.{insts_in}
 use Rattle.netlist_schema.specs.Types.{Contents, Inst, Note}
+use Rattle.netlist_schema.proofs.Lists.{take_front, drop_front}
 use Rattle.edit_core.specs.Find.{inst_place}
 use Rattle.edit_core.specs.Rule.{first, is_leaf, no_inst, refuse}
 use Rattle.edit_core.specs.declared.reply.Reply.{Reply}
@@ -46,16 +47,6 @@ pub only_limits : (around : Contents) (name : List ℕ) (within : Contents) (pla
 only_limits around name within place inst at is =
     ap (λ o. option_or (refuse (is_none o) NoInst) (first (is_leaf (Some within) ∷ limits_of (site_of (Some around) name (Some within))))) (sym at)
     ∙ ap (λ o. first (limits_of o)) (site_is around name within place inst at is)
-
--- the instances that stand in the place of the instance are its children
-take_front : {A : Type 0} (xs ys : List A) → take (length xs) (xs ++ ys) ≡ xs
-take_front [] [] = refl
-take_front [] (y ∷ ys) = refl
-take_front (x ∷ xs) ys = ap (λ v. x ∷ v) (take_front xs ys)
-
-drop_front : {A : Type 0} (xs ys : List A) → drop (length xs) (xs ++ ys) ≡ ys
-drop_front [] ys = refl
-drop_front (x ∷ xs) ys = drop_front xs ys
 
 pub children_are : (around : Contents) (place : ℕ) (inst : Inst) (within : Contents) (insts found : List Inst) (count : ℕ) → place < length around.insts → count ≡ length within.insts
     → insts ≡ insts_after (site around place inst within) → found ≡ slice_range insts place (place + count) → found ≡ children (site around place inst within)

@@ -1,17 +1,18 @@
 -- The contents afterwards: which ends each net joins, and where each instance stands.
-use Rattle.std.proofs.Common.{◌≡◌, ◌+◌, ℕ, List, [], ◌∷◌, ◌++◌, Bool, true, false, length, map, filter, refl, sym, ap, subst, ◌∙◌, Option, Some, None, slice_get}
+use Rattle.std.proofs.Common.{◌≡◌, ◌+◌, ℕ, List, [], ◌∷◌, ◌++◌, Bool, true, false, length, map, filter, refl, sym, ap, subst, ◌∙◌, Some, slice_get}
 use Rattle.std.specs.Prelude.{cond, option_map}
 use Rattle.std.specs.List.{Contains, enumerate_from, range_with_len}
 use Rattle.std.proofs.lemmas.List.{map-append}
 use Rattle.std.proofs.lemmas.List.Elements.{filter-append}
 use Rattle.std.proofs.lemmas.Option.{slice_get-map}
 use Rattle.netlist_schema.specs.Types.{End, Name, Net}
-use Rattle.flat_spec.proofs.ListLemmas.{Member, Contains-member, Member-contains}
+use Rattle.netlist_schema.proofs.Lists.{get_unmapped}
+use Rattle.flat_spec.proofs.ListLemmas.{Member, Contains-member, Member-contains, Member-filter, Member-from_filter}
 use Rattle.ungroup_spec.specs.Groups.{Site, Part, outer, inner, IsPart, AreOneGroup, parts, is_grouped, group, head_of, is_head, heads, became}
 use Rattle.ungroup_spec.specs.Dissolved.{ends_up, ends_after, kept, loose, joined, net_name, with_net_name, new_nets, nets_after}
 use Rattle.ungroup_spec.specs.Names.{name_up, named_up}
 use Rattle.ungroup_spec.proofs.GroupLemmas.{parts-member, member-part, grouped-true, grouped-from, group-sym, head_of-head, one_head, head-is, became-at, became-only}
-use Rattle.ungroup_spec.proofs.PlaceLemmas.{Member-filter, Member-from_filter, Member-flat_map, Member-from_flat_map, slice_get-member}
+use Rattle.ungroup_spec.proofs.PlaceLemmas.{Member-flat_map, Member-from_flat_map, slice_get-member}
 
 -- what does not depend on names stays when things get names
 pub map-named_up : {X Y : Type 0} (name_of : X → Name) (with_name : Name → X → X) (f : X → Y) → ((n : Name) (x : X) → f (with_name n x) ≡ f x)
@@ -67,13 +68,6 @@ ends-of_nets s =
 pub mapped-at : {A B : Type 0} (f : A → B) (xs : List A) (k : ℕ) (x : A) → slice_get xs k ≡ Some x → slice_get (map f xs) k ≡ Some (f x)
 mapped-at f xs k x e = slice_get-map f xs k ∙ ap (option_map f) e
 
-pub mapped-from : {A B : Type 0} (f : A → B) (xs : List A) (k : ℕ) (y : B) → slice_get (map f xs) k ≡ Some y → (x : A) × (slice_get xs k ≡ Some x) × (f x ≡ y)
-mapped-from {A} {B} f xs k y e = go (slice_get xs k) refl (sym (slice_get-map f xs k) ∙ e)
-  where
-    go : (o : Option A) → slice_get xs k ≡ o → option_map f o ≡ Some y → (x : A) × (slice_get xs k ≡ Some x) × (f x ≡ y)
-    go None is e = absurd (cc e)
-    go (Some x) is e = (x, is, cc e)
-
 -- an end of a group's net is one of a net of the group
 pub after-from : (s : Site) (h : Part) (e : End) → Member (ends_after s h) e → (y : Part) × IsPart s y × AreOneGroup s h y × Member (ends_up s y) e
 after-from s h e m =
@@ -92,7 +86,7 @@ pub joins-from : (s : Site) (k : ℕ) (net : Net) (e : End) → slice_get (nets_
 joins-from s k net e at c =
     let ends_at : slice_get (map (ends_after s) (heads s)) k ≡ Some net.ends =
     subst (λ v. slice_get v k ≡ Some net.ends) (ends-of_nets s) (mapped-at (λ (n : Net). n.ends) (nets_after s) k net at) in
-    let head = mapped-from (ends_after s) (heads s) k net.ends ends_at in
+    let head = get_unmapped (ends_after s) (heads s) k net.ends ends_at in
     let h_is = head-is s head.0 (slice_get-member (heads s) k head.0 head.1) in
     let m : Member (ends_after s head.0) e = subst (λ v. Member v e) (sym head.2) (Contains-member net.ends e c) in
     let from = after-from s head.0 e m in
@@ -104,7 +98,7 @@ pub joins-to : (s : Site) (y : Part) (e : End) → IsPart s y → Member (ends_u
 joins-to s y e is m =
     let head = head_of-head s y is in
     let at = mapped-at (ends_after s) (heads s) (became s y) (head_of s y) (became-at s y is) in
-    let found = mapped-from (λ (n : Net). n.ends) (nets_after s) (became s y) (ends_after s (head_of s y))
+    let found = get_unmapped (λ (n : Net). n.ends) (nets_after s) (became s y) (ends_after s (head_of s y))
     (subst (λ v. slice_get v (became s y) ≡ Some (ends_after s (head_of s y))) (sym (ends-of_nets s)) at) in
     let there = after-to s (head_of s y) y e is (group-sym s y (head_of s y) head.grouped) m in
     (found.0, found.1, Member-contains found.0.ends e (subst (λ v. Member v e) (sym found.2) there))

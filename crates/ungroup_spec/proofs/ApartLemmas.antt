@@ -5,14 +5,14 @@ use Rattle.std.specs.Option.{option_map_or}
 use Rattle.netlist_schema.specs.Types.{End, Net}
 use Rattle.flat_spec.specs.ConnectionTest.{bit_of}
 use Rattle.flat_spec.specs.Paths.{Bit, own, on}
-use Rattle.flat_spec.proofs.ListLemmas.{Member, Member-append_left, Ascends, Ascends-append}
+use Rattle.flat_spec.proofs.ListLemmas.{Member, Member-append_left, Ascends, Ascends-append, Ascends-filter}
 use Rattle.flat_spec.proofs.PinLemmas.{joined_once}
 use Rattle.ungroup_spec.specs.Dissolved.{moved_place, outer_end_at, inner_end_at, ends_up, ends_after, nets_after}
 use Rattle.ungroup_spec.specs.Groups.{Site, Part, outer, inner, ends_of_net, ends_of_part, parts, is_grouped, group, heads, head_of}
 use Rattle.ungroup_spec.proofs.AfterLemmas.{ends-of_nets, after-from}
 use Rattle.ungroup_spec.proofs.EndLemmas.{outer-own_from, outer-on_from, inner-own, inner-on_from, outer_at-own, outer_at-on, inner_at-own, inner_at-on, place-moved}
 use Rattle.ungroup_spec.proofs.GroupLemmas.{PartBefore, PartBefore-not_both, parts-ascends, heads-ascend, head-is, one_head}
-use Rattle.ungroup_spec.proofs.PlaceLemmas.{Ascends-filter, Member-from_flat_map}
+use Rattle.ungroup_spec.proofs.PlaceLemmas.{Member-from_flat_map}
 
 -- no element stands twice
 abbrev pub Apart : {A : Type 0} → List A → Type 0

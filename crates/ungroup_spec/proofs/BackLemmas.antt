@@ -1,10 +1,11 @@
 -- What meets afterwards came from what met before; and so what is connected stays connected, both ways.
 use Rattle.std.proofs.Common.{◌≡◌, ◌≤◌, ◌<◌, ◌+◌, ◌-◌, ◌⊎◌, ℕ, List, [], ◌∷◌, ◌++◌, length, refl, sym, ap, subst, inl, inr, arith, Some}
+use Rattle.std.proofs.lemmas.Option.{slice_get_within}
 use Rattle.flat_spec.specs.Paths.{Bit, at_path, nets_at, on, own}
 use Rattle.flat_spec.specs.Connection.{AreNeighbours, Connected}
 use Rattle.flat_spec.proofs.ConnectionLemmas.{Connected-sym}
 use Rattle.ungroup_spec.proofs.Cut.{Carries, Cut, Dissolves, IsChild, JoinsIn, Keeps, Shifts}
-use Rattle.ungroup_spec.proofs.Ways.{Connected-under, Way, meeting, meets_at, neighbour-net, slice_get-below}
+use Rattle.ungroup_spec.proofs.Ways.{Connected-under, Way, meeting, meets_at, neighbour-net}
 use Rattle.std.specs.Prelude.{slice_get}
 use Rattle.netlist_schema.specs.Types.{CellId}
 use Rattle.netlist_schema.specs.Design.{Design}
@@ -66,14 +67,14 @@ module _ (q : Cut) (new : Design) (is : Dissolves q new) where
       let kid_here : IsChild new x t b = subst (λ v. IsChild new v t b) at kid in
       let over_here : JoinsIn new x m (on t bit) = subst (λ v. JoinsIn new v m (on t bit)) at over in
       let low = own_back b n bit inner in
-      let low_net : low.0 < length (nets_at q.old b) = slice_get-below (nets_at q.old b) low.0 low.2.0 low.2.1 in
+      let low_net : low.0 < length (nets_at q.old b) = slice_get_within (nets_at q.old b) low.0 low.2.0 low.2.1 in
       elim (CellId-cases x q.cell) [
         | inr other ↦
             let kid_old : IsChild q.old x t b =
             (kid_here.0, subst (λ (v : List Inst). slice_get v t ≡ Some kid_here.0) (is.other_insts x other) kid_here.1, kid_here.2) in
             let over_old : JoinsIn q.old x m (on t bit) =
             (over_here.0, subst (λ (v : List Net). slice_get v m ≡ Some over_here.0) (is.other_nets x other) over_here.1, over_here.2) in
-            let up_net : m < length (nets_at q.old x) = slice_get-below (nets_at q.old x) m over_old.0 over_old.1 in (
+            let up_net : m < length (nets_at q.old x) = slice_get_within (nets_at q.old x) m over_old.0 over_old.1 in (
               [],
               m,
               t ∷ [],
@@ -90,7 +91,7 @@ module _ (q : Cut) (new : Design) (is : Dissolves q new) where
                   let from = is.on_from m shift.0 t bit shift.1 over_cell in
                   let kid_old : IsChild q.old x shift.0 b = subst (λ v. IsChild q.old v shift.0 b) (sym here) ((is.shifted shift.0 t b shift.1).1 kid_cell) in
                   let over_old : JoinsIn q.old x from.0 (on shift.0 bit) = subst (λ v. JoinsIn q.old v from.0 (on shift.0 bit)) (sym here) from.2 in
-                  let up_net : from.0 < length (nets_at q.old x) = slice_get-below (nets_at q.old x) from.0 over_old.0 over_old.1 in (
+                  let up_net : from.0 < length (nets_at q.old x) = slice_get_within (nets_at q.old x) from.0 over_old.0 over_old.1 in (
                     [],
                     from.0,
                     shift.0 ∷ [],
@@ -103,7 +104,7 @@ module _ (q : Cut) (new : Design) (is : Dissolves q new) where
                   let from = is.on_placed_from m inside.0 bit inside.1 (subst (λ v. JoinsIn new q.cell m (on v bit)) inside.2 over_cell) in
                   let kid_old : IsChild q.old q.child inside.0 b =
                   is.placed_from inside.0 b inside.1 (subst (λ v. IsChild new q.cell v b) inside.2 kid_cell) in
-                  let up_net : from.0 < length (nets_at q.old q.child) = slice_get-below (nets_at q.old q.child) from.0 from.2.0 from.2.1 in
+                  let up_net : from.0 < length (nets_at q.old q.child) = slice_get_within (nets_at q.old q.child) from.0 from.2.0 from.2.1 in
                   let dissolved : IsChild q.old x q.place q.child = subst (λ v. IsChild q.old v q.place q.child) (sym here) is.dissolved in (
                     q.place ∷ [],
                     from.0,

@@ -1,7 +1,7 @@
 -- The images of nets are the nets to which they are carried.
-use Rattle.std.proofs.Common.{◌≡◌, ◌<◌, ◌⊎◌, ℕ, List, [], ◌∷◌, Bool, true, false, length, refl, sym, ap, subst, ◌∙◌, inl, inr, Some, slice_get}
+use Rattle.std.proofs.Common.{◌≡◌, ◌<◌, ◌⊎◌, ℕ, List, [], ◌∷◌, true, false, length, refl, sym, ap, subst, ◌∙◌, inl, inr, Some, slice_get}
 use Rattle.std.specs.Prelude.{◌==◌, cond, option_and_then, option_map}
-use Rattle.std.proofs.lemmas.Bool.{and_parts, and_from, cases_eq, eqb-true, eq-eqb}
+use Rattle.std.proofs.lemmas.Bool.{and_parts, and_from, cases_eq, eqb-true, eq-eqb, false_from_ne_true}
 use Rattle.std.proofs.lemmas.List.{length-map}
 use Rattle.std.proofs.lemmas.Option.{slice_get_within}
 use Rattle.netlist_schema.specs.Design.{Design}
@@ -13,6 +13,7 @@ use Rattle.flat_spec.specs.Paths.{Bit, on, at_path, nets_at, Reaches, IsNet}
 use Rattle.flat_spec.specs.Types.{NetAt}
 use Rattle.flat_spec.proofs.ListLemmas.{Member}
 use Rattle.flat_spec.proofs.PathLemmas.{Some-same, Reaches-parts, Reaches-cons, IsNet-parts, IsNet-from}
+use Rattle.edit_core.proofs.Levels.{is_same_cell}
 use Rattle.ungroup_spec.specs.Dissolved.{moved_place, nets_after, ends_after}
 use Rattle.ungroup_spec.specs.Groups.{Site, Part, outer, inner, ends_of_part, IsPart, became, heads, head_of}
 use Rattle.ungroup_spec.specs.KeepsNets.{after}
@@ -30,23 +31,12 @@ use Rattle.ungroup_spec.proofs.ImageLemmas.{CellId-cases}
 
 -- ---- tests
 
-pub same_cell-true : (a b : CellId) → same_cell a b ≡ true → a ≡ b
-same_cell-true a b e =
-    let both = and_parts (a.lib.0 == b.lib.0) (a.slot == b.slot) e in
-    let lib = eqb-true a.lib.0 b.lib.0 both.0 in
-    let slot = eqb-true a.slot b.slot both.1 in
-    λ i. record { lib = record { 0 = lib i }; slot = slot i }
-
 pub same_cell-refl : (a b : CellId) → a ≡ b → same_cell a b ≡ true
 same_cell-refl a b e =
     and_from (a.lib.0 == b.lib.0) (a.slot == b.slot) (eq-eqb a.lib.0 b.lib.0 (ap (λ (v : CellId). v.lib.0) e)) (eq-eqb a.slot b.slot (ap (λ (v : CellId). v.slot) e))
 
-pub is-false : (b : Bool) → (b ≡ true → ⊥) → b ≡ false
-is-false true h = absurd (h refl)
-is-false false h = refl
-
 pub same_cell-false : (a b : CellId) → (a ≡ b → ⊥) → same_cell a b ≡ false
-same_cell-false a b other = is-false (same_cell a b) (λ e. other (same_cell-true a b e))
+same_cell-false a b other = false_from_ne_true (same_cell a b) (λ e. other (is_same_cell a b e))
 
 -- an instance is the dissolved one, or is not
 pub dissolved-cases : (q : Dissolving) (c : CellId) (i : ℕ)
@@ -55,9 +45,9 @@ dissolved-cases q c i =
     elim (CellId-cases c q.cell) [
       | inl here ↦ elim (cases_eq i q.site.place) [
         | inl place ↦ inl (and_from (same_cell c q.cell) (i == q.site.place) (same_cell-refl c q.cell here) (eq-eqb i q.site.place place), here, place)
-        | inr other ↦ inr (is-false (is_dissolved q c i) (λ e. other (eqb-true i q.site.place (and_parts (same_cell c q.cell) (i == q.site.place) e).1)), λ _ place. other place)
+        | inr other ↦ inr (false_from_ne_true (is_dissolved q c i) (λ e. other (eqb-true i q.site.place (and_parts (same_cell c q.cell) (i == q.site.place) e).1)), λ _ place. other place)
       ]
-      | inr other ↦ inr (is-false (is_dissolved q c i) (λ e. other (same_cell-true c q.cell (and_parts (same_cell c q.cell) (i == q.site.place) e).0)), λ here _. other here)
+      | inr other ↦ inr (false_from_ne_true (is_dissolved q c i) (λ e. other (is_same_cell c q.cell (and_parts (same_cell c q.cell) (i == q.site.place) e).0)), λ here _. other here)
     ]
 
 -- where another instance comes to stand

@@ -1,29 +1,20 @@
 -- An operation that nothing refuses dissolves the instance that it names.
-use Rattle.std.proofs.Common.{◌≡◌, ◌≤◌, ℕ, nat_lt, List, [], ◌∷◌, Bool, true, false, Option, Some, None, refl, sym, ap, subst, ◌∙◌}
+use Rattle.std.proofs.Common.{◌≡◌, ◌≤◌, ℕ, nat_lt, List, [], ◌∷◌, false, Option, Some, None, refl, sym, ap, subst, ◌∙◌}
 use Rattle.std.specs.Prelude.{option_map, is_none, option_and_then, slice_get}
 use Rattle.std.proofs.lemmas.Bool.{false≢true, ltb-false}
 use Rattle.netlist_schema.specs.Design.{Design, insts_in}
 use Rattle.netlist_schema.specs.Types.{CellId, Contents, Inst}
 use Rattle.edit_core.specs.Edit.{Edit, edited}
 use Rattle.edit_core.specs.Find.{cell_named, inst_place, inst_named}
-use Rattle.edit_core.specs.Rule.{refuse, first, no_lib, no_cell, no_inst, is_leaf}
+use Rattle.edit_core.specs.Rule.{first, no_lib, no_cell, no_inst, is_leaf}
 use Rattle.edit_core.specs.Seen.{inside, contents_at, named}
 use Rattle.edit_core.specs.declared.reply.CellName.{CellName}
-use Rattle.edit_core.specs.declared.reply.Reply.{Reply}
 use Rattle.edit_core.specs.declared.reply.Reply.TheVariants.{NoCell, IsLeaf, TooMany}
 use Rattle.flat_spec.proofs.PathLemmas.{Some-same}
+use Rattle.edit_core.proofs.Refusals.{first_none, not_refused}
 use Rattle.ungroup_spec.specs.Groups.{Site}
 use Rattle.ungroup_spec.specs.MovedNotes.{changed_notes}
 use Rattle.ungroup_spec.specs.Ungroup.{site_of, inside_inst, site_named, over, count_insts, count_nets, count_ends, edits_if, edits_at, ungroup, HasDissolved, IsSite}
-
--- where none of the refusals applies, the first does not, and none of the others
-none-parts : (r : Option Reply) (rs : List (Option Reply)) → first (r ∷ rs) ≡ None → (r ≡ None) × (first rs ≡ None)
-none-parts None rs e = (refl, e)
-none-parts (Some reply) rs e = absurd (cc e)
-
-refuse-none : (test : Bool) (reply : Reply) → refuse test reply ≡ None → test ≡ false
-refuse-none false reply e = refl
-refuse-none true reply e = absurd (cc e)
 
 -- what is not absent is there
 there : {A : Type 0} (o : Option A) → is_none o ≡ false → (x : A) × (o ≡ Some x)
@@ -31,7 +22,7 @@ there None e = absurd (false≢true (sym e))
 there (Some x) e = (x, refl)
 
 over-none : (limit : ℕ) (count : Site → ℕ) (s : Site) → over limit count (Some s) ≡ None → count s ≤ limit
-over-none limit count s e = ltb-false limit (count s) (refuse-none (nat_lt limit (count s)) (TooMany limit) e)
+over-none limit count s e = ltb-false limit (count s) (not_refused (nat_lt limit (count s)) (TooMany limit) e)
 
 -- the site, part by part
 pub record IsSeen (d : Design) (around : Option Contents) (name : List ℕ) (within : Option Contents) : Type 0 where
@@ -74,15 +65,15 @@ dissolves d cell name allowed =
     let around = inside d cell in
     let within = inside_inst d cell name in
     let site = site_named d cell name in
-    let n0 = none-parts (no_lib at) (no_cell at ∷ no_inst around name ∷ is_leaf within ∷ over 1048576 count_insts site ∷ over 1048576 count_nets site ∷ over 4194304 count_ends site ∷ []) allowed in
-    let n1 = none-parts (no_cell at) (no_inst around name ∷ is_leaf within ∷ over 1048576 count_insts site ∷ over 1048576 count_nets site ∷ over 4194304 count_ends site ∷ []) n0.1 in
-    let n2 = none-parts (no_inst around name) (is_leaf within ∷ over 1048576 count_insts site ∷ over 1048576 count_nets site ∷ over 4194304 count_ends site ∷ []) n1.1 in
-    let n3 = none-parts (is_leaf within) (over 1048576 count_insts site ∷ over 1048576 count_nets site ∷ over 4194304 count_ends site ∷ []) n2.1 in
-    let n4 = none-parts (over 1048576 count_insts site) (over 1048576 count_nets site ∷ over 4194304 count_ends site ∷ []) n3.1 in
-    let n5 = none-parts (over 1048576 count_nets site) (over 4194304 count_ends site ∷ []) n4.1 in
-    let n6 = none-parts (over 4194304 count_ends site) [] n5.1 in
-    let id = there (cell_named d cell) (refuse-none (is_none (cell_named d cell)) NoCell n1.0) in
-    let s = seen d name around within refl (refuse-none (is_none within) IsLeaf n3.0) in
+    let n0 = first_none (no_lib at) (no_cell at ∷ no_inst around name ∷ is_leaf within ∷ over 1048576 count_insts site ∷ over 1048576 count_nets site ∷ over 4194304 count_ends site ∷ []) allowed in
+    let n1 = first_none (no_cell at) (no_inst around name ∷ is_leaf within ∷ over 1048576 count_insts site ∷ over 1048576 count_nets site ∷ over 4194304 count_ends site ∷ []) n0.1 in
+    let n2 = first_none (no_inst around name) (is_leaf within ∷ over 1048576 count_insts site ∷ over 1048576 count_nets site ∷ over 4194304 count_ends site ∷ []) n1.1 in
+    let n3 = first_none (is_leaf within) (over 1048576 count_insts site ∷ over 1048576 count_nets site ∷ over 4194304 count_ends site ∷ []) n2.1 in
+    let n4 = first_none (over 1048576 count_insts site) (over 1048576 count_nets site ∷ over 4194304 count_ends site ∷ []) n3.1 in
+    let n5 = first_none (over 1048576 count_nets site) (over 4194304 count_ends site ∷ []) n4.1 in
+    let n6 = first_none (over 4194304 count_ends site) [] n5.1 in
+    let id = there (cell_named d cell) (not_refused (is_none (cell_named d cell)) NoCell n1.0) in
+    let s = seen d name around within refl (not_refused (is_none within) IsLeaf n3.0) in
     let around_at : contents_at d id.0 ≡ Some s.site.around =
     sym (ap (λ o. option_and_then (contents_at d) o) id.1) ∙ s.contents in
     let made : Option CellId → Option Site → List Edit =

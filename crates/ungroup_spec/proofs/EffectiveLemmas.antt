@@ -4,19 +4,18 @@ use Rattle.std.specs.Prelude.{IfSome, filter_map, nat_eq, option_map}
 use Rattle.std.specs.Cmp.Lexicographic.{pointwise}
 use Rattle.std.specs.List.{All, cons_option, last_or}
 use Rattle.std.specs.Option.{option_map_or}
-use Rattle.std.proofs.lemmas.Bool.{and_parts, and_from, false≢true}
+use Rattle.std.proofs.lemmas.Bool.{false≢true, false_from_ne_true}
 use Rattle.netlist_schema.specs.Design.{Design}
 use Rattle.netlist_schema.specs.Hierarchy.{insts_at}
 use Rattle.netlist_schema.specs.Types.{CellId, Inst, Note, Property}
 use Rattle.netlist_schema.specs.Valid.{IsNoteBelow}
 use Rattle.flat_spec.specs.Effective.{base_properties, insts_along, merged, names_along, notes_for}
 use Rattle.flat_spec.proofs.ListLemmas.{Member}
-use Rattle.flat_spec.proofs.TestLemmas.{same_path}
+use Rattle.flat_spec.proofs.TestLemmas.{names_same, names_refl}
 use Rattle.ungroup_spec.specs.KeepsNets.{after, Bearing, bearing_of, EffectiveStays, IsUngroup}
 use Rattle.ungroup_spec.specs.Maps.{Dissolving, path_after, path_inside}
 use Rattle.ungroup_spec.specs.MovedNotes.{moved_note, moved_path}
 use Rattle.ungroup_spec.proofs.AtLemmas.{insts-here}
-use Rattle.ungroup_spec.proofs.CarriedLemmas.{is-false}
 use Rattle.ungroup_spec.proofs.FreshLemmas.{member-All}
 use Rattle.ungroup_spec.proofs.KeptLemmas.{instances_are_kept, notes_are_moved}
 use Rattle.ungroup_spec.proofs.NamesLemmas.{names_moved}
@@ -24,21 +23,6 @@ use Rattle.ungroup_spec.proofs.PathLemmas.{path-cases, inside-parts, kid-of, wit
 use Rattle.ungroup_spec.proofs.ResolveLemmas.{way-resolves}
 use Rattle.ungroup_spec.proofs.ValidLemmas.{one-path, was}
 use Rattle.ungroup_spec.proofs.Ways.{Way}
-
--- the test whether two paths of identifiers are equal
-names-true : (a b : List (List ℕ)) → pointwise (pointwise nat_eq) a b ≡ true → a ≡ b
-names-true [] [] e = refl
-names-true [] (y ∷ b) e = absurd (false≢true e)
-names-true (x ∷ a) [] e = absurd (false≢true e)
-names-true (x ∷ a) (y ∷ b) e =
-    let parts = and_parts (pointwise nat_eq x y) (pointwise (pointwise nat_eq) a b) e in
-    let head = (same_path x y).0 parts.0 in
-    let tail = names-true a b parts.1 in
-    λ i. head i ∷ tail i
-
-names-refl : (a : List (List ℕ)) → pointwise (pointwise nat_eq) a a ≡ true
-names-refl [] = refl
-names-refl (x ∷ a) = and_from (pointwise nat_eq x x) (pointwise (pointwise nat_eq) a a) ((same_path x x).1 refl) (names-refl a)
 
 module _ (d : Design) (q : Dissolving) (is : IsUngroup d q) where
   -- a path with an image leads somewhere
@@ -75,25 +59,25 @@ module _ (d : Design) (q : Dissolving) (is : IsUngroup d q) where
         go : (b : Bool) → pointwise (pointwise nat_eq) note.path (names_along d top path) ≡ b
             → pointwise (pointwise nat_eq) new.path (names_along (after d q) top moved) ≡ pointwise (pointwise nat_eq) note.path (names_along d top path)
         go true is_b =
-            let old = names-true note.path (names_along d top path) is_b in
+            let old = names_same note.path (names_along d top path) is_b in
             let both : ◌≡◌ {A = Option (List (List ℕ))} (Some new.path) (Some (names_along (after d q) top moved)) =
             sym (was d q is top note new e).path ∙ ap (moved_path d q.cell q.site top) old ∙ names_moved d q is path top moved at in
             let same : new.path ≡ names_along (after d q) top moved = cc both in
-            subst (λ v. pointwise (pointwise nat_eq) v (names_along (after d q) top moved) ≡ true) (sym same) (names-refl (names_along (after d q) top moved)) ∙ sym is_b
+            subst (λ v. pointwise (pointwise nat_eq) v (names_along (after d q) top moved) ≡ true) (sym same) (names_refl (names_along (after d q) top moved)) ∙ sym is_b
         go false is_b =
-            is-false (pointwise (pointwise nat_eq) new.path (names_along (after d q) top moved)) (λ t.
-            let same = names-true new.path (names_along (after d q) top moved) t in
+            false_from_ne_true (pointwise (pointwise nat_eq) new.path (names_along (after d q) top moved)) (λ t.
+            let same = names_same new.path (names_along (after d q) top moved) t in
             let way = image-way path top moved at in
             let one = one-path d q is top note.path (names_along d top path) new.path below.resolves (way-resolves d path top way.0 way.1) (was d q is top note new e).path
             (names_moved d q is path top moved at ∙ ap (λ v. Some v) (sym same)) in
-            false≢true (sym is_b ∙ subst (λ v. pointwise (pointwise nat_eq) note.path v ≡ true) one (names-refl note.path)))
+            false≢true (sym is_b ∙ subst (λ v. pointwise (pointwise nat_eq) note.path v ≡ true) one (names_refl note.path)))
             ∙ sym is_b
 
     -- and one that goes is not for it
     note-gone : (note : Note) → moved_note d q.cell q.site top note ≡ None → pointwise (pointwise nat_eq) note.path (names_along d top path) ≡ false
     note-gone note e =
-        is-false (pointwise (pointwise nat_eq) note.path (names_along d top path)) (λ t.
-        let same = names-true note.path (names_along d top path) t in
+        false_from_ne_true (pointwise (pointwise nat_eq) note.path (names_along d top path)) (λ t.
+        let same = names_same note.path (names_along d top path) t in
         let there = ap (moved_path d q.cell q.site top) same ∙ names_moved d q is path top moved at in
         cc (sym e ∙ ap (option_map (λ p. record note { path = p })) there))
 

@@ -4,6 +4,7 @@ use Rattle.std.specs.Prelude.{◌==◌, cond}
 use Rattle.std.proofs.lemmas.Bool.{eqb-true, eq-eqb, false≢true, lt-ltb, le-ltb}
 use Rattle.std.proofs.lemmas.List.{map-append}
 use Rattle.netlist_schema.specs.Types.{End, Inst}
+use Rattle.netlist_schema.proofs.Lists.{get_behind, get_front, map_drop}
 use Rattle.flat_spec.specs.Paths.{Bit, own, on}
 use Rattle.flat_spec.proofs.ListLemmas.{Member}
 use Rattle.ungroup_spec.specs.Groups.{Site, outer, inner, ends_of_part}
@@ -148,17 +149,6 @@ get-behind (suc p) (x ∷ xs) zs j k =
     let sum : suc p + j ≡ suc (p + j) = omega arith in
     ap (slice_get (x ∷ take p xs ++ zs)) sum ∙ get-behind p xs zs j (omega (arith, k))
 
-get-left : {A : Type 0} (ys zs : List A) (j : ℕ) → j < length ys → slice_get (ys ++ zs) j ≡ slice_get ys j
-get-left [] zs j h = absurd (omega (arith, h))
-get-left (y ∷ ys) zs zero h = refl
-get-left (y ∷ ys) zs (suc j) h = get-left ys zs j (omega (arith, h))
-
-get-right : {A : Type 0} (ys zs : List A) (j : ℕ) → slice_get (ys ++ zs) (length ys + j) ≡ slice_get zs j
-get-right [] zs j = ap (slice_get zs) (omega arith)
-get-right (y ∷ ys) zs j =
-    let sum : length (y ∷ ys) + j ≡ suc (length ys + j) = omega arith in
-    ap (slice_get (y ∷ ys ++ zs)) sum ∙ get-right ys zs j
-
 get-drop : {A : Type 0} (n : ℕ) (xs : List A) (j : ℕ) → slice_get (drop n xs) j ≡ slice_get xs (n + j)
 get-drop zero xs j = ap (slice_get xs) (omega arith)
 get-drop (suc n) [] j = refl
@@ -171,7 +161,7 @@ module _ {A : Type 0} (p : ℕ) (ys xs : List A) (within : p < length xs) where
   spliced-before t h = get-before p xs (ys ++ drop (p + 1) xs) t h (omega (arith, within))
 
   pub spliced-in : (j : ℕ) → j < length ys → slice_get (spliced p ys xs) (p + j) ≡ slice_get ys j
-  spliced-in j h = get-behind p xs (ys ++ drop (p + 1) xs) j (omega (arith, within)) ∙ get-left ys (drop (p + 1) xs) j h
+  spliced-in j h = get-behind p xs (ys ++ drop (p + 1) xs) j (omega (arith, within)) ∙ get_front ys (drop (p + 1) xs) j h
 
   pub spliced-behind : (i t : ℕ) → p < i → t + 1 ≡ i + length ys → slice_get (spliced p ys xs) t ≡ slice_get xs i
   spliced-behind i t h e =
@@ -180,23 +170,18 @@ module _ {A : Type 0} (p : ℕ) (ys xs : List A) (within : p < length xs) where
       let back : (p + 1) + rest ≡ i = omega (arith, h) in
       ap (slice_get (spliced p ys xs)) place
       ∙ get-behind p xs (ys ++ drop (p + 1) xs) (length ys + rest) (omega (arith, within))
-      ∙ get-right ys (drop (p + 1) xs) rest ∙ get-drop (p + 1) xs rest ∙ ap (slice_get xs) back
+      ∙ get_behind ys (drop (p + 1) xs) rest ∙ get-drop (p + 1) xs rest ∙ ap (slice_get xs) back
 
 map-take : {A B : Type 0} (f : A → B) (n : ℕ) (xs : List A) → map f (take n xs) ≡ take n (map f xs)
 map-take f zero xs = refl
 map-take f (suc n) [] = refl
 map-take f (suc n) (x ∷ xs) = ap (λ v. f x ∷ v) (map-take f n xs)
 
-map-drop : {A B : Type 0} (f : A → B) (n : ℕ) (xs : List A) → map f (drop n xs) ≡ drop n (map f xs)
-map-drop f zero xs = refl
-map-drop f (suc n) [] = refl
-map-drop f (suc n) (x ∷ xs) = map-drop f n xs
-
 pub map-spliced : {A B : Type 0} (f : A → B) (p : ℕ) (ys xs : List A) → map f (spliced p ys xs) ≡ spliced p (map f ys) (map f xs)
 map-spliced f p ys xs =
     map-append f (take p xs) (ys ++ drop (p + 1) xs)
     ∙ (λ i. map-take f p xs i ++ map-append f ys (drop (p + 1) xs) i)
-    ∙ (λ i. take p (map f xs) ++ (map f ys ++ map-drop f (p + 1) xs i))
+    ∙ (λ i. take p (map f xs) ++ (map f ys ++ map_drop f (p + 1) xs i))
 
 -- what does not depend on the instances' names
 pub map-insts_after : {B : Type 0} (s : Site) (f : Inst → B) → ((n : _) (x : Inst) → f (with_inst_name n x) ≡ f x)
@@ -206,4 +191,4 @@ map-insts_after s f same =
     map-named_up inst_name with_inst_name f same (map (λ (inst : Inst). inst.name.id) s.around.insts) s.inst.name s.within.insts in
     map-append f (take s.place s.around.insts) (children s ++ drop (s.place + 1) s.around.insts)
     ∙ (λ i. map-take f s.place s.around.insts i ++ map-append f (children s) (drop (s.place + 1) s.around.insts) i)
-    ∙ (λ i. take s.place (map f s.around.insts) ++ (kids i ++ map-drop f (s.place + 1) s.around.insts i))
+    ∙ (λ i. take s.place (map f s.around.insts) ++ (kids i ++ map_drop f (s.place + 1) s.around.insts i))

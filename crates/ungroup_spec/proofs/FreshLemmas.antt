@@ -1,21 +1,20 @@
 -- Names for what moves up are free, and are names.
 use Rattle.std.proofs.Common.{◌≡◌, ◌≢◌, ◌≤◌, ◌<◌, ◌+◌, ◌^◌, ◌⊎◌, ℕ, zero, suc, List, [], ◌∷◌, ◌++◌, map, length, refl, sym, ap, subst, ◌∙◌, inl, inr, arith, Option, Some, None, Bool, true, false, not, length-append, append_assoc}
 use Rattle.std.specs.Prelude.{IfSome, find, codes, decimal, unwrap_or}
-use Rattle.std.specs.Char.{to_ascii_lowercase}
 use Rattle.std.specs.List.{All, AllPass, list_any, range_with_len}
 use Rattle.std.specs.Str.Parse.{AllDigits}
-use Rattle.std.proofs.lemmas.Bool.{cases_Bool, true≢false, false≢true, cond-true, cond-false, or_cases, lt-ltb}
-use Rattle.std.proofs.lemmas.Fmt.{decimal_injective, decimal_is_IsNumeral}
-use Rattle.std.proofs.lemmas.List.{map-append}
+use Rattle.std.proofs.lemmas.Bool.{cases_Bool, true≢false, false≢true, cond-true, cond-false, or_cases, not-true, not-false, or_parts}
+use Rattle.std.proofs.lemmas.Fmt.{decimal_is_IsNumeral}
 use Rattle.std.proofs.lemmas.Str.Parse.{digit_from_value}
 use Rattle.netlist_schema.specs.Ident.{IsIdentifier, is_identifier_byte}
 use Rattle.netlist_schema.specs.Typed.{IsBytes, IsTypedName}
 use Rattle.netlist_schema.specs.Types.{Name}
 use Rattle.edit_core.specs.Find.{is_same}
+use Rattle.edit_core.proofs.Numbers.{lower, lower_numbered, numbers_apart}
 use Rattle.edit_core.proofs.Refusals.{same_name}
 use Rattle.edit_core.proofs.Closed.{All-contained, All-from_contained}
-use Rattle.edit_core.proofs.Refusals.{is_same-refl, neither}
-use Rattle.flat_spec.proofs.ListLemmas.{Member, Member-append_cases, Member-map, Member-from_map, Contains-member, Member-contains, without}
+use Rattle.edit_core.proofs.Refusals.{is_same-refl}
+use Rattle.flat_spec.proofs.ListLemmas.{Member, Member-append_cases, Member-map, Member-from_map, Contains-member, Member-contains, pigeons}
 use Rattle.flat_spec.proofs.OccurrenceLemmas.{range_with_len-most, range_with_len-member}
 use Rattle.ungroup_spec.specs.Names.{is_taken, numbered, candidates, free_name, displayed, name_up, named_up}
 use Rattle.ungroup_spec.proofs.ApartLemmas.{Apart}
@@ -27,23 +26,6 @@ All-member P xs each = All-from_contained P xs (λ x has. each x (Contains-membe
 
 pub member-All : {A : Type 0} (P : A → Type 0) (xs : List A) (x : A) → All P xs → Member xs x → P x
 member-All P xs x all m = All-contained P xs x all (Member-contains xs x m)
-
--- a list of fewer elements can't have all of so many
-pigeons : {X : Type 0} (f : ℕ → X) (n a : ℕ) (ys : List X) → ((j k : ℕ) → a ≤ j → j < k → k < a + n → f k ≢ f j)
-    → ((k : ℕ) → a ≤ k → k < a + n → Member ys (f k)) → n ≤ length ys
-pigeons f zero a ys apart all = omega arith
-pigeons f (suc n) a ys apart all =
-    let low : a ≤ a = omega arith in
-    let high : a < a + suc n = omega arith in
-    let w = without ys (f a) (all a low high) in
-    let fewer = pigeons f n (a + 1) w.0
-    (λ j k p q r. let p' : a ≤ j = omega (arith, p) in let r' : k < a + suc n = omega (arith, r) in apart j k p' q r')
-    (λ k p q.
-    let p' : a ≤ k = omega (arith, p) in
-    let less : a < k = omega (arith, p) in
-    let q' : k < a + suc n = omega (arith, q) in
-    w.2 (f k) (all k p' q') (apart a k low less q')) in
-    omega (arith, fewer, w.1)
 
 find-cases : {A : Type 0} (test : A → Bool) (xs : List A)
     → ((find test xs ≡ None) × ((x : A) → Member xs x → test x ≡ false)) ⊎ ((x : A) × (find test xs ≡ Some x) × (test x ≡ true) × Member xs x)
@@ -59,39 +41,13 @@ find-cases {A} test (x ∷ xs) =
 
 -- ---- names in lower case
 
-append-left : {X : Type 0} (xs ys zs : List X) → xs ++ ys ≡ xs ++ zs → ys ≡ zs
-append-left [] ys zs e = e
-append-left (x ∷ xs) ys zs e = let tails : xs ++ ys ≡ xs ++ zs = cc in append-left xs ys zs tails
-
-lower_digits : (ds : List ℕ) → AllDigits 10 ds → map to_ascii_lowercase ds ≡ ds
-lower_digits [] d = refl
-lower_digits (c ∷ cs) d =
-    let r = digit_from_value c d.0 in
-    let here : to_ascii_lowercase c ≡ c = cond-true _ _ _ (lt-ltb c 65 (omega (arith, r))) in
-    let rest = lower_digits cs d.1 in
-    λ t. here t ∷ rest t
-
-abbrev lower : List ℕ → List ℕ
-lower name = map to_ascii_lowercase name
-
-lower_numbered : (name : List ℕ) (n : ℕ) → n < 2 ^ 64 → lower (numbered name n) ≡ lower name ++ (lower (codes "_") ++ decimal n)
-lower_numbered name n small =
-    ap lower (append_assoc name (codes "_") (decimal n))
-    ∙ map-append to_ascii_lowercase name (codes "_" ++ decimal n)
-    ∙ ap (λ v. lower name ++ v) (map-append to_ascii_lowercase (codes "_") (decimal n) ∙ ap (λ v. lower (codes "_") ++ v) (lower_digits (decimal n) (decimal_is_IsNumeral n small).0.1))
-
-numbers_apart : (name : List ℕ) (m n : ℕ) → m < 2 ^ 64 → n < 2 ^ 64 → lower (numbered name m) ≡ lower (numbered name n) → m ≡ n
-numbers_apart name m n p q e =
-    let both = sym (lower_numbered name m p) ∙ e ∙ lower_numbered name n q in
-    decimal_injective m n p q (append-left (lower (codes "_")) (decimal m) (decimal n) (append-left (lower name) _ _ both))
-
 longer : (xs ys : List ℕ) → 0 < length ys → xs ++ ys ≡ xs → ⊥
 longer xs ys h e =
     let lengths : length xs + length ys ≡ length xs = sym (length-append xs ys) ∙ ap length e in
     omega (arith, h, lengths)
 
 numbered_other : (name : List ℕ) (n : ℕ) → n < 2 ^ 64 → lower (numbered name n) ≡ lower name → ⊥
-numbered_other name n small e = longer (lower name) (lower (codes "_") ++ decimal n) (omega arith) (sym (lower_numbered name n small) ∙ e)
+numbered_other name n small e = longer (lower name) (lower (codes "_") ++ decimal n) (omega arith) (sym (lower_numbered name (codes "_") n small) ∙ e)
 
 -- what is taken is among the names in lower case
 taken_member : (taken : List (List ℕ)) (name : List ℕ) → is_taken taken name ≡ true → Member (map lower taken) (lower name)
@@ -105,7 +61,7 @@ taken_member (other ∷ taken) name e = elim (or_cases _ _ e) [
 pub free_other : (taken : List (List ℕ)) (name other : List ℕ) → is_taken taken name ≡ false → Member taken other → name ≢ other
 free_other [] name other e m same = m
 free_other (x ∷ taken) name other e m same =
-    let parts = neither (is_same name x) (list_any (is_same name) taken) e in
+    let parts = or_parts (is_same name x) (list_any (is_same name) taken) e in
     elim m [
       | inl here ↦ true≢false (sym (is_same-refl name x (same ∙ sym here)) ∙ parts.0)
       | inr rest ↦ free_other taken name other parts.1 rest same
@@ -124,20 +80,12 @@ candidates_apart : (name : List ℕ) (j k : ℕ) → j < k → k < 2 ^ 64 → lo
 candidates_apart name j zero less small e = omega (arith, less)
 candidates_apart name zero (suc k) less small e = numbered_other name (suc k) small e
 candidates_apart name (suc j) (suc k) less small e =
-    let same = numbers_apart name (suc k) (suc j) small (omega (arith, less, small)) e in
+    let same = numbers_apart name (codes "_") (suc k) (suc j) small (omega (arith, less, small)) e in
     omega (arith, less, same)
 
 length-lower : (xs : List (List ℕ)) → length (map lower xs) ≡ length xs
 length-lower [] = refl
 length-lower (x ∷ xs) = ap suc (length-lower xs)
-
-not-true : (b : Bool) → not b ≡ true → b ≡ false
-not-true true e = absurd (false≢true e)
-not-true false e = refl
-
-not-false : (b : Bool) → not b ≡ false → b ≡ true
-not-false true e = refl
-not-false false e = absurd (true≢false e)
 
 -- the first free name is free, and is one of the candidates
 pub free_name-is : (taken : List (List ℕ)) (name : List ℕ) → length taken < 2 ^ 62
@@ -169,7 +117,7 @@ identifier-append xs ys is all =
 digit_byte : (c : ℕ) → 48 ≤ c → c ≤ 57 → is_identifier_byte c ≡ true
 digit_byte c low high = grind (arith, low, high)
 
-digits_pass : (ds : List ℕ) → AllDigits 10 ds → (b : ℕ) → Member ds b → is_identifier_byte b ≡ true
+pub digits_pass : (ds : List ℕ) → AllDigits 10 ds → (b : ℕ) → Member ds b → is_identifier_byte b ≡ true
 digits_pass [] d b m = absurd m
 digits_pass (c ∷ cs) d b m =
     elim m [
@@ -258,6 +206,6 @@ named_up-apart {X} name_of with_name named taken inst (x ∷ xs) few =
       (λ id m same. free_other (name.id ∷ taken) id name.id (rest.1 id m) (inl refl) (sym same ∙ here), rest.0),
       λ id m. elim m [
         | inl same ↦ subst (λ v. is_taken taken v ≡ false) (sym here ∙ same) free
-        | inr later ↦ (neither (is_same id name.id) (list_any (is_same id) taken) (rest.1 id later)).1
+        | inr later ↦ (or_parts (is_same id name.id) (list_any (is_same id) taken) (rest.1 id later)).1
       ],
     )

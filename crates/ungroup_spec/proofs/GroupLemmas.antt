@@ -9,13 +9,13 @@ use Rattle.std.proofs.lemmas.Option.{slice_get_within}
 use Rattle.netlist_schema.specs.Types.{End, Net}
 use Rattle.flat_spec.specs.Paths.{own, on}
 use Rattle.flat_spec.proofs.ChainLemmas.{Chain-same, Chain-append, Chain-sym}
-use Rattle.flat_spec.proofs.ListLemmas.{Member, Member-append_left, Member-append_right, Member-append_cases, Member-map, Member-from_map, Ascends, Ascends-append, Ascends-map}
+use Rattle.flat_spec.proofs.ListLemmas.{Member, Member-append_left, Member-append_right, Member-append_cases, Member-map, Member-from_map, Ascends, Ascends-append, Ascends-map, Member-filter, Member-from_filter, Ascends-filter}
 use Rattle.flat_spec.proofs.OccurrenceLemmas.{range_with_len-most, range_with_len-ascends, range_with_len-member}
 use Rattle.flat_spec.proofs.PathLemmas.{Some-same}
 use Rattle.flat_spec.proofs.ReachLemmas.{leads_through-chain, chain-leads_through}
 use Rattle.flat_spec.proofs.RepresentativeLemmas.{found-first}
 use Rattle.flat_spec.proofs.TestLemmas.{share_bit-true, share_bit-from}
-use Rattle.ungroup_spec.proofs.PlaceLemmas.{Member-filter, Member-from_filter, Ascends-filter, ascends-before}
+use Rattle.ungroup_spec.proofs.PlaceLemmas.{ascends-before}
 use Rattle.ungroup_spec.specs.Groups.{Site, Part, outer, inner, ends_of_net, ends_of_part, IsPart, AreLinked, AreOneGroup, are_linked, same_part, parts, is_grouped, head_of, is_head, heads, became}
 
 -- the order in which nets are listed
@@ -89,7 +89,7 @@ parts-ascends s =
     subst (λ v. PartBefore v y) left.2 (subst (λ v. PartBefore (outer left.0) v) right.2 tt))
 
 -- what has an end is a net
-ends-net : (nets : List Net) (n : ℕ) (e : End) → Contains (ends_of_net nets n) e → n < length nets
+pub ends-net : (nets : List Net) (n : ℕ) (e : End) → Contains (ends_of_net nets n) e → n < length nets
 ends-net nets n e c = there (slice_get nets n) refl c
   where
     there : (o : Option Net) → slice_get nets n ≡ o → Contains (option_map_or (λ (net : Net). net.ends) o []) e → n < length nets

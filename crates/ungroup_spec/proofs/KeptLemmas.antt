@@ -5,13 +5,14 @@ use Rattle.std.specs.List.{cons_option, last_or, list_any}
 use Rattle.std.specs.Option.{option_map_or}
 use Rattle.std.proofs.lemmas.List.{length-map}
 use Rattle.std.proofs.lemmas.Option.{slice_get_within}
+use Rattle.std.proofs.lemmas.Bool.{or_parts}
 use Rattle.netlist_schema.specs.Design.{Design}
 use Rattle.netlist_schema.specs.Hierarchy.{insts_at}
 use Rattle.netlist_schema.specs.Types.{CellId, Inst, Note, TopHead}
+use Rattle.netlist_schema.proofs.Lists.{get_unmapped}
 use Rattle.edit_core.specs.Edit.{inner, noted, edited}
 use Rattle.edit_core.specs.Find.{is_name, inst_named}
 use Rattle.edit_core.specs.Paths.{same_cell, goes_through}
-use Rattle.edit_core.proofs.Refusals.{neither}
 use Rattle.flat_spec.specs.Effective.{insts_along}
 use Rattle.ungroup_spec.specs.Dissolved.{children, contents_after, inst_name, with_inst_name}
 use Rattle.ungroup_spec.specs.Groups.{Site}
@@ -19,7 +20,7 @@ use Rattle.ungroup_spec.specs.KeepsNets.{after, Bearing, bearing_of, InstancesAr
 use Rattle.ungroup_spec.specs.Maps.{Dissolving, step_after, child_after, path_after, path_inside}
 use Rattle.ungroup_spec.specs.MovedNotes.{past_inst, moved_path, moved_note, moved_notes, changed_notes}
 use Rattle.ungroup_spec.specs.Ungroup.{IsSite}
-use Rattle.ungroup_spec.proofs.AfterLemmas.{map-named_up, mapped-at, mapped-from}
+use Rattle.ungroup_spec.proofs.AfterLemmas.{map-named_up, mapped-at}
 use Rattle.ungroup_spec.proofs.AtLemmas.{insts-here, insts-after, insts-other}
 use Rattle.ungroup_spec.proofs.CarriedLemmas.{step-to}
 use Rattle.ungroup_spec.proofs.EndLemmas.{spliced, spliced-before, spliced-in, spliced-behind}
@@ -65,7 +66,7 @@ module _ (d : Design) (q : Dissolving) (stands : IsSite d q.cell q.site) where
       let bearings : map bearing_of (children q.site) ≡ map bearing_of q.site.within.insts =
       map-named_up inst_name with_inst_name bearing_of (λ n i. refl) (map (λ (i : Inst). i.name.id) q.site.around.insts) q.site.inst.name q.site.within.insts in
       let at = subst (λ v. slice_get v j ≡ Some (bearing_of inst)) (sym bearings) (mapped-at bearing_of q.site.within.insts j inst is) in
-      let found = mapped-from bearing_of (children q.site) j (bearing_of inst) at in
+      let found = get_unmapped bearing_of (children q.site) j (bearing_of inst) at in
       let few : j < length (children q.site) = subst (λ v. j < v) (sym (children-count q.site)) (slice_get_within q.site.within.insts j inst is) in (
         found.0,
         ap (λ v. slice_get v (child_after q j)) (insts-after d q stands) ∙ spliced-in q.site.place (children q.site) q.site.around.insts place-in j few ∙ found.1,
@@ -127,7 +128,7 @@ stays : (d : Design) (cell : CellId) (s : Site) (path : List (List ℕ)) (at : C
     → moved_path d cell s at path ≡ Some path
 stays d cell s [] at e = refl
 stays d cell s (step ∷ steps) at e =
-    let parts = neither (same_cell at cell && is_name step s.inst.name.id) (option_map_or (λ (next : Inst). goes_through d cell s.inst.name.id next.of steps) (inst_named step (insts_at d at)) false) e in
+    let parts = or_parts (same_cell at cell && is_name step s.inst.name.id) (option_map_or (λ (next : Inst). goes_through d cell s.inst.name.id next.of steps) (inst_named step (insts_at d at)) false) e in
     ap (λ b. cond b (past_inst s steps) (option_map (λ rest. step ∷ rest) (option_map_or (λ (next : Inst). moved_path d cell s next.of steps) (inst_named step (insts_at d at)) (Some steps)))) parts.0
     ∙ ap (option_map (λ rest. step ∷ rest)) (go (inst_named step (insts_at d at)) (λ next f. stays d cell s steps next.of f) parts.1)
   where
@@ -141,7 +142,7 @@ all-stay : (d : Design) (cell : CellId) (s : Site) (top : CellId) (notes : List 
     → list_any (λ (note : Note). goes_through d cell s.inst.name.id top note.path) notes ≡ false → filter_map (moved_note d cell s top) notes ≡ notes
 all-stay d cell s top [] e = refl
 all-stay d cell s top (note ∷ notes) e =
-    let parts = neither (goes_through d cell s.inst.name.id top note.path) (list_any (λ (n : Note). goes_through d cell s.inst.name.id top n.path) notes) e in
+    let parts = or_parts (goes_through d cell s.inst.name.id top note.path) (list_any (λ (n : Note). goes_through d cell s.inst.name.id top n.path) notes) e in
     let here : moved_note d cell s top note ≡ Some note = ap (option_map (λ path. record note { path = path })) (stays d cell s note.path top parts.0) in
     ap (λ o. cons_option o (filter_map (moved_note d cell s top) notes)) here ∙ ap (λ v. note ∷ v) (all-stay d cell s top notes parts.1)
 

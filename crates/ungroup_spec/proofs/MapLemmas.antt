@@ -4,6 +4,7 @@ use Rattle.std.specs.Prelude.{option_and_then, option_map}
 use Rattle.netlist_schema.specs.Design.{Design}
 use Rattle.netlist_schema.specs.Hierarchy.{insts_at, HasInst, IsBelow, placed, deeper}
 use Rattle.netlist_schema.specs.Types.{CellId, Inst}
+use Rattle.netlist_schema.proofs.Ranks.{below_trans}
 use Rattle.flat_spec.proofs.ListLemmas.{slice_get-contains}
 use Rattle.flat_spec.proofs.PathLemmas.{Some-same}
 use Rattle.ungroup_spec.specs.KeepsNets.{after, DoneIsUngroup, EachIsAnImage, EndsAtIt, ImagesDiffer, IsUngroup, TheRestIsGone}
@@ -13,7 +14,7 @@ use Rattle.ungroup_spec.proofs.CarriedLemmas.{dissolved-cases, is_dissolves}
 use Rattle.ungroup_spec.proofs.DoneLemmas.{dissolves}
 use Rattle.ungroup_spec.proofs.PathLemmas.{and_map-from, path-cases, kid-of}
 use Rattle.ungroup_spec.proofs.ResolveLemmas.{has-image, map-none, one-image}
-use Rattle.ungroup_spec.proofs.SoundLemmas.{below-trans, fits-within, has-inst}
+use Rattle.ungroup_spec.proofs.SoundLemmas.{fits-within, has-inst}
 use Rattle.ungroup_spec.proofs.TreeLemmas.{way_before}
 use Rattle.ungroup_spec.proofs.Ways.{Way, Way-reaches, Reaches-way, IsChild-same}
 
@@ -35,7 +36,7 @@ module _ (d : Design) (q : Dissolving) (is : IsUngroup d q) where
       let below : IsBelow d inst.of q.cell = deeper q.site.inst (has-inst d q is.stands) (placed inst has) in
       let image = has-image d q is p inst.of e
       (λ same. is.valid.no_cycle q.cell (subst (λ v. IsBelow d v q.cell) same below))
-      (λ up. is.valid.no_cycle q.cell (below-trans d up below)) (subst (λ v. Way d v p e) way.1.2 way.2) in
+      (λ up. is.valid.no_cycle q.cell (below_trans d up below)) (subst (λ v. Way d v p e) way.1.2 way.2) in
       let at = subst (λ v. slice_get v j ≡ Some inst) (insts-here d q.site.inst.of q.site.within is.stands.within) way.1.1 in
       absurd (cc (sym none ∙ and_map-from (λ (v : Inst). path_after d q v.of p) (λ r. child_after q j ∷ r) (slice_get q.site.within.insts j) inst image.0 at image.1))
 
@@ -69,7 +70,7 @@ module _ (d : Design) (q : Dissolving) (is : IsUngroup d q) where
   down (j ∷ up) k way under =
       let has : HasInst d k way.1.0 = slice_get-contains (insts_at d k) j way.1.0 way.1.1 in
       let next : IsBelow d way.0 k = subst (λ v. IsBelow d v k) (sym way.1.2) (placed way.1.0 has) in
-      down up way.0 way.2 (below-trans d next under)
+      down up way.0 way.2 (below_trans d next under)
 
   below : (up : List ℕ) (k c : CellId) (i : ℕ) → c ≡ q.cell → (inst : Inst) × (slice_get (insts_at d c) i ≡ Some inst) × (k ≡ inst.of) → Way d k up q.cell → IsBelow d q.cell q.cell
   below up k c i here kid way =

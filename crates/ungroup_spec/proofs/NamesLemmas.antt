@@ -3,11 +3,12 @@ use Rattle.std.proofs.Common.{◌≡◌, ◌≢◌, ◌+◌, ℕ, zero, suc, Lis
 use Rattle.std.specs.Prelude.{◌&&◌, cond, option_and_then, option_map}
 use Rattle.std.specs.List.{position_from}
 use Rattle.std.specs.Option.{option_map_or}
-use Rattle.std.proofs.lemmas.Bool.{and_parts, and_from}
+use Rattle.std.proofs.lemmas.Bool.{and_parts, and_from, false_from_ne_true}
 use Rattle.netlist_schema.specs.Design.{Design, cell_at, insts_of}
 use Rattle.netlist_schema.specs.Hierarchy.{insts_at, HasInst, IsBelow, placed, deeper}
 use Rattle.netlist_schema.specs.Types.{CellBody, CellId, Inst}
 use Rattle.netlist_schema.specs.Valid.{IsValid}
+use Rattle.netlist_schema.proofs.Ranks.{below_trans}
 use Rattle.edit_core.specs.Find.{is_name, inst_place, inst_named}
 use Rattle.edit_core.specs.Paths.{same_cell}
 use Rattle.edit_core.proofs.Refusals.{same_name}
@@ -16,6 +17,7 @@ use Rattle.flat_spec.specs.Effective.{names_along}
 use Rattle.flat_spec.proofs.ListLemmas.{slice_get-contains}
 use Rattle.flat_spec.proofs.PathLemmas.{Some-same}
 use Rattle.flat_spec.proofs.PinLemmas.{AllPairs-ascends}
+use Rattle.edit_core.proofs.Levels.{is_same_cell}
 use Rattle.ungroup_spec.specs.Dissolved.{children}
 use Rattle.ungroup_spec.specs.KeepsNets.{after, IsUngroup, Bearing, NamesAreMoved}
 use Rattle.ungroup_spec.specs.Maps.{Dissolving, step_after, child_after, path_after, path_inside}
@@ -23,11 +25,11 @@ use Rattle.ungroup_spec.specs.MovedNotes.{child_id, past_inst, moved_path}
 use Rattle.ungroup_spec.proofs.AfterLemmas.{mapped-at}
 use Rattle.ungroup_spec.proofs.ApartLemmas.{Apart}
 use Rattle.ungroup_spec.proofs.AtLemmas.{insts-here}
-use Rattle.ungroup_spec.proofs.CarriedLemmas.{same_cell-true, same_cell-refl, is-false}
+use Rattle.ungroup_spec.proofs.CarriedLemmas.{same_cell-refl}
 use Rattle.ungroup_spec.proofs.KeptLemmas.{along-on, inst-on, inst-in}
 use Rattle.ungroup_spec.proofs.PathLemmas.{path-cases, inside-parts}
 use Rattle.ungroup_spec.proofs.PlaceLemmas.{slice_get-member}
-use Rattle.ungroup_spec.proofs.SoundLemmas.{below-trans, has-inst}
+use Rattle.ungroup_spec.proofs.SoundLemmas.{has-inst}
 
 -- in a valid design the names of a cell's instances differ
 pub names-apart : (d : Design) → IsValid d → (c : CellId) → Apart (map (λ (inst : Inst). inst.name.id) (insts_at d c))
@@ -46,7 +48,7 @@ place-at (x ∷ names) n zero name p e =
     ap (λ b. cond b (Some n) (position_from (λ other. is_name other name) (n + 1) names)) (subst (λ v. is_name v name ≡ true) (sym same) (is_name-refl name))
     ∙ ap (λ v. Some v) (omega arith)
 place-at (x ∷ names) n (suc i) name p e =
-    let other : is_name x name ≡ false = is-false (is_name x name) (λ t. p.0 name (slice_get-member names i name e) (same_name x name t)) in
+    let other : is_name x name ≡ false = false_from_ne_true (is_name x name) (λ t. p.0 name (slice_get-member names i name e) (same_name x name t)) in
     let sum : n + 1 + i ≡ n + suc i = omega arith in
     ap (λ b. cond b (Some n) (position_from (λ o. is_name o name) (n + 1) names)) other
     ∙ place-at names (n + 1) i name p.1 e ∙ ap (λ v. Some v) sum
@@ -110,9 +112,9 @@ module _ (d : Design) (q : Dissolving) (is : IsUngroup d q) where
         | inr on ↦
             let steps = names_along d on.inst.of p in
             let test : (same_cell c q.cell && is_name on.inst.name.id q.site.inst.name.id) ≡ false =
-            is-false (same_cell c q.cell && is_name on.inst.name.id q.site.inst.name.id) (λ t.
+            false_from_ne_true (same_cell c q.cell && is_name on.inst.name.id q.site.inst.name.id) (λ t.
             let both = and_parts (same_cell c q.cell) (is_name on.inst.name.id q.site.inst.name.id) t in
-            let cell = same_cell-true c q.cell both.0 in
+            let cell = is_same_cell c q.cell both.0 in
             on.other cell (place-of c i on.inst cell on.is (same_name on.inst.name.id q.site.inst.name.id both.1))) in
             let found : inst_named on.inst.name.id (insts_at d c) ≡ Some on.inst = inst_named-at (insts_at d c) i on.inst (names-apart d is.valid c) on.is in
             ap (moved_path d q.cell q.site c) (names-on d c i p on.inst on.is)
@@ -146,7 +148,7 @@ module _ (d : Design) (q : Dissolving) (is : IsUngroup d q) where
           let below : IsBelow d parts.inst.of q.cell = deeper q.site.inst (has-inst d q is.stands) (placed parts.inst has) in
           let deep = names-same p parts.inst.of parts.rest
           (λ same. is.valid.no_cycle q.cell (subst (λ v. IsBelow d v q.cell) same below))
-          (λ up. is.valid.no_cycle q.cell (below-trans d up below)) parts.on in
+          (λ up. is.valid.no_cycle q.cell (below_trans d up below)) parts.on in
           let cells : now.0.of ≡ parts.inst.of = ap (λ (b : Bearing). b.cell) now.3 in
           ap (past_inst q.site) (names-on d q.site.inst.of j p parts.inst old)
           ∙ ap (λ v. Some (v ∷ names_along d parts.inst.of p)) id

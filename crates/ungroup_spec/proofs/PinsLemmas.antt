@@ -2,12 +2,13 @@
 use Rattle.std.proofs.Common.{◌≡◌, ℕ, List, [], ◌∷◌, ◌++◌, refl, sym, ap, subst, ◌∙◌, inl, inr, Option, Some, None, slice_get}
 use Rattle.std.specs.Prelude.{option_and_then, flat_map}
 use Rattle.std.proofs.lemmas.Option.{slice_get_within}
+use Rattle.std.proofs.lemmas.List.{same_from_push}
 use Rattle.netlist_schema.specs.Design.{Design}
 use Rattle.netlist_schema.specs.Types.{CellId, Inst, Net}
 use Rattle.flat_spec.specs.Paths.{Bit, own, on, at_path, at_root, Joins, nets_at}
 use Rattle.flat_spec.specs.Pins.{net_at_pin, JoinsPin}
 use Rattle.flat_spec.specs.Types.{NetAt}
-use Rattle.flat_spec.proofs.ListLemmas.{last_cases, last_same}
+use Rattle.flat_spec.proofs.ListLemmas.{last_cases}
 use Rattle.flat_spec.proofs.PathLemmas.{Joins-outward_here, Joins-reaches}
 use Rattle.flat_spec.proofs.PinLemmas.{JoinsOnce, nets_at-once, net_at_pin-joins, net_at_pin-from_once}
 use Rattle.ungroup_spec.specs.Groups.{inner, became}
@@ -177,7 +178,7 @@ module _ (d : Design) (q : Dissolving) (stands : IsSite d q.cell q.site) (is : D
           | inl in_it ↦ absurd (cc in_it.on)
           | inr apart ↦
               let empty : apart.rest ≡ [] = cc apart.on in
-              let parts = last_same [] r (step_after q c s) t (sym (apart.whole ∙ ap (λ v. step_after q c s ∷ v) empty) ∙ whole) in
+              let parts = same_from_push [] r (step_after q c s) t (sym (apart.whole ∙ ap (λ v. step_after q c s ∷ v) empty) ∙ whole) in
               let end : e ≡ c = subst (λ v. Way (after d q) c v e) (sym parts.0) way in
               let from = on_back c m s b apart.other (subst (λ v. JoinsIn (after d q) v m (on (step_after q c s) b)) end (subst (λ v. JoinsIn (after d q) e m (on v b)) (sym parts.1) joins)) in
               record {
@@ -210,7 +211,7 @@ module _ (d : Design) (q : Dissolving) (stands : IsSite d q.cell q.site) (is : D
     back_inside [] s b moved r t m e path whole way joins =
         let child = inside-parts d q s [] moved path in
         let empty : child.rest ≡ [] = cc child.on in
-        let parts = last_same [] r (child_after q s) t (sym (child.whole ∙ ap (λ v. child_after q s ∷ v) empty) ∙ whole) in
+        let parts = same_from_push [] r (child_after q s) t (sym (child.whole ∙ ap (λ v. child_after q s ∷ v) empty) ∙ whole) in
         let end : e ≡ q.cell = subst (λ v. Way (after d q) q.cell v e) (sym parts.0) way in
         let few = slice_get_within q.site.within.insts s child.inst child.is in
         let from = is.on_placed_from m s b few (subst (λ v. JoinsIn (after d q) v m (on (child_after q s) b)) end (subst (λ v. JoinsIn (after d q) e m (on v b)) (sym parts.1) joins)) in

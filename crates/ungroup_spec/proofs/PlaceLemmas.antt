@@ -1,37 +1,7 @@
 -- Lists that are filtered, mapped and put together, and places in lists that ascend.
-use Rattle.std.proofs.Common.{◌≡◌, ◌<◌, ◌⊎◌, ℕ, zero, suc, List, [], ◌∷◌, Bool, true, false, filter, refl, sym, ap, subst, ◌∙◌, inl, inr, arith, Some, slice_get}
-use Rattle.std.specs.Prelude.{cond}
+use Rattle.std.proofs.Common.{◌≡◌, ◌<◌, ℕ, zero, suc, List, [], ◌∷◌, refl, sym, subst, inl, inr, arith, Some, slice_get}
 use Rattle.std.specs.List.{flat_map}
-use Rattle.std.proofs.lemmas.Bool.{false≢true}
 use Rattle.flat_spec.proofs.ListLemmas.{Member, Member-append_left, Member-append_right, Member-append_cases, Ascends}
-
-pub Member-filter : {A : Type 0} (test : A → Bool) (xs : List A) (x : A) → Member xs x → test x ≡ true → Member (filter test xs) x
-Member-filter test [] x m e = m
-Member-filter {A} test (y ∷ xs) x m e = go (λ k. Member-filter test xs x k e) (test y) refl
-  where
-    go : (Member xs x → Member (filter test xs) x) → (b : Bool) → test y ≡ b → Member (cond b (y ∷ filter test xs) (filter test xs)) x
-    go further true is = elim m [ inl same ↦ inl same | inr rest ↦ inr (further rest) ]
-    go further false is = elim m [ inl same ↦ absurd (false≢true (sym is ∙ ap test same ∙ e)) | inr rest ↦ further rest ]
-
-pub Member-from_filter : {A : Type 0} (test : A → Bool) (xs : List A) (x : A) → Member (filter test xs) x → Member xs x × (test x ≡ true)
-Member-from_filter test [] x m = absurd m
-Member-from_filter {A} test (y ∷ xs) x m = go (λ k. Member-from_filter test xs x k) (test y) refl m
-  where
-    go : (Member (filter test xs) x → Member xs x × (test x ≡ true)) → (b : Bool) → test y ≡ b
-        → Member (cond b (y ∷ filter test xs) (filter test xs)) x → ((y ≡ x) ⊎ Member xs x) × (test x ≡ true)
-    go further true is m = elim m [
-      | inl same ↦ (inl same, sym (ap test same) ∙ is)
-      | inr rest ↦ let found = further rest in (inr found.0, found.1)
-    ]
-    go further false is m = let found = further m in (inr found.0, found.1)
-
-pub Ascends-filter : {A : Type 0} (R : A → A → Type 0) (test : A → Bool) (xs : List A) → Ascends R xs → Ascends R (filter test xs)
-Ascends-filter R test [] p = p
-Ascends-filter {A} R test (y ∷ xs) p = go (Ascends-filter R test xs p.1) (test y)
-  where
-    go : Ascends R (filter test xs) → (b : Bool) → Ascends R (cond b (y ∷ filter test xs) (filter test xs))
-    go further true = (λ z m. p.0 z (Member-from_filter test xs z m).0, further)
-    go further false = further
 
 pub slice_get-member : {A : Type 0} (xs : List A) (i : ℕ) (x : A) → slice_get xs i ≡ Some x → Member xs x
 slice_get-member [] i x e = absurd (cc e)

@@ -3,7 +3,7 @@ use Rattle.std.proofs.Common.{◌≡◌, ℕ, List, [], ◌∷◌, true, false, 
 use Rattle.std.specs.Prelude.{◌&&◌, cond, option_and_then, option_map}
 use Rattle.std.specs.List.{All}
 use Rattle.std.specs.Option.{option_map_or}
-use Rattle.std.proofs.lemmas.Bool.{and_parts, and_from}
+use Rattle.std.proofs.lemmas.Bool.{and_parts, and_from, false_from_ne_true}
 use Rattle.std.proofs.lemmas.Option.{slice_get-get_or}
 use Rattle.netlist_schema.specs.Design.{Design, cell_at, insts_of}
 use Rattle.netlist_schema.specs.Hierarchy.{insts_at, HasInst, IsBelow, placed, deeper, Resolves}
@@ -12,6 +12,7 @@ use Rattle.netlist_schema.specs.Typed.{IsTypedCell, IsTypedInst}
 use Rattle.netlist_schema.specs.Types.{CellBody, CellId, Inst}
 use Rattle.netlist_schema.specs.Valid.{IsValid}
 use Rattle.netlist_schema.proofs.Cells.{All-cell_at}
+use Rattle.netlist_schema.proofs.Ranks.{below_trans}
 use Rattle.edit_core.specs.Find.{is_name, inst_named}
 use Rattle.edit_core.specs.Paths.{same_cell}
 use Rattle.edit_core.proofs.Refusals.{same_name}
@@ -20,21 +21,22 @@ use Rattle.flat_spec.specs.Effective.{insts_along, names_along}
 use Rattle.flat_spec.specs.PathOrder.{PathBefore}
 use Rattle.flat_spec.proofs.ListLemmas.{Member, slice_get-contains}
 use Rattle.flat_spec.proofs.PathLemmas.{Some-same}
-use Rattle.flat_spec.proofs.RepresentativeLemmas.{PathBefore-total}
+use Rattle.flat_spec.proofs.RepresentativeLemmas.{PathBefore-total, PathBefore-not_both}
+use Rattle.edit_core.proofs.Levels.{is_same_cell}
 use Rattle.ungroup_spec.specs.KeepsNets.{after, IsUngroup}
 use Rattle.ungroup_spec.specs.Maps.{Dissolving, step_after, child_after, path_after, path_inside}
 use Rattle.ungroup_spec.specs.MovedNotes.{past_inst, moved_path}
 use Rattle.ungroup_spec.proofs.ApartLemmas.{Apart}
 use Rattle.ungroup_spec.proofs.AtLemmas.{insts-here, insts-after, insts-other}
-use Rattle.ungroup_spec.proofs.CarriedLemmas.{dissolved-cases, is_dissolves, same_cell-true, same_cell-refl, is-false}
+use Rattle.ungroup_spec.proofs.CarriedLemmas.{dissolved-cases, is_dissolves, same_cell-refl}
 use Rattle.ungroup_spec.proofs.ContentsLemmas.{inst-names, insts-typed}
 use Rattle.ungroup_spec.proofs.FreshLemmas.{All-member, member-All}
 use Rattle.ungroup_spec.proofs.ImageLemmas.{CellId-cases}
 use Rattle.ungroup_spec.proofs.NamesLemmas.{names-apart, inst_named-at, one-name, names_moved}
 use Rattle.ungroup_spec.proofs.PathLemmas.{and_map-from, path-on}
 use Rattle.ungroup_spec.proofs.PlaceLemmas.{slice_get-member}
-use Rattle.ungroup_spec.proofs.SoundLemmas.{below-trans, fits-within, has-inst}
-use Rattle.ungroup_spec.proofs.TreeLemmas.{order_after, path-not_both}
+use Rattle.ungroup_spec.proofs.SoundLemmas.{fits-within, has-inst}
+use Rattle.ungroup_spec.proofs.TreeLemmas.{order_after}
 use Rattle.ungroup_spec.proofs.Ways.{Way}
 
 along-step : (e : Design) (c : CellId) (i : ℕ) (p : List ℕ) (inst : Inst) → slice_get (insts_at e c) i ≡ Some inst
@@ -124,7 +126,7 @@ module _ (d : Design) (q : Dissolving) (is : IsUngroup d q) where
       ]
     where
       twice : PathBefore moved moved → p ≡ r
-      twice before = absurd (path-not_both moved moved before before)
+      twice before = absurd (PathBefore-not_both moved moved before before)
 
   -- below cells that do not have the instance in them each path has an image
   pub has-image : (p : List ℕ) (c e : CellId) → (c ≡ q.cell → ⊥) → (IsBelow d q.cell c → ⊥) → Way d c p e → (moved : List ℕ) × (path_after d q c p ≡ Some moved)
@@ -165,9 +167,9 @@ module _ (d : Design) (q : Dissolving) (is : IsUngroup d q) where
             ap (λ b. cond b (past_inst q.site steps) later) test ∙ ap (λ v. past_inst q.site (names_along d inst.of v)) empty
         | inr other ↦
             let test : (same_cell c q.cell && is_name inst.name.id q.site.inst.name.id) ≡ false =
-            is-false (same_cell c q.cell && is_name inst.name.id q.site.inst.name.id) (λ t.
+            false_from_ne_true (same_cell c q.cell && is_name inst.name.id q.site.inst.name.id) (λ t.
             let both = and_parts (same_cell c q.cell) (is_name inst.name.id q.site.inst.name.id) t in
-            let cell = same_cell-true c q.cell both.0 in
+            let cell = is_same_cell c q.cell both.0 in
             other.1 cell (place-of c i inst cell at (same_name inst.name.id q.site.inst.name.id both.1))) in
             let apart : outside ≡ None = subst (λ b. cond b (path_inside d q p) outside ≡ None) other.0 none in
             let rest : path_after d q inst.of p ≡ None =
@@ -194,7 +196,7 @@ module _ (d : Design) (q : Dissolving) (is : IsUngroup d q) where
           let below : IsBelow d inst.of q.cell = deeper q.site.inst (has-inst d q is.stands) (placed inst has) in
           let image = has-image p inst.of e
           (λ same. is.valid.no_cycle q.cell (subst (λ v. IsBelow d v q.cell) same below))
-          (λ up. is.valid.no_cycle q.cell (below-trans d up below)) (subst (λ v. Way d v p e) way.1.2 way.2) in
+          (λ up. is.valid.no_cycle q.cell (below_trans d up below)) (subst (λ v. Way d v p e) way.1.2 way.2) in
           let at = subst (λ v. slice_get v j ≡ Some inst) (insts-here d q.site.inst.of q.site.within is.stands.within) way.1.1 in
           absurd (cc (sym none ∙ and_map-from (λ (v : Inst). path_after d q v.of p) (λ r. child_after q j ∷ r) (slice_get q.site.within.insts j) inst image.0 at image.1))
 

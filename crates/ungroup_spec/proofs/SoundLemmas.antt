@@ -8,6 +8,7 @@ use Rattle.netlist_schema.specs.Design.{Design, cell_at, insts_in, insts_of, net
 use Rattle.netlist_schema.specs.Hierarchy.{insts_at, HasInst, IsBelow, placed, deeper, NoCellIsBelowItself}
 use Rattle.netlist_schema.specs.Types.{CellBody, CellId, End, Inst, Net}
 use Rattle.netlist_schema.specs.Valid.{IsValid, IsEndOf}
+use Rattle.netlist_schema.proofs.Ranks.{below_trans}
 use Rattle.edit_core.proofs.Closed.{All-contained}
 use Rattle.flat_spec.specs.Paths.{Bit, on}
 use Rattle.flat_spec.specs.Representatives.{representative}
@@ -73,10 +74,6 @@ Member-spliced p ys xs x m =
       ]
     ]
 
-pub below-trans : (d : Design) {a b c : CellId} → IsBelow d a b → IsBelow d b c → IsBelow d a c
-below-trans d first (placed inst is) = deeper inst is first
-below-trans d first (deeper inst is below) = deeper inst is (below-trans d first below)
-
 module _ (d : Design) (q : Dissolving) (stands : IsSite d q.cell q.site) where
   pub has-around : (inst : Inst) → Member q.site.around.insts inst → HasInst d q.cell inst
   has-around inst m =
@@ -112,7 +109,7 @@ module _ (d : Design) (q : Dissolving) (stands : IsSite d q.cell q.site) where
 
   after-below : {a b : CellId} → IsBelow (after d q) a b → IsBelow d a b
   after-below (placed {id} inst is) = below-inst id inst is
-  after-below (deeper {inner} {id} inst is below) = below-trans d (after-below below) (below-inst id inst is)
+  after-below (deeper {inner} {id} inst is below) = below_trans d (after-below below) (below-inst id inst is)
 
   pub acyclic-after : NoCellIsBelowItself d → NoCellIsBelowItself (after d q)
   acyclic-after acyclic id below = acyclic id (after-below below)

@@ -1,5 +1,6 @@
 -- All nets that are connected with a first one are at or below its occurrence.
 use Rattle.std.proofs.Common.{◌≡◌, ℕ, List, [], ◌∷◌, ◌++◌, refl, sym, ap, subst, ◌∙◌, inl, inr, append_assoc, append-nil}
+use Rattle.std.proofs.lemmas.List.{same_from_push}
 use Rattle.flat_spec.specs.Paths.{at_path, at_root}
 use Rattle.flat_spec.specs.Connection.{AreNeighbours, Connected}
 use Rattle.ungroup_spec.proofs.Ways.{Way, Way-rest, meeting, meets_at}
@@ -9,7 +10,7 @@ use Rattle.flat_spec.specs.Types.{NetAt}
 use Rattle.flat_spec.specs.Chains.{Leads}
 use Rattle.flat_spec.specs.PathOrder.{PathBefore, NetBefore}
 use Rattle.flat_spec.proofs.ChainLemmas.{Chain-same, Chain-one, Chain-append}
-use Rattle.flat_spec.proofs.ListLemmas.{last_cases, last_same}
+use Rattle.flat_spec.proofs.ListLemmas.{last_cases}
 
 PathBefore-step : (p : List ℕ) (s : ℕ) → PathBefore p (p ++ s ∷ [])
 PathBefore-step [] s = tt
@@ -40,7 +41,7 @@ module _ (d : Design) (root : CellId) (path : List ℕ) (n : ℕ) (c : CellId) (
           | inr e ↦
               let whole : y.path ++ m.step ∷ [] ≡ (path ++ e.0) ++ e.1 ∷ [] =
               sym m.below ∙ h.1 ∙ ap (λ s. path ++ s) e.2 ∙ sym (append_assoc path e.0 (e.1 ∷ [])) in
-              let parts = last_same y.path (path ++ e.0) m.step e.1 whole in
+              let parts = same_from_push y.path (path ++ e.0) m.step e.1 whole in
               let reached : Way d root (path ++ e.0) m.parent = subst (λ p. Way d root p m.parent) parts.0 m.parent_at in
               let inner = Way-rest d root path c e.0 m.parent at reached in
               let meets = meets_at d c m.parent m.child e.0 m.step y.net x.net m.joint inner m.is_child m.joins_on m.joins_own in

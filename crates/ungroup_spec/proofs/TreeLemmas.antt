@@ -10,6 +10,8 @@ use Rattle.flat_spec.specs.PathOrder.{PathBefore}
 use Rattle.flat_spec.proofs.ListLemmas.{Member, Ascends}
 use Rattle.flat_spec.proofs.OccurrenceLemmas.{occurrences-member, occurrences-reaches, occurrences_are_all}
 use Rattle.flat_spec.proofs.PinLemmas.{AllPairs-ascends}
+use Rattle.flat_spec.proofs.BelowLemmas.{Ascends-same}
+use Rattle.flat_spec.proofs.RepresentativeLemmas.{PathBefore-not_both}
 use Rattle.ungroup_spec.specs.KeepsNets.{after, OccurrencesAreCarried}
 use Rattle.ungroup_spec.specs.Maps.{Dissolving, step_after, child_after, path_after, path_inside, occurrence_after}
 use Rattle.ungroup_spec.specs.Ungroup.{IsSite}
@@ -59,42 +61,6 @@ Ascends-filter_map {A} {B} R S f keeps (x ∷ xs) p = go (Ascends-filter_map R S
     go : Ascends S (filter_map f xs) → (o : Option B) → f x ≡ o → Ascends S (cons_option o (filter_map f xs))
     go rest None is = rest
     go rest (Some v) is = (λ w m. let found = Member-from_filter_map f xs w m in keeps x found.0 v w is found.2 (p.0 found.0 found.1), rest)
-
--- two lists in order that have the same elements are one
-pub ascends-same : {A : Type 0} (R : A → A → Type 0) → ((x y : A) → R x y → R y x → ⊥) → (xs ys : List A) → Ascends R xs → Ascends R ys
-    → ((x : A) → Member xs x → Member ys x) → ((y : A) → Member ys y → Member xs y) → xs ≡ ys
-ascends-same R not_both [] [] p r there back = refl
-ascends-same R not_both [] (y ∷ ys) p r there back = absurd (back y (inl refl))
-ascends-same R not_both (x ∷ xs) [] p r there back = absurd (there x (inl refl))
-ascends-same {A} R not_both (x ∷ xs) (y ∷ ys) p r there back =
-    let same : x ≡ y = elim (there x (inl refl)) [
-      | inl e ↦ sym e
-      | inr later ↦ elim (back y (inl refl)) [ inl e ↦ e | inr later' ↦ absurd (not_both x y (p.0 y later') (r.0 x later)) ]
-    ] in
-    let rest : xs ≡ ys = ascends-same R not_both xs ys p.1 r.1
-    (λ z m. elim (there z (inr m)) [
-      | inl e ↦
-          let twice : R x x = subst (λ v. R x v) (sym e ∙ sym same) (p.0 z m) in
-          absurd (not_both x x twice twice)
-      | inr later ↦ later
-    ])
-    (λ z m. elim (back z (inr m)) [
-      | inl e ↦
-          let twice : R y y = subst (λ v. R y v) (sym e ∙ same) (r.0 z m) in
-          absurd (not_both y y twice twice)
-      | inr later ↦ later
-    ]) in
-    λ i. same i ∷ rest i
-
-pub path-not_both : (p q : List ℕ) → PathBefore p q → PathBefore q p → ⊥
-path-not_both [] [] h k = h
-path-not_both [] (j ∷ q) h k = k
-path-not_both (i ∷ p) [] h k = h
-path-not_both (i ∷ p) (j ∷ q) h k =
-    elim h [
-      | inl less ↦ elim k [ inl more ↦ omega (arith, less, more) | inr same ↦ omega (arith, less, same.0) ]
-      | inr same ↦ elim k [ inl more ↦ omega (arith, same.0, more) | inr same' ↦ path-not_both p q same.1 same'.1 ]
-    ]
 
 module _ (d : Design) (q : Dissolving) (stands : IsSite d q.cell q.site) (is : Dissolves (cut_of d q) (after d q)) where
   -- ---- where images lead
@@ -281,7 +247,7 @@ occurrences_are_carried d q root is =
     let old = is.valid.no_cycle in
     let new = acyclic-after d q is.stands old in
     let R : Occurrence → Occurrence → Type 0 = λ o p. PathBefore o.path p.path in
-    ascends-same (λ o p. PathBefore o.path p.path) (λ o p. path-not_both o.path p.path) (occurrences (after d q) root) (filter_map (occurrence_after d q root) (occurrences d root))
+    Ascends-same (λ o p. PathBefore o.path p.path) (λ o p. PathBefore-not_both o.path p.path) (occurrences (after d q) root) (filter_map (occurrence_after d q root) (occurrences d root))
     (AllPairs-ascends (λ (o p : Occurrence). PathBefore o.path p.path) (occurrences (after d q) root) (occurrences_are_all (after d q) root new).in_order)
     (Ascends-filter_map (λ (o p : Occurrence). PathBefore o.path p.path) (λ (o p : Occurrence). PathBefore o.path p.path) (occurrence_after d q root)
     (λ o p u v eu ev before.

@@ -3,7 +3,6 @@ use Rattle.std.proofs.Common.{◌≡◌, ◌<◌, ℕ, List, [], ◌∷◌, ◌+
 use Rattle.std.specs.Prelude.{slice_get, option_and_then}
 use Rattle.std.specs.List.{Contains}
 use Rattle.std.specs.Option.{option_map_or}
-use Rattle.std.proofs.lemmas.Option.{slice_get_within}
 use Rattle.netlist_schema.specs.Design.{Design}
 use Rattle.netlist_schema.specs.Hierarchy.{insts_at}
 use Rattle.netlist_schema.specs.Types.{CellId, End, Inst, Net}
@@ -123,6 +122,3 @@ pub neighbour-net : (d : Design) (root : CellId) (x y : NetAt) → AreNeighbours
 neighbour-net d root x y t =
     let parts = IsNet-parts d root y (AreNeighbours-net d root x y t) in
     (parts.0, Reaches-way d root y.path parts.0 parts.1, parts.2)
-
-pub slice_get-below : {A : Type 0} (xs : List A) (i : ℕ) (x : A) → slice_get xs i ≡ Some x → i < length xs
-slice_get-below xs i x e = slice_get_within xs i x e

@@ -8,12 +8,12 @@ use Rattle.netlist_schema.specs.Types.{CellId, Contents, Inst}
 use Rattle.netlist_schema.specs.Valid.{IsValid}
 use Rattle.edit_core.specs.Seen.{contents_at}
 use Rattle.edit_core.proofs.Lists.{filter_both}
-use Rattle.eco_reads.proofs.Paths.{insts_of_found}
 use Rattle.flat_spec.specs.Occurrences.{Occurrence, occurrences, under}
 use Rattle.flat_spec.specs.Trees.{tree}
 use Rattle.flat_spec.proofs.OccurrenceLemmas.{occurrences_go_down}
 use Rattle.uniquify_spec.specs.Blocks.{blocks, blocks_below, is_block, root_of}
 use Rattle.uniquify_spec.proofs.Unfolded.{below, below_are}
+use Rattle.uniquify_spec.proofs.Agreed.{insts_inside}
 use Rattle.cell_copies.specs.declared.spot.Step.{Step}
 use Rattle.block_kids.specs.Kids.{kids_of, step_of}
 use Rattle.uniquify_op.specs.Walks.{all_under}
@@ -41,7 +41,7 @@ no_insts (Some contents) is = cc
 
 leaf_below : (d : Design) → IsValid d → (c : CellId) → is_block d c ≡ false → below d c ≡ []
 leaf_below d valid c leaf =
-    let none : insts_at d c ≡ [] = sym (insts_of_found (cell_at d c)) ∙ no_insts (contents_at d c) leaf in
+    let none : insts_at d c ≡ [] = sym (insts_inside (cell_at d c)) ∙ no_insts (contents_at d c) leaf in
     below_level d valid c ∙ ap (λ (insts : List Inst). level d (enumerate_from 0 insts)) none
 
 -- blocks under a step

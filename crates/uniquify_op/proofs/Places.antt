@@ -1,32 +1,14 @@
 -- Places in lists that go on.
-use Rattle.std.proofs.Common.{◌≡◌, ◌<◌, ◌≤◌, ◌+◌, ℕ, zero, suc, Bool, true, false, cond, List, [], ◌∷◌, ◌++◌, length, drop, Option, Some, None, refl, sym, ap, ◌∙◌, arith, add-one}
+use Rattle.std.proofs.Common.{◌≡◌, ◌<◌, ◌≤◌, ◌+◌, ℕ, zero, suc, Bool, true, false, cond, List, [], ◌∷◌, ◌++◌, length, drop, Option, Some, None, refl, sym, ap, ◌∙◌, add-one}
 use Rattle.std.specs.Prelude.{filter, slice_get, unwrap_or}
 use Rattle.std.specs.Option.{option_map_or}
+use Rattle.std.proofs.lemmas.Option.{slice_get_past}
+use Rattle.netlist_schema.proofs.Lists.{get_front}
 use Rattle.flat_spec.specs.Occurrences.{Occurrence}
+use Rattle.edit_core.proofs.Edits.{last_of}
 use Rattle.cell_copies.specs.declared.spot.Step.{Step}
 use Rattle.uniquify_op.specs.Frames.{row_at}
 use Rattle.uniquify_op.specs.Walks.{path_at}
-
-pub got_front : {X : Type 0} (xs ys : List X) (i : ℕ) → i < length xs → slice_get (xs ++ ys) i ≡ slice_get xs i
-got_front [] ys i less = absurd (omega (arith, less))
-got_front (x ∷ xs) ys zero less = refl
-got_front (x ∷ xs) ys (suc i) less = got_front xs ys i (omega (arith, less))
-
-pub got_last : {X : Type 0} (xs : List X) (x : X) (i : ℕ) → i ≡ length xs → slice_get (xs ++ x ∷ []) i ≡ Some x
-got_last [] x zero is = refl
-got_last [] x (suc i) is = absurd (omega (arith, is))
-got_last (y ∷ xs) x zero is = absurd (omega (arith, is))
-got_last (y ∷ xs) x (suc i) is = got_last xs x i (omega (arith, is))
-
-pub got_past : {X : Type 0} (xs : List X) (i : ℕ) → length xs ≤ i → slice_get xs i ≡ None
-got_past [] i past = refl
-got_past (x ∷ xs) zero past = absurd (omega (arith, past))
-got_past (x ∷ xs) (suc i) past = got_past xs i (omega (arith, past))
-
-pub got_there : {X : Type 0} (xs : List X) (i : ℕ) → i < length xs → (x : X) × (slice_get xs i ≡ Some x)
-got_there [] i less = absurd (omega (arith, less))
-got_there (x ∷ xs) zero less = (x, refl)
-got_there (x ∷ xs) (suc i) less = got_there xs i (omega (arith, less))
 
 pub drop_at : {X : Type 0} (xs : List X) (i : ℕ) (x : X) → slice_get xs i ≡ Some x → drop i xs ≡ x ∷ drop (i + 1) xs
 drop_at {X} xs i x at = by xs i at ∙ ap (λ n. x ∷ drop n xs) (sym (add-one i))
@@ -36,23 +18,17 @@ drop_at {X} xs i x at = by xs i at ∙ ap (λ n. x ∷ drop n xs) (sym (add-one 
     by (y ∷ ys) zero at = let same : y ≡ x = cc in ap (λ z. z ∷ ys) same
     by (y ∷ ys) (suc i) at = by ys i at
 
-pub drop_past : {X : Type 0} (xs : List X) (i : ℕ) → slice_get xs i ≡ None → drop i xs ≡ []
-drop_past [] zero none = refl
-drop_past [] (suc i) none = refl
-drop_past (x ∷ xs) zero none = cc
-drop_past (x ∷ xs) (suc i) none = drop_past xs i none
-
 pub row_at_more : (rows more : List (List Step)) (place : ℕ) → place < length rows → row_at (rows ++ more) place ≡ row_at rows place
-row_at_more rows more place less = ap (λ (o : Option (List Step)). unwrap_or o []) (got_front rows more place less)
+row_at_more rows more place less = ap (λ (o : Option (List Step)). unwrap_or o []) (get_front rows more place less)
 
 pub row_at_last : (rows : List (List Step)) (row : List Step) (place : ℕ) → place ≡ length rows → row_at (rows ++ row ∷ []) place ≡ row
-row_at_last rows row place is = ap (λ (o : Option (List Step)). unwrap_or o []) (got_last rows row place is)
+row_at_last rows row place is = ap (λ (o : Option (List Step)). unwrap_or o []) (last_of rows row place is)
 
 pub row_at_past : (rows : List (List Step)) (place : ℕ) → length rows ≤ place → row_at rows place ≡ []
-row_at_past rows place past = ap (λ (o : Option (List Step)). unwrap_or o []) (got_past rows place past)
+row_at_past rows place past = ap (λ (o : Option (List Step)). unwrap_or o []) (slice_get_past rows place past)
 
 pub path_at_more : (os more : List Occurrence) (number : ℕ) → number < length os → path_at (os ++ more) number ≡ path_at os number
-path_at_more os more number less = ap (λ (o : Option Occurrence). option_map_or (λ x. x.path) o []) (got_front os more number less)
+path_at_more os more number less = ap (λ (o : Option Occurrence). option_map_or (λ x. x.path) o []) (get_front os more number less)
 
 pub path_at_is : (os : List Occurrence) (number : ℕ) (o : Occurrence) → slice_get os number ≡ Some o → path_at os number ≡ o.path
 path_at_is os number o at = ap (λ (x : Option Occurrence). option_map_or (λ y. y.path) x []) at
@@ -72,7 +48,7 @@ pub block_found : (rows : List (List Step)) (row place : ℕ) (blocks : List Ste
 block_found rows row place blocks step there at = ap (λ (o : Option (List Step)). slice_get (unwrap_or o []) place) there ∙ at
 
 pub block_past : (rows : List (List Step)) (row place : ℕ) (blocks : List Step) → slice_get rows row ≡ Some blocks → length blocks ≤ place → slice_get (row_at rows row) place ≡ None
-block_past rows row place blocks there past = ap (λ (o : Option (List Step)). slice_get (unwrap_or o []) place) there ∙ got_past blocks place past
+block_past rows row place blocks there past = ap (λ (o : Option (List Step)). slice_get (unwrap_or o []) place) there ∙ slice_get_past blocks place past
 
 pub row_past : (rows : List (List Step)) (row place : ℕ) → length rows ≤ row → slice_get (row_at rows row) place ≡ None
 row_past rows row place past = ap (λ (l : List Step). slice_get l place) (row_at_past rows row past)

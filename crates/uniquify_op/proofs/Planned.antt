@@ -10,7 +10,7 @@ use Rattle.edit_core.specs.declared.reply.Reply.TheVariants.{TooMany}
 use Rattle.edit_core.proofs.Lists.{Apart, distinct_of}
 use Rattle.flat_spec.specs.Occurrences.{Occurrence}
 use Rattle.flat_spec.specs.Paths.{Reaches}
-use Rattle.flat_spec.proofs.ListLemmas.{Ascends, Member}
+use Rattle.flat_spec.proofs.ListLemmas.{Ascends, Member, Member-from_filter, Ascends-filter}
 use Rattle.flat_spec.proofs.OccurrenceLemmas.{OccurrenceBefore}
 use Rattle.flat_spec.specs.PathOrder.{PathBefore}
 use Rattle.uniquify_spec.specs.Blocks.{blocks_below, each_block, is_block, is_first, root_of}
@@ -18,7 +18,6 @@ use Rattle.uniquify_spec.specs.Copies.{copies_after}
 use Rattle.uniquify_spec.specs.Rows.{too_many_cells}
 use Rattle.uniquify_spec.specs.Split.{Split}
 use Rattle.uniquify_spec.proofs.BlockSplit.{PathBefore-never, block_parts, block_reached}
-use Rattle.uniquify_spec.proofs.Reached.{filter-ascends, filter-cases}
 use Rattle.uniquify_spec.proofs.SplitEdits.{block_is_cell}
 use Rattle.uniquify_spec.proofs.Unfolded.{below, below_ascends, below_has_step}
 use Rattle.cell_copies.proofs.DraftSeats.{draft_seats, draft_split, split_for}
@@ -44,7 +43,7 @@ module _ (d : Design) (top : CellId) (valid : IsValid d) where
   all_apart : Apart (map (λ (o : Occurrence). o.path) (root_of top ∷ blocks_below d top))
   all_apart = (
     each_apart [] (blocks_below d top) (λ o m same. below_has_step d top o (block_parts d top o m).0 (sym same)),
-    paths_apart (blocks_below d top) (filter-ascends OccurrenceBefore (λ (o : Occurrence). is_block d o.cell) (below d top) (below_ascends d top)),
+    paths_apart (blocks_below d top) (Ascends-filter OccurrenceBefore (λ (o : Occurrence). is_block d o.cell) (below d top) (below_ascends d top)),
   )
 
   occurrences_are : occurrences_of (marked d top) ≡ blocks_below d top
@@ -64,7 +63,7 @@ module _ (d : Design) (top : CellId) (valid : IsValid d) where
         ])
         (λ o member.
         let later = subst (λ l. Member l o) (marked_copied d top valid) member in
-        let block = (filter-cases (λ x. not (is_first (blocks_below d top) x)) (blocks_below d top) o later).0 in
+        let block = (Member-from_filter (λ x. not (is_first (blocks_below d top) x)) (blocks_below d top) o later).0 in
         block_is_cell d o.cell (block_parts d top o block).1)
 
     pub block_room : has_no_room (copies_of (seats top draft.spots.items)) ≡ false

@@ -1,18 +1,21 @@
 -- Turns of a walk.
-use Rattle.std.proofs.Common.{◌≡◌, ◌<◌, ◌≤◌, ◌+◌, ℕ, suc, true, false, cond, List, [], ◌∷◌, ◌++◌, map, length, Option, Some, None, refl, sym, ap, subst, ◌∙◌, arith, append_assoc, append-nil, length-append}
+use Rattle.std.proofs.Common.{◌≡◌, ◌<◌, ◌≤◌, ◌+◌, ℕ, true, false, cond, List, [], ◌∷◌, ◌++◌, map, length, Option, Some, None, refl, sym, ap, subst, ◌∙◌, arith, append_assoc, append-nil, length-append}
 use Rattle.std.specs.Prelude.{IfOk, Result, Ok, Err, is_some, nat_le, slice_get}
 use Rattle.std.specs.BTreeMap.{get, is_at}
 use Rattle.std.specs.List.{AllByRecursion}
 use Rattle.std.proofs.lemmas.Bool.{le-leb, or_left, or_right}
 use Rattle.std.proofs.lemmas.List.Concat.{flat_map-append}
 use Rattle.std.proofs.lemmas.List.Folds.{list_any-append}
+use Rattle.std.proofs.lemmas.List.{length-map}
 use Rattle.netlist_schema.specs.Design.{Design}
 use Rattle.netlist_schema.specs.Order.{cell_cmp}
 use Rattle.netlist_schema.specs.Types.{CellId}
 use Rattle.netlist_schema.specs.Hierarchy.{IsCell}
 use Rattle.netlist_schema.specs.Valid.{IsValid}
-use Rattle.edit_core.proofs.Lists.{each_append, each_left, each_right}
+use Rattle.netlist_schema.proofs.Lists.{get_there, all_append, all_behind}
+use Rattle.edit_core.proofs.Lists.{each_left}
 use Rattle.flat_spec.specs.Occurrences.{Occurrence}
+use Rattle.edit_core.proofs.Edits.{last_of}
 use Rattle.uniquify_spec.specs.Blocks.{blocks_below, root_of}
 use Rattle.uniquify_spec.specs.Copies.{Copy, copies_after, copy_after}
 use Rattle.uniquify_spec.proofs.ForCode.{copies_go_on}
@@ -34,7 +37,7 @@ use Rattle.uniquify_op.specs.declared.frame.Next.TheVariants.{End, Back, Block}
 use Rattle.uniquify_op.specs.declared.met.Met.{Met}
 use Rattle.uniquify_op.specs.declared.visits.Visits.{Visits}
 use Rattle.uniquify_op.specs.declared.walk.Walk.{Walk}
-use Rattle.uniquify_op.proofs.Places.{got_last, got_there, path_at_is}
+use Rattle.uniquify_op.proofs.Places.{path_at_is}
 use Rattle.uniquify_op.proofs.Marking.{marks_append, marks_occurrences, marks_push}
 use Rattle.uniquify_op.proofs.Meeting.{first_kids, first_within, met_again, met_first, met_none}
 use Rattle.uniquify_op.proofs.Left.{left_back, left_more, left_push, left_taken, left_whole}
@@ -110,7 +113,7 @@ pub walk_taken : (d : Design) (top : CellId) (os seen : List Occurrence) (old ne
 walk_taken d top os seen old new above step same walk (frame, rest, was, is, number, at) = record {
   visited = subst (IsVisited d top seen) (sym same) walk.visited;
   frames = subst (λ (v : Visits). AllByRecursion (IsFrame count (length v.met.rows.items)) new.stack.items) (sym same)
-      (subst (AllByRecursion (IsFrame count (length rows))) (sym is) (each_append (IsFrame count (length rows)) rest (next ∷ []) (each_left (IsFrame count (length rows)) rest (frame ∷ []) framed) (record { number = here.number; row = here.row }, tt)));
+      (subst (AllByRecursion (IsFrame count (length rows))) (sym is) (all_append (IsFrame count (length rows)) rest (next ∷ []) (each_left (IsFrame count (length rows)) rest (frame ∷ []) framed) (record { number = here.number; row = here.row }, tt)));
   up = up.0;
   numbered = (λ i. slice_get (root_of top ∷ marks_occurrences [] seen i) (number i)) ∙ up.1;
   left = walk.left ∙ ap (λ l. seen ++ l) (left_before ∙ ap (λ l. l ++ left_of d all rows (rest ++ next ∷ [])) named ∙ (λ i. (at_it ∷ map (below_path at_it.path) (blocks_below d step.of)) ++ left_of d all (sym same i).met.rows.items (sym is i)));
@@ -132,10 +135,10 @@ walk_taken d top os seen old new above step same walk (frame, rest, was, is, num
     framed = subst (AllByRecursion (IsFrame count (length rows))) was walk.frames
 
     here : IsFrame count (length rows) frame
-    here = (each_right (IsFrame count (length rows)) rest (frame ∷ []) framed).0
+    here = (all_behind (IsFrame count (length rows)) rest (frame ∷ []) framed).0
 
     up : (x : Occurrence) × (slice_get all frame.number ≡ Some x)
-    up = got_there all frame.number here.number
+    up = get_there all frame.number here.number
 
     at_it : Occurrence
     at_it = placed_in up.0 step.place step.of
@@ -182,14 +185,10 @@ walk_over d top os seen old new same walk none =
 
 -- ---- a block is come to
 
-length-map : {X Y : Type 0} (f : X → Y) (xs : List X) → length (map f xs) ≡ length xs
-length-map f [] = refl
-length-map f (x ∷ xs) = ap suc (length-map f xs)
-
 spots_long : (d : Design) (top : CellId) (done : List Marked) (draft : Draft) → IsDraft d top done draft → length draft.spots.items ≡ length (occurrences_of done)
 spots_long d top done draft is =
     let all = ap (λ (os : List Occurrence). length os) is.occurrences in
-    let left = length-map occurrence_of (seats top draft.spots.items) in
+    let left = length-map (seats top draft.spots.items) occurrence_of in
     let seated = seats_length ([] ∷ []) draft.spots.items in
     omega (arith, all, left, seated)
 
@@ -206,7 +205,7 @@ pub walk_goes_on : (d : Design) → IsValid d → (top : CellId) (os seen : List
 walk_goes_on d valid top os seen old new above step row number waiting put number_is stack = record {
   visited = put.visited;
   frames = subst (AllByRecursion (IsFrame (length after) (length rows_after))) (sym stack)
-      (each_append (IsFrame (length after) (length rows_after)) old.stack.items (next ∷ [])
+      (all_append (IsFrame (length after) (length rows_after)) old.stack.items (next ∷ [])
       (wider (length before) (length after) (length rows) (length rows_after) old.stack.items (omega (arith, long)) (omega (arith, rows_long)) waiting.frames)
       (record { number = omega (arith, number_at, long); row = put.within }, tt));
   left = waiting.left
@@ -252,7 +251,7 @@ walk_goes_on d valid top os seen old new above step row number waiting put numbe
         omega (arith, number_is, spots, marks, sum)
 
     there : path_at after number ≡ at.path
-    there = path_at_is after number at (got_last before at number number_at)
+    there = path_at_is after number at (last_of before at number number_at)
 
     whole : left_in d after rows_after next ≡ under_it
     whole = left_whole d valid after rows_after number row at.path step.of there put.kids

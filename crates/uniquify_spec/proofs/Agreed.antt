@@ -1,6 +1,6 @@
 -- What designs that agree on objects have in common.
-use Rattle.std.proofs.Common.{◌≡◌, List, [], ◌∷◌, ◌++◌, map, length, refl, sym, ap, ◌∙◌, inl, inr, Option, Some, None, Bool, cond}
-use Rattle.std.specs.Prelude.{filter, is_some, option_and_then}
+use Rattle.std.proofs.Common.{◌≡◌, List, [], ◌∷◌, ◌++◌, map, length, refl, sym, ap, ◌∙◌, inl, inr, Option, Some, None, cond}
+use Rattle.std.specs.Prelude.{is_some, option_and_then}
 use Rattle.std.specs.List.{flat_map}
 use Rattle.std.specs.Option.{option_map, option_map_or, option_to_list}
 use Rattle.netlist_schema.specs.Design.{Design, lib_at, cell_at, cells_in, insts_in, insts_of}
@@ -49,7 +49,7 @@ directory_agrees d e lib agree = names_of_directory (lib_at d lib) (lib_at e lib
 
 -- ---- contents
 
-insts_inside : (o : Option CellBody) → insts_in (option_and_then (λ (b : CellBody). b.contents) o) ≡ option_map_or insts_of o []
+pub insts_inside : (o : Option CellBody) → insts_in (option_and_then (λ (b : CellBody). b.contents) o) ≡ option_map_or insts_of o []
 insts_inside None = refl
 insts_inside (Some body) = refl
 
@@ -60,13 +60,6 @@ pub block_agrees : (d e : Design) (id : CellId) → contents_at d id ≡ content
 block_agrees d e id same = ap is_some same
 
 -- ---- lists
-
-pub filter-same : {A : Type 0} (f g : A → Bool) (xs : List A) → ((x : A) → Member xs x → f x ≡ g x) → filter f xs ≡ filter g xs
-filter-same f g [] h = refl
-filter-same f g (x ∷ xs) h =
-    let here = h x (inl refl) in
-    let later = filter-same f g xs (λ y m. h y (inr m)) in
-    λ t. cond (here t) (x ∷ later t) (later t)
 
 pub flat_map-same : {A B : Type 0} (f g : A → List B) (xs : List A) → ((x : A) → Member xs x → f x ≡ g x) → flat_map f xs ≡ flat_map g xs
 flat_map-same f g [] h = refl

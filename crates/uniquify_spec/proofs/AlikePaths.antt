@@ -1,10 +1,10 @@
 -- Alike designs have the same paths, and instances of the same names and properties along them.
-use Rattle.std.proofs.Common.{◌≡◌, ℕ, zero, suc, List, [], ◌∷◌, ◌++◌, map, refl, sym, ap, ◌∙◌, Option, Some, None}
+use Rattle.std.proofs.Common.{◌≡◌, ℕ, suc, List, [], ◌∷◌, ◌++◌, map, refl, sym, ap, ◌∙◌, Option, Some, None}
 use Rattle.std.specs.Prelude.{slice_get, option_map, option_and_then}
 use Rattle.std.specs.List.{last_or}
 use Rattle.std.specs.Option.{option_map_or}
 use Rattle.std.proofs.lemmas.List.{map-append}
-use Rattle.std.proofs.lemmas.Option.{none-some}
+use Rattle.std.proofs.lemmas.Option.{none-some, slice_get-map}
 use Rattle.netlist_schema.specs.Design.{Design, cell_at, insts_in, insts_of}
 use Rattle.netlist_schema.specs.Hierarchy.{insts_at, NoCellIsBelowItself}
 use Rattle.netlist_schema.specs.Types.{CellBody, CellId, Contents, Inst, Property, TopHead}
@@ -43,11 +43,6 @@ same_below d e c k same i x y is is' path =
     sym (ap (λ (o : Option Inst). option_map inside_of (option_and_then (cell_at d) (option_and_then (λ inst. cell_along d inst.of path) o))) is)
     ∙ same (i ∷ path)
     ∙ ap (λ (o : Option Inst). option_map inside_of (option_and_then (cell_at e) (option_and_then (λ inst. cell_along e inst.of path) o))) is'
-
-pub slice_get-mapped : {A B : Type 0} (f : A → B) (xs : List A) (i : ℕ) → slice_get (map f xs) i ≡ option_map f (slice_get xs i)
-slice_get-mapped f [] i = refl
-slice_get-mapped f (x ∷ xs) zero = refl
-slice_get-mapped f (x ∷ xs) (suc i) = slice_get-mapped f xs i
 
 -- ---- paths
 
@@ -127,7 +122,7 @@ pub along_same : (d e : Design) (path : List ℕ) (c k : CellId) → AreSameInsi
 along_same d e [] c k same = refl
 along_same d e (i ∷ path) c k same =
     along_step d e path (slice_get (insts_at d c) i) (slice_get (insts_at e k) i)
-    (sym (slice_get-mapped unplaced (insts_at d c) i) ∙ ap (λ xs. slice_get xs i) (insts_same d e c k same) ∙ slice_get-mapped unplaced (insts_at e k) i)
+    (sym (slice_get-map unplaced (insts_at d c) i) ∙ ap (λ xs. slice_get xs i) (insts_same d e c k same) ∙ slice_get-map unplaced (insts_at e k) i)
     (λ x y is is'. along_same d e path x.of y.of (same_below d e c k same i x y is is'))
 
 abbrev properties_of : Inst → List Property

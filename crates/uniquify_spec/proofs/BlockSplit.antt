@@ -12,13 +12,13 @@ use Rattle.edit_core.proofs.Closed.{valid_is_closed}
 use Rattle.flat_spec.specs.Occurrences.{Occurrence}
 use Rattle.flat_spec.specs.PathOrder.{PathBefore}
 use Rattle.flat_spec.specs.Paths.{Reaches}
-use Rattle.flat_spec.proofs.ListLemmas.{Member, Ascends}
+use Rattle.flat_spec.proofs.ListLemmas.{Member, Ascends, Member-filter, Member-from_filter, Ascends-filter}
 use Rattle.flat_spec.proofs.OccurrenceLemmas.{OccurrenceBefore}
 use Rattle.flat_spec.proofs.PathLemmas.{Some-same, Reaches-front, Reaches-parts}
 use Rattle.uniquify_spec.specs.Blocks.{is_block, blocks_below, is_first, root_of, each_block}
 use Rattle.uniquify_spec.specs.Copies.{Copy, same_path, copy_after, copies_after}
 use Rattle.uniquify_spec.proofs.CopyLists.{AreNew, find-cases, same_path-true}
-use Rattle.uniquify_spec.proofs.Reached.{reached_is_below, reached_is_cell, block_of_inst, filter-cases, filter-member, filter-ascends}
+use Rattle.uniquify_spec.proofs.Reached.{reached_is_below, reached_is_cell, block_of_inst}
 use Rattle.uniquify_spec.proofs.SplitCells.{IsSplit, IsKept, HasCopy}
 use Rattle.uniquify_spec.proofs.Unfolded.{below, below_reached, below_has_step, reached_below, below_ascends}
 
@@ -83,7 +83,7 @@ root_apart d valid r [] some reached = some refl
 root_apart d valid r (i ∷ path) some reached = valid.no_cycle r (reached_is_below d path i r r reached)
 
 abbrev pub block_parts : (d : Design) (r : CellId) (o : Occurrence) → Member (blocks_below d r) o → Member (below d r) o × (is_block d o.cell ≡ true)
-block_parts d r o member = filter-cases (λ (o : Occurrence). is_block d o.cell) (below d r) o member
+block_parts d r o member = Member-from_filter (λ (o : Occurrence). is_block d o.cell) (below d r) o member
 
 pub block_reached : (d : Design) → IsValid d → (r : CellId) (o : Occurrence) → Member (blocks_below d r) o → Reaches d r o.path o.cell
 block_reached d valid r o member = below_reached d valid r o (block_parts d r o member).0
@@ -91,7 +91,7 @@ block_reached d valid r o member = below_reached d valid r o (block_parts d r o 
 pub reached_block : (d : Design) → IsValid d → (r : CellId) (i : ℕ) (path : List ℕ) (c : CellId) → Reaches d r (i ∷ path) c → is_block d c ≡ true
     → Member (blocks_below d r) (record { path = i ∷ path; cell = c })
 reached_block d valid r i path c reached block =
-    filter-member (λ (o : Occurrence). is_block d o.cell) (below d r) (record { path = i ∷ path; cell = c }) (reached_below d valid r i path c reached) block
+    Member-filter (λ (o : Occurrence). is_block d o.cell) (below d r) (record { path = i ∷ path; cell = c }) (reached_below d valid r i path c reached) block
 
 abbrev is_later : Design → CellId → Occurrence → Bool
 is_later d r o = not (is_first (blocks_below d r) o)
@@ -105,9 +105,9 @@ block_owned d valid r (i ∷ path) c reached block =
     let q : Occurrence = record { path = i ∷ path; cell = c } in
     let member = reached_block d valid r i path c reached block in
     elim (cases_Bool (is_first os q)) [
-      | inl first ↦ inl (q, inr (filter-member (is_first os) os q member first), refl)
+      | inl first ↦ inl (q, inr (Member-filter (is_first os) os q member first), refl)
       | inr later ↦
-          let made = copy_made d (filter (is_later d r) os) [] q (filter-member (is_later d r) os q member (not_from_false (is_first os q) later)) in
+          let made = copy_made d (filter (is_later d r) os) [] q (Member-filter (is_later d r) os q member (not_from_false (is_first os q) later)) in
           inr (made.0, made.1, made.2)
     ]
 
@@ -117,12 +117,12 @@ each_block_is_split d valid r is = record {
   kept_reached = λ o member. elim member [ inl e ↦ subst (λ (x : Occurrence). Reaches d r x.path x.cell) e refl | inr rest ↦ block_reached d valid r o (first_parts o rest).0 ];
   kept_apart = (
     λ q member same. root_apart d valid r q.path (below_has_step d r q (block_parts d r q (first_parts q member).0).0) (subst (λ k. Reaches d r q.path k) (sym same) (block_reached d valid r q (first_parts q member).0)),
-    firsts_apart os (filter (is_first os) os) (filter-ascends OccurrenceBefore (is_first os) os (filter-ascends OccurrenceBefore (λ (o : Occurrence). is_block d o.cell) (below d r) (below_ascends d r))) (λ o member. (first_parts o member).1),
+    firsts_apart os (filter (is_first os) os) (Ascends-filter OccurrenceBefore (is_first os) os (Ascends-filter OccurrenceBefore (λ (o : Occurrence). is_block d o.cell) (below d r) (below_ascends d r))) (λ o member. (first_parts o member).1),
   );
   copies_reached = λ m member. let from = copy_parts m member in subst (λ p. Reaches d r p m.of) (sym from.2) (subst (λ k. Reaches d r from.0.path k) (sym from.3) (block_reached d valid r from.0 from.1));
   copies_below = λ m member same. let from = copy_parts m member in below_has_step d r from.0 (block_parts d r from.0 from.1).0 (sym from.2 ∙ same);
   copies_of_blocks = λ m member. let from = copy_parts m member in ap (is_block d) from.3 ∙ (block_parts d r from.0 from.1).1;
-  new = copies_are_new d (filter (is_later d r) os) [] (λ o member. let block = (filter-cases (is_later d r) os o member).0 in reached o.path o.cell (block_reached d valid r o block));
+  new = copies_are_new d (filter (is_later d r) os) [] (λ o member. let block = (Member-from_filter (is_later d r) os o member).0 in reached o.path o.cell (block_reached d valid r o block));
   mine = λ path o member at. elim member [
     | inl e ↦ block_or_root path (subst (λ (x : Occurrence). Reaches d r path x.cell) (sym e) at)
     | inr rest ↦ block_owned d valid r path o.cell at (block_parts d r o (first_parts o rest).0).1
@@ -142,12 +142,12 @@ each_block_is_split d valid r is = record {
     reached = reached_is_cell d (valid_is_closed d valid) r is
 
     first_parts : (o : Occurrence) → Member (filter (is_first (blocks_below d r)) (blocks_below d r)) o → Member (blocks_below d r) o × (is_first (blocks_below d r) o ≡ true)
-    first_parts o member = filter-cases (is_first (blocks_below d r)) (blocks_below d r) o member
+    first_parts o member = Member-from_filter (is_first (blocks_below d r)) (blocks_below d r) o member
 
     copy_parts : (m : Copy) → Member (each_block d r).copies m → (o : Occurrence) × Member (blocks_below d r) o × (m.path ≡ o.path) × (m.of ≡ o.cell)
     copy_parts m member =
         let from = copy_comes d (filter (is_later d r) (blocks_below d r)) [] m member in
-        (from.0, (filter-cases (is_later d r) (blocks_below d r) from.0 from.1).0, from.2, from.3)
+        (from.0, (Member-from_filter (is_later d r) (blocks_below d r) from.0 from.1).0, from.2, from.3)
 
     block_or_root : (path : List ℕ) → Reaches d r path r → IsKept (each_block d r) path ⊎ HasCopy (each_block d r) path
     block_or_root [] at = inl (root_of r, inl refl, refl)

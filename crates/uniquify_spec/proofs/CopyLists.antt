@@ -1,6 +1,6 @@
 -- Lists of copies: their places, and the look-ups by path.
-use Rattle.std.proofs.Common.{◌≡◌, ◌≢◌, ◌≤◌, ◌<◌, ◌+◌, ◌⊎◌, ℕ, zero, suc, List, [], ◌∷◌, ◌++◌, map, length, refl, sym, ap, subst, ◌∙◌, inl, inr, arith, Some, None, Bool, true, false, cond, length-append, eq-eqb}
-use Rattle.std.specs.Prelude.{◌==◌, IsSome, filter, find, slice_get}
+use Rattle.std.proofs.Common.{◌≡◌, ◌≢◌, ◌≤◌, ◌<◌, ◌+◌, ◌⊎◌, ℕ, List, [], ◌∷◌, ◌++◌, map, length, refl, sym, ap, subst, ◌∙◌, inl, inr, arith, Some, None, Bool, true, false, cond, length-append, eq-eqb}
+use Rattle.std.specs.Prelude.{◌==◌, filter, find}
 use Rattle.std.specs.List.{list_any}
 use Rattle.std.specs.Cmp.Lexicographic.{bytes_decides}
 use Rattle.std.proofs.lemmas.Bool.{cases_Bool, cond-true, cond-false, true≢false, or_parts}
@@ -10,6 +10,7 @@ use Rattle.netlist_schema.specs.Hierarchy.{IsCell}
 use Rattle.netlist_schema.specs.Names.{cell_names}
 use Rattle.netlist_schema.specs.Types.{CellBody, CellId, LibId}
 use Rattle.flat_spec.proofs.ListLemmas.{Member}
+use Rattle.flat_spec.proofs.PathLemmas.{slice_get-within}
 use Rattle.uniquify_spec.specs.Copies.{Copy, same_path, is_copy_at, copies_in, names_with}
 
 pub same_path-true : (p q : List ℕ) → same_path p q ≡ true → p ≡ q
@@ -123,16 +124,11 @@ same_copy d (v ∷ ms) before new m n p q same = elim p [
   ]
 ]
 
-slot-within : {A : Type 0} (xs : List A) (i : ℕ) → IsSome (slice_get xs i) → i < length xs
-slot-within [] i is = let never : false ≡ true = is in absurd (true≢false (sym never))
-slot-within (x ∷ xs) zero is = omega arith
-slot-within (x ∷ xs) (suc i) is = let below : i < length xs = slot-within xs i is in omega arith
-
 -- a copy is no cell that was there
 pub new_apart : (d : Design) (ms : List Copy) → AreNew d [] ms → (m : Copy) → Member ms m → (id : CellId) → IsCell d id → id ≢ m.id
 new_apart d ms new m member id is same =
     let later = later_slot d ms [] new m member in
-    let there = slot-within (cells_in d id.lib) id.slot is in
+    let there = slice_get-within (cells_in d id.lib) id.slot is in
     let all = length-names d [] m.id.lib in
     let moved : m.id.slot < length (cells_in d m.id.lib) = subst (λ (k : CellId). k.slot < length (cells_in d k.lib)) same there in
     omega (arith, later, all, moved)

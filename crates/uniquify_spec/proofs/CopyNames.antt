@@ -1,36 +1,14 @@
 -- Names of copies are free, and are identifiers.
-use Rattle.std.proofs.Common.{◌≡◌, ◌≢◌, ◌≤◌, ◌<◌, ◌+◌, ◌^◌, ◌⊎◌, ℕ, zero, suc, List, [], ◌∷◌, ◌++◌, map, length, refl, sym, ap, subst, ◌∙◌, inl, inr, arith, Some, None, Bool, true, false, not, append_assoc}
-use Rattle.std.specs.Prelude.{find, codes, decimal, unwrap_or}
-use Rattle.std.specs.Char.{to_ascii_lowercase}
+use Rattle.std.proofs.Common.{◌≡◌, ◌≢◌, ◌≤◌, ◌<◌, ◌+◌, ◌^◌, ◌⊎◌, ℕ, zero, suc, List, [], ◌∷◌, map, length, refl, sym, ap, subst, ◌∙◌, inl, inr, arith, Some, None, Bool, true, false, not}
+use Rattle.std.specs.Prelude.{find, codes, unwrap_or}
 use Rattle.std.specs.List.{list_any, range_with_len}
-use Rattle.std.specs.Str.Parse.{AllDigits}
-use Rattle.std.proofs.lemmas.Bool.{cases_Bool, true≢false, cond-true, cond-false, or_cases, lt-ltb}
-use Rattle.std.proofs.lemmas.Fmt.{decimal_injective, decimal_is_IsNumeral}
-use Rattle.std.proofs.lemmas.List.{map-append}
-use Rattle.std.proofs.lemmas.Str.Parse.{digit_from_value}
+use Rattle.std.proofs.lemmas.Bool.{cases_Bool, true≢false, cond-true, cond-false, or_cases}
 use Rattle.edit_core.specs.Find.{is_same}
-use Rattle.flat_spec.proofs.ListLemmas.{Member, without}
+use Rattle.edit_core.proofs.Numbers.{lower, numbers_apart}
+use Rattle.flat_spec.proofs.ListLemmas.{Member, pigeons}
 use Rattle.uniquify_spec.specs.Copies.{numbered, is_free, free_number}
 use Rattle.uniquify_spec.specs.Laws.{IsLeastFree}
 use Rattle.uniquify_spec.proofs.CopyLists.{same_path-true}
-
--- ---- a list of fewer elements can't have all of so many
-
-pigeons : {X : Type 0} (f : ℕ → X) (n a : ℕ) (ys : List X) → ((j k : ℕ) → a ≤ j → j < k → k < a + n → f k ≢ f j)
-    → ((k : ℕ) → a ≤ k → k < a + n → Member ys (f k)) → n ≤ length ys
-pigeons f zero a ys apart all = omega arith
-pigeons f (suc n) a ys apart all =
-    let low : a ≤ a = omega arith in
-    let high : a < a + suc n = omega arith in
-    let w = without ys (f a) (all a low high) in
-    let fewer = pigeons f n (a + 1) w.0
-    (λ j k p q r. let p' : a ≤ j = omega (arith, p) in let r' : k < a + suc n = omega (arith, r) in apart j k p' q r')
-    (λ k p q.
-    let p' : a ≤ k = omega (arith, p) in
-    let less : a < k = omega (arith, p) in
-    let q' : k < a + suc n = omega (arith, q) in
-    w.2 (f k) (all k p' q') (apart a k low less q')) in
-    omega (arith, fewer, w.1)
 
 -- ---- the first number that passes
 
@@ -58,38 +36,7 @@ first_passing test (suc n) a = elim (cases_Bool (test a)) [
     at : (k : ℕ) → a ≤ k → (a + 1 ≤ k → test k ≡ false) → test a ≡ false → test k ≡ false
     at k p later here = elim (split k p) [ inl same ↦ subst (λ x. test x ≡ false) (sym same) here | inr more ↦ later more ]
 
--- ---- endings
-
-append-left : {X : Type 0} (xs ys zs : List X) → xs ++ ys ≡ xs ++ zs → ys ≡ zs
-append-left [] ys zs e = e
-append-left (x ∷ xs) ys zs e = let tails : xs ++ ys ≡ xs ++ zs = cc in append-left xs ys zs tails
-
-lower_digit : (c : ℕ) → 48 ≤ c → c ≤ 57 → to_ascii_lowercase c ≡ c
-lower_digit c p q = cond-true _ _ _ (lt-ltb c 65 (omega (arith, q)))
-
-lower_digits : (ds : List ℕ) → AllDigits 10 ds → map to_ascii_lowercase ds ≡ ds
-lower_digits [] d = refl
-lower_digits (c ∷ cs) d =
-    let r = digit_from_value c d.0 in
-    let low : 48 ≤ c = omega (arith, r) in
-    let high : c ≤ 57 = omega (arith, r) in
-    let here = lower_digit c low high in
-    let rest = lower_digits cs d.1 in
-    λ t. here t ∷ rest t
-
-abbrev lower : List ℕ → List ℕ
-lower name = map to_ascii_lowercase name
-
-lower_numbered : (id : List ℕ) (n : ℕ) → n < 2 ^ 64 → lower (numbered id n) ≡ lower id ++ (lower (codes "_u") ++ decimal n)
-lower_numbered id n small =
-    ap lower (append_assoc id (codes "_u") (decimal n))
-    ∙ map-append to_ascii_lowercase id (codes "_u" ++ decimal n)
-    ∙ ap (λ v. lower id ++ v) (map-append to_ascii_lowercase (codes "_u") (decimal n) ∙ ap (λ v. lower (codes "_u") ++ v) (lower_digits (decimal n) (decimal_is_IsNumeral n small).0.1))
-
-numbers_apart : (id : List ℕ) (m n : ℕ) → m < 2 ^ 64 → n < 2 ^ 64 → lower (numbered id m) ≡ lower (numbered id n) → m ≡ n
-numbers_apart id m n p q e =
-    let both = sym (lower_numbered id m p) ∙ e ∙ lower_numbered id n q in
-    decimal_injective m n p q (append-left (lower (codes "_u")) (decimal m) (decimal n) (append-left (lower id) _ _ both))
+-- ---- names that are free
 
 -- what is not free is among the names in lower case
 taken_member : (names : List (List ℕ)) (name : List ℕ) → list_any (λ other. is_same other name) names ≡ true → Member (map lower names) (lower name)
@@ -116,7 +63,7 @@ copies_get_least_free names id few = elim (first_passing (λ n. is_free names (n
       (λ j k p q r same.
       let small : k < 2 ^ 64 = omega (arith, r, few) in
       let smaller : j < 2 ^ 64 = omega (arith, r, q, few) in
-      let equal = numbers_apart id k j small smaller same in
+      let equal = numbers_apart id (codes "_u") k j small smaller same in
       omega (arith, q, equal))
       (λ k p q. taken_member names (numbered id k) (taken_of names (numbered id k) (none.1 k p q))) in
       absurd (omega (arith, many, count))

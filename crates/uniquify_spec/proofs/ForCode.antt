@@ -16,7 +16,7 @@ use Rattle.edit_core.proofs.Lists.{Apart, apart_of}
 use Rattle.flat_spec.specs.Occurrences.{Occurrence, under, occurrences_from, occurrences}
 use Rattle.flat_spec.specs.PathOrder.{PathBefore}
 use Rattle.flat_spec.specs.Trees.{Forest, Bare, Grown, UnfoldEach, tree}
-use Rattle.flat_spec.proofs.ListLemmas.{Member, Member-append_right, Member-contains, Contains-member, Ascends}
+use Rattle.flat_spec.proofs.ListLemmas.{Member, Member-append_right, Member-contains, Contains-member, Ascends, Ascends-filter}
 use Rattle.flat_spec.proofs.OccurrenceLemmas.{OccurrenceBefore}
 use Rattle.flat_spec.proofs.TreeLemmas.{tree-unfolds}
 use Rattle.uniquify_spec.specs.Blocks.{is_block, blocks_below, is_first}
@@ -25,7 +25,6 @@ use Rattle.uniquify_spec.specs.Counts.{AreCellsOf, count_in, count_of}
 use Rattle.uniquify_spec.proofs.BlockSplit.{PathBefore-never}
 use Rattle.uniquify_spec.proofs.CopyLists.{same_path-true, same_path-refl}
 use Rattle.uniquify_spec.proofs.CopyNames.{copies_get_least_free}
-use Rattle.uniquify_spec.proofs.Reached.{filter-ascends}
 use Rattle.uniquify_spec.proofs.Unfolded.{below, below_ascends}
 
 -- ---- copies go on
@@ -139,7 +138,7 @@ firsts_by os before after o ascends at = elim (cases_Bool (list_any test before)
 pub firsts_have_none_before : (d : Design) (top : CellId) (before after : List Occurrence) (o : Occurrence) → IsValid d → blocks_below d top ≡ before ++ o ∷ after
     → is_first (blocks_below d top) o ≡ not (list_any (λ (other : Occurrence). same_cell other.cell o.cell) before)
 firsts_have_none_before d top before after o valid at =
-    firsts_by (blocks_below d top) before after o (filter-ascends OccurrenceBefore (λ (q : Occurrence). is_block d q.cell) (below d top) (below_ascends d top)) at
+    firsts_by (blocks_below d top) before after o (Ascends-filter OccurrenceBefore (λ (q : Occurrence). is_block d q.cell) (below d top) (below_ascends d top)) at
 
 -- ---- free numbers
 

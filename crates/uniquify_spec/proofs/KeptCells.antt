@@ -31,7 +31,7 @@ edited-append (x ∷ xs) ys b = edited-append xs ys (edited_once b x)
 abbrev pub own_of : List Copy → List ℕ → Option Copy → CellId → CellId
 own_of all path o cell = option_map_or (λ (copy : Copy). copy.id) o cell
 
-not_turned : (all : List Copy) (path : List ℕ) → is_turned all path ≡ false → (i : ℕ) (cell : CellId) → own_cell all (path ++ i ∷ []) cell ≡ cell
+pub not_turned : (all : List Copy) (path : List ℕ) → is_turned all path ≡ false → (i : ℕ) (cell : CellId) → own_cell all (path ++ i ∷ []) cell ≡ cell
 not_turned all path none i cell = elim (copy-cases all (path ++ i ∷ [])) [
   | inl absent ↦ ap (λ (o : Option Copy). option_map_or (λ copy. copy.id) o cell) absent.0
   | inr found ↦
@@ -50,7 +50,7 @@ all_same all path same k (inst ∷ insts) =
     let rest = all_same all path same (k + 1) insts in
     λ t. record inst { of = same k inst.of t } ∷ rest t
 
-turned_same : (all : List Copy) (path : List ℕ) → is_turned all path ≡ false → (contents : Contents) → turned all path contents ≡ contents
+pub turned_same : (all : List Copy) (path : List ℕ) → is_turned all path ≡ false → (contents : Contents) → turned all path contents ≡ contents
 turned_same all path none contents =
     let insts = all_same all path (not_turned all path none) 0 contents.insts in
     λ t. record { insts = insts t; nets = contents.nets }

@@ -10,12 +10,12 @@ use Rattle.edit_core.specs.Find.{inst_place}
 use Rattle.edit_core.proofs.Closed.{valid_is_closed}
 use Rattle.flat_spec.specs.Occurrences.{Occurrence, under}
 use Rattle.flat_spec.specs.Paths.{cell_along, Reaches}
-use Rattle.flat_spec.proofs.ListLemmas.{Member, Member-map, Member-from_map}
+use Rattle.flat_spec.proofs.ListLemmas.{Member, Member-map, Member-from_map, Member-filter, Member-from_filter}
 use Rattle.flat_spec.proofs.PathLemmas.{Some-same, Reaches-cons, Reaches-front, Reaches-parts}
 use Rattle.uniquify_spec.specs.Blocks.{is_block, blocks, root_of, steps_along, along_path}
 use Rattle.uniquify_spec.specs.Copies.{Copy}
 use Rattle.uniquify_spec.proofs.BlockSplit.{copies_are_new, copy_comes, copy_made}
-use Rattle.uniquify_spec.proofs.Reached.{reached_is_below, reached_is_cell, block_of_inst, filter-cases, filter-member}
+use Rattle.uniquify_spec.proofs.Reached.{reached_is_below, reached_is_cell, block_of_inst}
 use Rattle.uniquify_spec.proofs.SplitCells.{IsSplit, IsKept, HasCopy}
 
 -- the occurrences behind an instance that is found, and behind a place that is found
@@ -99,7 +99,7 @@ along_path_is_split d valid names r is = record {
   copies_below = λ m member same. let from = copy_parts m member in step_has_step d names r from.0 from.1 (sym from.2 ∙ same);
   copies_of_blocks = λ m member. let from = copy_parts m member in ap (is_block d) from.3 ∙ from.4;
   new = copies_are_new d (blocks d (steps_along d r names)) []
-      (λ o member. let step = (filter-cases (λ (o : Occurrence). is_block d o.cell) (steps_along d r names) o member).0 in reached o.path o.cell (step_reached d names r o step));
+      (λ o member. let step = (Member-from_filter (λ (o : Occurrence). is_block d o.cell) (steps_along d r names) o member).0 in reached o.path o.cell (step_reached d names r o step));
   mine = λ path o member at. elim member [ inl e ↦ root_alone path (subst (λ (x : Occurrence). Reaches d r path x.cell) (sym e) at) | inr none ↦ absurd none ];
   parents = λ m member path i at.
       let from = copy_parts m member in
@@ -110,7 +110,7 @@ along_path_is_split d valid names r is = record {
         | inl none ↦ inl (root_of r, inl refl, sym none)
         | inr q ↦
             let same : q.0.cell ≡ front.0 = Some-same (cell_along d r path) (subst (λ p. Reaches d r p q.0.cell) q.2 (step_reached d names r q.0 q.1)) front.1 in
-            let listed = filter-member (λ (o : Occurrence). is_block d o.cell) (steps_along d r names) q.0 q.1 (ap (is_block d) same ∙ block) in
+            let listed = Member-filter (λ (o : Occurrence). is_block d o.cell) (steps_along d r names) q.0 q.1 (ap (is_block d) same ∙ block) in
             let made = copy_made d (blocks d (steps_along d r names)) [] q.0 listed in
             inr (made.0, made.1, made.2 ∙ q.2)
       ];
@@ -123,7 +123,7 @@ along_path_is_split d valid names r is = record {
         → (o : Occurrence) × Member (steps_along d r names) o × (m.path ≡ o.path) × (m.of ≡ o.cell) × (is_block d o.cell ≡ true)
     copy_parts m member =
         let from = copy_comes d (blocks d (steps_along d r names)) [] m member in
-        let both = filter-cases (λ (o : Occurrence). is_block d o.cell) (steps_along d r names) from.0 from.1 in
+        let both = Member-from_filter (λ (o : Occurrence). is_block d o.cell) (steps_along d r names) from.0 from.1 in
         (from.0, both.0, from.2, from.3, both.1)
 
     copy_reached : (m : Copy) → Member (along_path d names r).copies m → Reaches d r m.path m.of

@@ -1,6 +1,6 @@
 -- What is at the end of a path is a cell below the cell where it begins.
-use Rattle.std.proofs.Common.{◌≡◌, ℕ, List, [], ◌∷◌, refl, ap, subst, inl, inr, Option, Some, None, Bool, true, false, cond}
-use Rattle.std.specs.Prelude.{filter, slice_get, is_some, IfSome, option_and_then}
+use Rattle.std.proofs.Common.{◌≡◌, ℕ, List, [], ◌∷◌, refl, subst, Option, Some, None, true}
+use Rattle.std.specs.Prelude.{slice_get, is_some, IfSome, option_and_then}
 use Rattle.std.specs.Option.{option_map_or}
 use Rattle.std.proofs.lemmas.Option.{none-some}
 use Rattle.netlist_schema.specs.Design.{Design, cell_at, insts_in, insts_of}
@@ -10,7 +10,7 @@ use Rattle.netlist_schema.specs.Types.{CellBody, CellId, Contents, Inst, TopHead
 use Rattle.netlist_schema.specs.Valid.{IsValid}
 use Rattle.edit_core.specs.Objects.{IsClosed}
 use Rattle.flat_spec.specs.Paths.{Reaches}
-use Rattle.flat_spec.proofs.ListLemmas.{Member, Ascends, slice_get-contains}
+use Rattle.flat_spec.proofs.ListLemmas.{slice_get-contains}
 use Rattle.flat_spec.proofs.PathLemmas.{Some-same, Reaches-parts}
 use Rattle.uniquify_spec.specs.Blocks.{is_block}
 
@@ -48,27 +48,3 @@ block_of_inst d c i inst is = at (cell_at d c) is
     at (Some body) is = has_contents body.contents i inst is
 
 -- ---- lists
-
-pub filter-cases : {A : Type 0} (test : A → Bool) (xs : List A) (x : A) → Member (filter test xs) x → Member xs x × (test x ≡ true)
-filter-cases test [] x m = absurd m
-filter-cases {A} test (v ∷ xs) x m = kept (test v) refl m (filter-cases test xs x)
-  where
-    kept : (b : Bool) → test v ≡ b → Member (cond b (v ∷ filter test xs) (filter test xs)) x → (Member (filter test xs) x → Member xs x × (test x ≡ true)) → Member (v ∷ xs) x × (test x ≡ true)
-    kept true passes m further = elim m [ inl e ↦ (inl e, subst (λ y. test y ≡ true) e passes) | inr rest ↦ let more = further rest in (inr more.0, more.1) ]
-    kept false fails m further = let more = further m in (inr more.0, more.1)
-
-pub filter-member : {A : Type 0} (test : A → Bool) (xs : List A) (x : A) → Member xs x → test x ≡ true → Member (filter test xs) x
-filter-member test [] x m passes = absurd m
-filter-member {A} test (v ∷ xs) x m passes = kept (test v) refl (filter-member test xs x)
-  where
-    kept : (b : Bool) → test v ≡ b → (Member xs x → test x ≡ true → Member (filter test xs) x) → Member (cond b (v ∷ filter test xs) (filter test xs)) x
-    kept true is further = elim m [ inl e ↦ inl e | inr rest ↦ inr (further rest passes) ]
-    kept false is further = elim m [ inl e ↦ absurd (cc (is, passes, ap test e)) | inr rest ↦ further rest passes ]
-
-pub filter-ascends : {A : Type 0} (R : A → A → Type 0) (test : A → Bool) (xs : List A) → Ascends R xs → Ascends R (filter test xs)
-filter-ascends R test [] p = tt
-filter-ascends {A} R test (v ∷ xs) p = kept (test v) (filter-ascends R test xs p.1)
-  where
-    kept : (b : Bool) → Ascends R (filter test xs) → Ascends R (cond b (v ∷ filter test xs) (filter test xs))
-    kept true rest = (λ y m. p.0 y (filter-cases test xs y m).0, rest)
-    kept false rest = rest

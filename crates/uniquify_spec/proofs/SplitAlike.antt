@@ -32,7 +32,7 @@ slice_get-enumerated f k (x ∷ xs) (suc i) =
     let n : (k + 1) + i ≡ k + suc i = omega arith in
     slice_get-enumerated f (k + 1) xs i ∙ ap (λ j. option_map (λ y. f (j, y)) (slice_get xs i)) n
 
-insts_turned : (all : List Copy) (path : List ℕ) (o : Option Contents) → insts_in (option_map (turned all path) o) ≡ map (turned_inst all path) (enumerate_from 0 (insts_in o))
+pub insts_turned : (all : List Copy) (path : List ℕ) (o : Option Contents) → insts_in (option_map (turned all path) o) ≡ map (turned_inst all path) (enumerate_from 0 (insts_in o))
 insts_turned all path None = refl
 insts_turned all path (Some contents) = refl
 

@@ -16,6 +16,7 @@ use Rattle.edit_core.specs.Seen.{contents_at}
 use Rattle.edit_core.proofs.Closed.{is_cell_after}
 use Rattle.flat_spec.specs.Occurrences.{Occurrence}
 use Rattle.flat_spec.proofs.ListLemmas.{Member, Member-contains, Member-from_map, Member-append_cases}
+use Rattle.edit_core.proofs.Edits.{changed-cases}
 use Rattle.uniquify_spec.specs.Blocks.{is_block}
 use Rattle.uniquify_spec.specs.Copies.{Copy}
 use Rattle.edit_core.specs.Edit.{IsMade, AllGoLast, AllFindOld, AllPlaceOld}
@@ -35,13 +36,6 @@ block_is_cell d id block = some (cell_at d id) block
     some (Some body) is = refl
 
 -- ---- what is written
-
-pub changed-cases : (xs ys : List Edit) (o : Object) → IsChanged (xs ++ ys) o → IsChanged xs o ⊎ IsChanged ys o
-changed-cases [] ys o is = inr is
-changed-cases (x ∷ xs) ys o is = elim is [
-  | inl here ↦ inl (inl here)
-  | inr rest ↦ elim (changed-cases xs ys o rest) [ inl left ↦ inl (inr left) | inr right ↦ inr right ]
-]
 
 pub made-left : (xs ys : List Edit) (o : Object) → IsMade xs o → IsMade (xs ++ ys) o
 made-left [] ys o is = absurd is

@@ -1,12 +1,12 @@
 -- After a split no cell is below itself: each instance is one of the cell that was copied.
-use Rattle.std.proofs.Common.{◌≡◌, ◌≢◌, ◌+◌, ℕ, suc, List, [], ◌∷◌, ◌++◌, map, refl, sym, ap, subst, ◌∙◌, inl, inr, arith, Option, Some, None, Bool}
+use Rattle.std.proofs.Common.{◌≡◌, ◌≢◌, ◌+◌, ℕ, suc, List, [], ◌∷◌, ◌++◌, map, refl, sym, ap, subst, ◌∙◌, inl, inr, arith, Option, Some, Bool}
 use Rattle.std.specs.Prelude.{find, slice_get}
 use Rattle.std.specs.List.{Contains, enumerate_from}
 use Rattle.std.specs.Option.{option_map, option_map_or}
 use Rattle.std.proofs.lemmas.Bool.{true≢false}
 use Rattle.netlist_schema.specs.Design.{Design, cell_at, insts_in, insts_of}
 use Rattle.netlist_schema.specs.Hierarchy.{IsCell, HasInst, IsBelow, placed, deeper, NoCellIsBelowItself, insts_at}
-use Rattle.netlist_schema.specs.Types.{CellBody, CellId, Contents, Inst}
+use Rattle.netlist_schema.specs.Types.{CellBody, CellId, Inst}
 use Rattle.edit_core.specs.Objects.{IsClosed}
 use Rattle.edit_core.specs.Paths.{same_cell}
 use Rattle.edit_core.proofs.Levels.{same_cell-refl, is_same_cell}
@@ -14,6 +14,7 @@ use Rattle.flat_spec.specs.Occurrences.{Occurrence}
 use Rattle.flat_spec.specs.Paths.{Reaches}
 use Rattle.flat_spec.proofs.ListLemmas.{Member, Contains-member, slice_get-contains}
 use Rattle.flat_spec.proofs.PathLemmas.{Reaches-append, Reaches-cons}
+use Rattle.uniquify_spec.proofs.SplitAlike.{insts_turned}
 use Rattle.uniquify_spec.specs.Copies.{Copy}
 use Rattle.uniquify_spec.specs.Split.{Split, turned_inst, turned}
 use Rattle.uniquify_spec.proofs.CopyLists.{AreNew, copy-cases, find-cases, same_copy, new_apart}
@@ -69,10 +70,6 @@ turned_member all path k (x ∷ insts) y member = elim member [
 -- an instance that comes from one of this cell
 abbrev ComesFrom : Design → Split → CellId → Inst → Type 0
 ComesFrom d s id y = (x : Inst) × HasInst d id x × (origin s y.of ≡ x.of)
-
-insts_turned : (all : List Copy) (path : List ℕ) (o : Option Contents) → insts_in (option_map (turned all path) o) ≡ map (turned_inst all path) (enumerate_from 0 (insts_in o))
-insts_turned all path None = refl
-insts_turned all path (Some contents) = refl
 
 -- an instance in the own cell of an occurrence
 from_turned : (d : Design) (r : CellId) (s : Split) → IsSplit d r s → (path : List ℕ) (c : CellId) → Reaches d r path c → (body : CellBody) → cell_at d c ≡ Some body

@@ -1,7 +1,6 @@
 -- After a split the cells of the kept and the copied occurrences are at one path each.
-use Rattle.std.proofs.Common.{◌≡◌, ◌≢◌, ◌⊎◌, ℕ, List, [], ◌∷◌, refl, sym, ap, subst, ◌∙◌, inl, inr, Option, Some, None, true}
-use Rattle.std.specs.Option.{option_map, option_map_or}
-use Rattle.std.proofs.lemmas.Option.{none-some}
+use Rattle.std.proofs.Common.{◌≡◌, ◌≢◌, ◌⊎◌, ℕ, List, [], ◌∷◌, sym, ap, subst, ◌∙◌, inl, inr, Option, true}
+use Rattle.std.specs.Option.{option_map_or}
 use Rattle.netlist_schema.specs.Design.{Design}
 use Rattle.netlist_schema.specs.Hierarchy.{IsCell}
 use Rattle.netlist_schema.specs.Types.{CellId}
@@ -9,6 +8,7 @@ use Rattle.flat_spec.specs.Occurrences.{Occurrence}
 use Rattle.flat_spec.specs.Paths.{cell_along, Reaches}
 use Rattle.flat_spec.proofs.ListLemmas.{Member, Ascends}
 use Rattle.flat_spec.proofs.PathLemmas.{Some-same}
+use Rattle.flat_spec.proofs.PinLemmas.{map-parts}
 use Rattle.uniquify_spec.specs.Blocks.{is_block}
 use Rattle.uniquify_spec.specs.Copies.{Copy}
 use Rattle.uniquify_spec.specs.Split.{Split}
@@ -16,10 +16,6 @@ use Rattle.uniquify_spec.specs.Laws.{IsAtOnePath}
 use Rattle.uniquify_spec.proofs.CopyLists.{copy-cases, same_copy, new_apart}
 use Rattle.uniquify_spec.proofs.SplitAlike.{along_root, own_block}
 use Rattle.uniquify_spec.proofs.SplitCells.{IsSplit, IsKept, HasCopy, split_design, own}
-
-map-parts : {A B : Type 0} (f : A → B) (o : Option A) (y : B) → option_map f o ≡ Some y → (x : A) × (o ≡ Some x) × (f x ≡ y)
-map-parts f None y e = absurd (none-some y e)
-map-parts f (Some x) y e = (x, refl, Some-same (Some (f x)) refl e)
 
 -- where a path leads after the split: to the own cell of where it led before
 pub reached_own : (d : Design) (r : CellId) (s : Split) → IsSplit d r s → (path : List ℕ) (id : CellId) → Reaches (split_design d s) r path id

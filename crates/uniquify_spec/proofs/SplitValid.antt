@@ -1,12 +1,12 @@
 -- A split leaves a valid design valid.
 use Rattle.std.proofs.Common.{◌≡◌, ◌≤◌, ◌<◌, ℕ, suc, List, [], ◌∷◌, ◌++◌, map, length, refl, sym, ap, subst, ◌∙◌, inl, inr, Option, Some, None, false, slice_get, append-nil}
 use Rattle.std.specs.Prelude.{IsSome, IfSome, IfNone, filter, is_none, not, nat_le}
-use Rattle.std.specs.List.{All, AllByRecursion}
+use Rattle.std.specs.List.{All}
 use Rattle.std.specs.Option.{option_map, option_map_or}
 use Rattle.std.proofs.lemmas.Bool.{leb-false}
 use Rattle.std.proofs.lemmas.List.{length-map}
 use Rattle.std.proofs.lemmas.List.Elements.{All-from_recursion}
-use Rattle.std.proofs.lemmas.Option.{none-some}
+use Rattle.std.proofs.lemmas.Option.{none-some, slice_get-map}
 use Rattle.netlist_schema.specs.Design.{Design, lib_at, cell_at, cells_in}
 use Rattle.netlist_schema.specs.Hierarchy.{IsCell, Resolves, insts_at}
 use Rattle.netlist_schema.specs.Names.{AreDistinct, HasDistinctKeys, cell_names, lib_names, note_key}
@@ -15,6 +15,7 @@ use Rattle.netlist_schema.specs.Types.{CellBody, CellId, Inst, Lib, LibHead, Lib
 use Rattle.netlist_schema.specs.Valid.{IsValid, IsNoteBelow}
 use Rattle.netlist_schema.proofs.Cells.{All-slice_get, All-cell_at}
 use Rattle.netlist_schema.proofs.WithCell.{All-weaker}
+use Rattle.netlist_schema.proofs.Lists.{all_from_places}
 use Rattle.edit_core.specs.Edit.{edited}
 use Rattle.edit_core.specs.Objects.{Grown}
 use Rattle.edit_core.specs.Rule.{refuse}
@@ -33,7 +34,6 @@ use Rattle.uniquify_spec.specs.Copies.{Copy, names_with, name_at}
 use Rattle.uniquify_spec.specs.Local.{KeepsValid}
 use Rattle.uniquify_spec.specs.Rows.{too_many_cells, below_top, uniquify_row, unique_path_row}
 use Rattle.uniquify_spec.specs.Split.{Split, turned_inst, split_edits}
-use Rattle.uniquify_spec.proofs.AlikePaths.{slice_get-mapped}
 use Rattle.uniquify_spec.proofs.BlockSplit.{each_block_is_split}
 use Rattle.uniquify_spec.proofs.CopyLists.{any-member}
 use Rattle.uniquify_spec.proofs.NewCells.{body_of}
@@ -47,12 +47,8 @@ use Rattle.uniquify_spec.proofs.ValidNames.{AreNamed, HaveRoom, copies_are_named
 
 -- ---- libraries
 
-each_found : {X : Type 0} (P : X → Type 0) (xs : List X) → ((k : ℕ) (x : X) → slice_get xs k ≡ Some x → P x) → AllByRecursion P xs
-each_found P [] h = tt
-each_found P (x ∷ xs) h = (h 0 x refl, each_found P xs (λ k y at. h (suc k) y at))
-
 all_found : {X : Type 0} (P : X → Type 0) (xs : List X) → ((k : ℕ) (x : X) → slice_get xs k ≡ Some x → P x) → All P xs
-all_found P xs h = All-from_recursion P xs (each_found P xs h)
+all_found P xs h = All-from_recursion P xs (all_from_places P xs h)
 
 some_head : (o : Option Lib) (head : LibHead) → option_map (λ (l : Lib). l.head) o ≡ Some head → (lib : Lib) × (o ≡ Some lib) × (lib.head ≡ head)
 some_head None head e = absurd (none-some head e)
@@ -63,7 +59,7 @@ lib_before : (d e : Design) → map (λ (l : Lib). l.head) d.libs ≡ map (λ (l
     → (old : Lib) × (slice_get d.libs k ≡ Some old) × (old.head ≡ lib.head)
 lib_before d e heads k lib at =
     some_head (slice_get d.libs k) lib.head
-    (sym (slice_get-mapped (λ (l : Lib). l.head) d.libs k) ∙ ap (λ hs. slice_get hs k) heads ∙ slice_get-mapped (λ (l : Lib). l.head) e.libs k ∙ ap (option_map (λ (l : Lib). l.head)) at)
+    (sym (slice_get-map (λ (l : Lib). l.head) d.libs k) ∙ ap (λ hs. slice_get hs k) heads ∙ slice_get-map (λ (l : Lib). l.head) e.libs k ∙ ap (option_map (λ (l : Lib). l.head)) at)
 
 -- a split with its names and room
 pub record IsGoodSplit (d : Design) (r : CellId) (s : Split) : Type 0 where

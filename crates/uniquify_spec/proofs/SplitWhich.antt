@@ -11,18 +11,17 @@ use Rattle.netlist_schema.specs.Valid.{IsValid}
 use Rattle.netlist_schema.proofs.Cells.{All-slice_get}
 use Rattle.flat_spec.specs.Occurrences.{Occurrence, occurrences}
 use Rattle.flat_spec.specs.Paths.{cell_along, Reaches}
-use Rattle.flat_spec.proofs.ListLemmas.{Member, Contains-member}
+use Rattle.flat_spec.proofs.ListLemmas.{Member, Contains-member, Member-filter, Member-from_filter, filter_same}
 use Rattle.flat_spec.proofs.PathLemmas.{Some-same}
 use Rattle.uniquify_spec.specs.Blocks.{is_block, blocks_below, is_first, each_block, along_path}
 use Rattle.uniquify_spec.specs.Copies.{Copy, names_with}
 use Rattle.uniquify_spec.specs.Laws.{has_step, IsOwned, IsDoneBelow, IsTooFull}
 use Rattle.uniquify_spec.specs.Rows.{too_many_cells, below_top, uniquified}
 use Rattle.uniquify_spec.specs.Split.{Split}
-use Rattle.uniquify_spec.proofs.Agreed.{filter-same}
 use Rattle.uniquify_spec.proofs.BlockSplit.{block_reached, copy_made, copy_comes, each_block_is_split}
 use Rattle.uniquify_spec.proofs.CopyLists.{AreNew, copy-cases, length-names, length-names_more, new_apart}
 use Rattle.uniquify_spec.proofs.PathSplit.{along_path_is_split}
-use Rattle.uniquify_spec.proofs.Reached.{filter-cases, filter-member, top_is_cell}
+use Rattle.uniquify_spec.proofs.Reached.{top_is_cell}
 use Rattle.uniquify_spec.proofs.SplitAlike.{along_root}
 use Rattle.uniquify_spec.proofs.SplitCells.{IsSplit, split_design, own}
 use Rattle.uniquify_spec.proofs.SplitLaws.{uniquify_is_split_design}
@@ -38,7 +37,7 @@ has_step-true (i ∷ path) some = refl
 
 pub blocks_are_occurrences : (d : Design) (top : CellId) → IsValid d → blocks_below d top ≡ filter (λ o. has_step o.path && is_block d o.cell) (occurrences d top)
 blocks_are_occurrences d top valid =
-    filter-same (λ (o : Occurrence). is_block d o.cell) (λ (o : Occurrence). has_step o.path && is_block d o.cell) (below d top)
+    filter_same (λ (o : Occurrence). is_block d o.cell) (λ (o : Occurrence). has_step o.path && is_block d o.cell) (below d top)
     (λ o member. ap (λ b. b && is_block d o.cell) (sym (has_step-true o.path (below_has_step d top o member))))
     ∙ ap (filter (λ (o : Occurrence). has_step o.path && is_block d o.cell)) (sym (below_are d valid top))
 
@@ -63,14 +62,14 @@ owned d r valid is_cell o member =
         | inl absent ↦ subst (λ id. Reaches (split_design d s) r o.path id) (ap (λ (c : Option Copy). option_map_or (λ copy. copy.id) c o.cell) absent.0) there
         | inr found ↦
             let from = copy_comes d (later_of os) [] found.0 found.2 in
-            let both = filter-cases (λ q. not (is_first os q)) os from.0 from.1 in
+            let both = Member-from_filter (λ q. not (is_first os q)) os from.0 from.1 in
             let path : from.0.path ≡ o.path = sym from.2 ∙ found.3 in
             let cell : from.0.cell ≡ o.cell = Some-same (cell_along d r o.path) (subst (λ p. Reaches d r p from.0.cell) path (block_reached d valid r from.0 both.0)) reached in
             let same : ◌≡◌ {A = Occurrence} from.0 o = λ t. record { path = path t; cell = cell t } in
             absurd (true≢false (sym both.1 ∙ ap (λ q. not (is_first os q)) same ∙ ap not first))
       ];
       later = λ later.
-          let made = copy_made d (later_of os) [] o (filter-member (λ q. not (is_first os q)) os o member (not_from_false (is_first os o) later)) in
+          let made = copy_made d (later_of os) [] o (Member-filter (λ q. not (is_first os q)) os o member (not_from_false (is_first os o) later)) in
           elim (copy-cases s.copies o.path) [
             | inl absent ↦ absurd (absent.1 made.0 made.1 made.2)
             | inr found ↦ (
@@ -117,7 +116,7 @@ any_found (m ∷ ms) any = elim (or_cases _ _ any) [
   | inr later ↦ let more = any_found ms later in (more.0, inr more.1, more.2)
 ]
 
-few_cells_in : (d : Design) → IsValid d → (lib : LibId) → length (cells_in d lib) ≤ 65536
+pub few_cells_in : (d : Design) → IsValid d → (lib : LibId) → length (cells_in d lib) ≤ 65536
 few_cells_in d valid lib = at (lib_at d lib) refl
   where
     at : (o : Option Lib) → lib_at d lib ≡ o → length (option_map_or (λ (l : Lib). l.cells) o []) ≤ 65536

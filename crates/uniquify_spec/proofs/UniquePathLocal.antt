@@ -19,7 +19,7 @@ use Rattle.edit_core.specs.declared.reply.Reply.TheVariants.{NoTop, NoPath}
 use Rattle.edit_core.proofs.Reached.{either_same, iff_trans}
 use Rattle.edit_core.proofs.Same.{both_ways}
 use Rattle.flat_spec.specs.Occurrences.{Occurrence, under}
-use Rattle.flat_spec.proofs.ListLemmas.{Member, Contains-member, Member-contains, Member-append_cases, Member-map, Member-from_map}
+use Rattle.flat_spec.proofs.ListLemmas.{Member, Contains-member, Member-contains, Member-append_cases, Member-map, Member-from_map, Member-from_filter, filter_same}
 use Rattle.uniquify_spec.specs.Blocks.{is_block, blocks, root_of, steps_along, along_path}
 use Rattle.uniquify_spec.specs.Copies.{Copy, copies_after}
 use Rattle.edit_core.specs.Edit.{IsMade}
@@ -28,10 +28,9 @@ use Rattle.uniquify_spec.specs.Needs.{UniquePathNeedsBelow, UniquePathNeeds}
 use Rattle.edit_core.specs.Objects.{contents_object}
 use Rattle.uniquify_spec.specs.Rows.{split_row, unique_path_row}
 use Rattle.uniquify_spec.specs.Split.{Split, Owner, copy_owner, kept_owner, owners, split_edits}
-use Rattle.uniquify_spec.proofs.Agreed.{contents_agree, parts_agree, directory_agrees, insts_agree, block_agrees, filter-same, copies_same, edits_same}
+use Rattle.uniquify_spec.proofs.Agreed.{contents_agree, parts_agree, directory_agrees, insts_agree, block_agrees, copies_same, edits_same}
 use Rattle.uniquify_spec.proofs.BlockSplit.{copies_are_new, copy_comes, copy_lib}
 use Rattle.uniquify_spec.proofs.CopyLists.{AreNew}
-use Rattle.uniquify_spec.proofs.Reached.{filter-cases}
 use Rattle.uniquify_spec.proofs.SplitValid.{unique_path_keeps_valid}
 use Rattle.uniquify_spec.proofs.SplitEdits.{block_is_cell, split_writes, split_last, split_finds, split_places}
 
@@ -130,11 +129,11 @@ insts_along_same : (d e : Design) (top : CellId) (names : List (List ℕ)) → A
 insts_along_same d e top names agree id along = insts_agree d e id (agree.contents id along)
 
 block_step : (d : Design) (top : CellId) (names : List (List ℕ)) (o : Occurrence) → Member (blocks d (steps_along d top names)) o → Member (steps_along d top names) o × (is_block d o.cell ≡ true)
-block_step d top names o member = filter-cases (λ (o : Occurrence). is_block d o.cell) (steps_along d top names) o member
+block_step d top names o member = Member-from_filter (λ (o : Occurrence). is_block d o.cell) (steps_along d top names) o member
 
 blocks_same : (d e : Design) (top : CellId) (names : List (List ℕ)) → AgreeAlong d e top names → blocks d (steps_along d top names) ≡ blocks e (steps_along e top names)
 blocks_same d e top names agree =
-    filter-same (λ (o : Occurrence). is_block d o.cell) (λ (o : Occurrence). is_block e o.cell) (steps_along d top names)
+    filter_same (λ (o : Occurrence). is_block d o.cell) (λ (o : Occurrence). is_block e o.cell) (steps_along d top names)
     (λ o member. block_agrees d e o.cell (agree.contents o.cell (inr (o, member, refl))))
     ∙ ap (blocks e) (steps_same d e names top (insts_along_same d e top names agree))
 

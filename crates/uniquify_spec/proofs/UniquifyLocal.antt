@@ -18,7 +18,7 @@ use Rattle.edit_core.proofs.Reached.{either_same, iff_trans}
 use Rattle.edit_core.proofs.Same.{both_ways}
 use Rattle.flat_spec.specs.Occurrences.{Occurrence, under, occurrences_from}
 use Rattle.flat_spec.specs.Trees.{Grown as Tree, grown}
-use Rattle.flat_spec.proofs.ListLemmas.{Member, Member-contains, Member-append_cases, Member-from_map}
+use Rattle.flat_spec.proofs.ListLemmas.{Member, Member-contains, Member-append_cases, Member-from_map, Member-from_filter, filter_same}
 use Rattle.uniquify_spec.specs.Blocks.{is_block, trees_below, blocks_below, is_first, root_of, each_block}
 use Rattle.uniquify_spec.specs.Copies.{Copy, copies_after}
 use Rattle.edit_core.specs.Edit.{IsMade}
@@ -27,10 +27,9 @@ use Rattle.uniquify_spec.specs.Needs.{IsPartOfEach, UniquifyNeedsBelow, Uniquify
 use Rattle.edit_core.specs.Objects.{contents_object}
 use Rattle.uniquify_spec.specs.Rows.{split_row, uniquify_row}
 use Rattle.uniquify_spec.specs.Split.{Split, Owner, copy_owner, kept_owner, owners, split_edits}
-use Rattle.uniquify_spec.proofs.Agreed.{contents_agree, parts_agree, directory_agrees, insts_agree, block_agrees, filter-same, copies_same, edits_same}
+use Rattle.uniquify_spec.proofs.Agreed.{contents_agree, parts_agree, directory_agrees, insts_agree, block_agrees, copies_same, edits_same}
 use Rattle.uniquify_spec.proofs.BlockSplit.{copies_are_new, copy_comes, copy_lib}
 use Rattle.uniquify_spec.proofs.CopyLists.{AreNew}
-use Rattle.uniquify_spec.proofs.Reached.{filter-cases}
 use Rattle.uniquify_spec.proofs.SplitValid.{uniquify_keeps_valid}
 use Rattle.uniquify_spec.proofs.SplitEdits.{block_is_cell, split_writes, split_last, split_finds, split_places}
 
@@ -83,7 +82,7 @@ below_cells d top o member = under_cell d top o.cell (tree_cells d most_cells (i
 
 block_is_below : (d : Design) (top : CellId) (o : Occurrence) → Member (blocks_below d top) o → IsBelow d o.cell top × (is_block d o.cell ≡ true)
 block_is_below d top o member =
-    let both = filter-cases (λ (o : Occurrence). is_block d o.cell) (occurrences_from 0 (trees_below d top)) o member in
+    let both = Member-from_filter (λ (o : Occurrence). is_block d o.cell) (occurrences_from 0 (trees_below d top)) o member in
     (below_cells d top o both.0, both.1)
 
 -- ---- below
@@ -126,7 +125,7 @@ insts_region d e top agree j at = elim at [
 
 blocks_same : (d e : Design) (top : CellId) → AgreeBelow d e top → blocks_below d top ≡ blocks_below e top
 blocks_same d e top agree =
-    filter-same (λ (o : Occurrence). is_block d o.cell) (λ (o : Occurrence). is_block e o.cell) (occurrences_from 0 (trees_below d top))
+    filter_same (λ (o : Occurrence). is_block d o.cell) (λ (o : Occurrence). is_block e o.cell) (occurrences_from 0 (trees_below d top))
     (λ o member. block_agrees d e o.cell (agree.contents o.cell (below_cells d top o member)))
     ∙ ap (λ f. filter (λ (o : Occurrence). is_block e o.cell) (occurrences_from 0 f))
     (trees_below_same d e top (insts_agree d e top agree.inside) (λ c below. insts_agree d e c (agree.contents c below)))
@@ -135,7 +134,7 @@ abbrev later_of : List Occurrence → List Occurrence
 later_of os = filter (λ o. not (is_first os o)) os
 
 later_block : (d : Design) (top : CellId) (o : Occurrence) → Member (later_of (blocks_below d top)) o → IsBelow d o.cell top × (is_block d o.cell ≡ true)
-later_block d top o member = block_is_below d top o (filter-cases (λ q. not (is_first (blocks_below d top) q)) (blocks_below d top) o member).0
+later_block d top o member = block_is_below d top o (Member-from_filter (λ q. not (is_first (blocks_below d top) q)) (blocks_below d top) o member).0
 
 -- the copy of a split is of a block below the top
 copy_block : (d : Design) (top : CellId) (m : Copy) → Member (each_block d top).copies m → IsBelow d m.of top × (is_block d m.of ≡ true) × (m.id.lib ≡ m.of.lib)
@@ -157,7 +156,7 @@ each_block_same d e top agree =
 kept_region : (d : Design) (top : CellId) (o : Occurrence) → Member (each_block d top).kept o → (o.cell ≡ top) ⊎ IsBelow d o.cell top
 kept_region d top o member = elim member [
   | inl e ↦ inl (ap (λ (v : Occurrence). v.cell) (sym e))
-  | inr rest ↦ inr (block_is_below d top o (filter-cases (is_first (blocks_below d top)) (blocks_below d top) o rest).0).0
+  | inr rest ↦ inr (block_is_below d top o (Member-from_filter (is_first (blocks_below d top)) (blocks_below d top) o rest).0).0
 ]
 
 owner_contents : (d e : Design) (top : CellId) → AgreeBelow d e top → (w : Owner) → Member (owners (each_block d top)) w → contents_at d w.cell ≡ contents_at e w.cell

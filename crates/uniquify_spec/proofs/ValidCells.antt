@@ -16,12 +16,13 @@ use Rattle.netlist_schema.proofs.WithCell.{All-weaker}
 use Rattle.edit_core.specs.Objects.{Grown, Outside, outside_of}
 use Rattle.edit_core.specs.Paths.{same_cell}
 use Rattle.edit_core.proofs.Closed.{is_cell_found}
-use Rattle.edit_core.proofs.Growing.{edited_is_grown}
+use Rattle.edit_core.proofs.Growing.{edited_is_grown, outside_found}
 use Rattle.edit_core.proofs.Levels.{same_cell-refl, is_same_cell}
 use Rattle.flat_spec.specs.Occurrences.{Occurrence}
 use Rattle.flat_spec.specs.Paths.{Reaches}
 use Rattle.flat_spec.proofs.ListLemmas.{Member}
 use Rattle.flat_spec.proofs.PathLemmas.{Some-same, Reaches-append, Reaches-cons}
+use Rattle.uniquify_spec.proofs.SplitAlike.{insts_turned}
 use Rattle.uniquify_spec.specs.Alike.{unplaced}
 use Rattle.uniquify_spec.specs.Copies.{Copy}
 use Rattle.uniquify_spec.specs.Split.{Split, turned_inst, turned, split_edits}
@@ -36,17 +37,13 @@ use Rattle.uniquify_spec.proofs.SplitCells.{IsSplit, split_design, own, of_is, c
 abbrev pub StandsFor : Split → CellId → CellId → Type 0
 StandsFor s k c = (k ≡ c) ⊎ ((m : Copy) × Member s.copies m × (m.id ≡ k) × (m.of ≡ c))
 
-outside_parts : (o : Option CellBody) (x : Outside) → option_map outside_of o ≡ Some x → (body : CellBody) × (o ≡ Some body) × (outside_of body ≡ x)
-outside_parts None x e = absurd (none-some x e)
-outside_parts (Some body) x e = (body, refl, Some-same (Some (outside_of body)) refl e)
-
 -- it is there, with the same ports
 pub stands_there : (d : Design) (r : CellId) (s : Split) → IsSplit d r s → (k c : CellId) → StandsFor s k c → (body : CellBody) → cell_at d c ≡ Some body
     → (new : CellBody) × (cell_at (split_design d s) k ≡ Some new) × (new.ports ≡ body.ports)
 stands_there d r s is k c stands body was = elim stands [
   | inl same ↦
       let grown : Grown d (split_design d s) = edited_is_grown (split_edits d s) d in
-      let found = outside_parts (cell_at (split_design d s) c) (outside_of body) (grown.cells c (outside_of body) (ap (option_map outside_of) was)) in
+      let found = outside_found (cell_at (split_design d s) c) (outside_of body) (grown.cells c (outside_of body) (ap (option_map outside_of) was)) in
       (found.0, ap (cell_at (split_design d s)) same ∙ found.1, ap (λ (o : Outside). o.ports) found.2)
   | inr copy ↦
       let m = copy.0 in
@@ -148,10 +145,6 @@ pub record IsMovedCell (d : Design) (s : Split) (id : CellId) (new : CellBody) :
   pub insts : AreMoved s (insts_of old) (insts_of new)
   pub name : (new.name ≡ old.name) ⊎ ((m : Copy) × Member s.copies m × (new.name ≡ m.name))
 
-turned_insts : (all : List Copy) (path : List ℕ) (o : Option Contents) → insts_in (option_map (turned all path) o) ≡ map (turned_inst all path) (enumerate_from 0 (insts_in o))
-turned_insts all path None = refl
-turned_insts all path (Some contents) = refl
-
 turned_nets : (all : List Copy) (path : List ℕ) (o : Option Contents) → nets_in (option_map (turned all path) o) ≡ nets_in o
 turned_nets all path None = refl
 turned_nets all path (Some contents) = refl
@@ -160,7 +153,7 @@ turned_nets all path (Some contents) = refl
 moved_body : (d : Design) (r : CellId) (s : Split) → IsSplit d r s → (path : List ℕ) (c : CellId) → Reaches d r path c → (body : CellBody) → cell_at d c ≡ Some body
     → AreMoved s (insts_of body) (insts_in (option_map (turned s.copies path) body.contents))
 moved_body d r s is path c reached body was =
-    subst (λ ys. AreMoved s (insts_of body) ys) (sym (turned_insts s.copies path body.contents))
+    subst (λ ys. AreMoved s (insts_of body) ys) (sym (insts_turned s.copies path body.contents))
     (moved_turned s path 0 (insts_of body) (λ i x at.
     let n : i ≡ 0 + i = omega arith in
     let there : slice_get (option_map_or insts_of (cell_at d c) []) i ≡ Some x = ap (λ o. slice_get (option_map_or insts_of o []) i) was ∙ at in

@@ -4,7 +4,7 @@ use Rattle.std.specs.Prelude.{◌==◌, IsSome, IfSome, codes, decimal}
 use Rattle.std.specs.List.{AllByRecursion, list_any}
 use Rattle.std.specs.Option.{option_map, option_to_list}
 use Rattle.std.specs.Str.Parse.{AllDigits}
-use Rattle.std.proofs.lemmas.Bool.{cases_eq, cases_Bool, ne_eqb, cond-true, cond-false, true≢false, or_parts, or_left, and_from, le-leb}
+use Rattle.std.proofs.lemmas.Bool.{cases_eq, cases_Bool, ne_eqb, cond-true, cond-false, true≢false, or_parts}
 use Rattle.std.proofs.lemmas.Fmt.{decimal_is_IsNumeral}
 use Rattle.std.proofs.lemmas.List.{map-append}
 use Rattle.std.proofs.lemmas.List.Elements.{recursion_from_All, All-from_recursion}
@@ -14,15 +14,17 @@ use Rattle.netlist_schema.specs.Ident.{is_identifier_byte, IsIdentifier}
 use Rattle.netlist_schema.specs.Names.{cell_names}
 use Rattle.netlist_schema.specs.Typed.{IsBytes, IsTypedName}
 use Rattle.netlist_schema.specs.Types.{CellBody, Contents, Lib, LibId, Name}
+use Rattle.netlist_schema.proofs.Lists.{all_append}
 use Rattle.edit_core.specs.Edit.{inner, edited, with_more_cell, lib_with_more}
 use Rattle.edit_core.specs.Find.{is_same}
 use Rattle.edit_core.specs.Seen.{contents_at}
 use Rattle.edit_core.proofs.Lists.{apart_more}
 use Rattle.edit_core.proofs.Edits.{cells_of, more_same, more_other, once_alike}
-use Rattle.edit_core.proofs.Lists.{Apart, each_append}
+use Rattle.edit_core.proofs.Lists.{Apart}
 use Rattle.edit_core.proofs.Refusals.{is_same-refl}
 use Rattle.flat_spec.specs.Occurrences.{Occurrence}
 use Rattle.flat_spec.proofs.ListLemmas.{Member}
+use Rattle.edit_core.proofs.Numbers.{digits_pass}
 use Rattle.uniquify_spec.specs.Copies.{Copy, numbered, is_free, free_number, copy_name, copies_in, names_with, name_at, copy_after, copies_after}
 use Rattle.uniquify_spec.specs.Split.{Split, Owner, owners, turned, renamed, is_turned, turned_cell, split_edits}
 use Rattle.uniquify_spec.proofs.CopyLists.{IsNew, AreNew}
@@ -133,17 +135,6 @@ names_few d (m ∷ ms) before new room lib few =
 
 -- ---- names are identifiers
 
-digit_passes : (c : ℕ) → 48 ≤ c → c ≤ 57 → is_identifier_byte c ≡ true
-digit_passes c low high = or_left _ _ (or_left _ _ (or_left _ _ (and_from _ _ (le-leb 48 c low) (le-leb c 57 high))))
-
-digits_pass : (ds : List ℕ) → AllDigits 10 ds → AllByRecursion (λ b. is_identifier_byte b ≡ true) ds
-digits_pass [] d = tt
-digits_pass (c ∷ cs) d =
-    let r = digit_from_value c d.0 in
-    let low : 48 ≤ c = omega (arith, r) in
-    let high : c ≤ 57 = omega (arith, r) in
-    (digit_passes c low high, digits_pass cs d.1)
-
 digits_bytes : (ds : List ℕ) → AllDigits 10 ds → AllByRecursion (λ b. b < 256) ds
 digits_bytes [] d = tt
 digits_bytes (c ∷ cs) d =
@@ -158,9 +149,9 @@ ending_bytes : AllByRecursion (λ b. b < 256) (codes "_u")
 ending_bytes = (omega arith, (omega arith, tt))
 
 numbered_all : (P : ℕ → Type 0) (text : List ℕ) (n : ℕ) → AllByRecursion P text → AllByRecursion P (codes "_u") → AllByRecursion P (decimal n) → AllByRecursion P (numbered text n)
-numbered_all P text n front ending digits = each_append P (text ++ codes "_u") (decimal n) (each_append P text (codes "_u") front ending) digits
+numbered_all P text n front ending digits = all_append P (text ++ codes "_u") (decimal n) (all_append P text (codes "_u") front ending) digits
 
-numbered_is_identifier : (id : List ℕ) (n : ℕ) → n < 2 ^ 64 → IsIdentifier id → IsIdentifier (numbered id n)
+pub numbered_is_identifier : (id : List ℕ) (n : ℕ) → n < 2 ^ 64 → IsIdentifier id → IsIdentifier (numbered id n)
 numbered_is_identifier id n small is =
     let number = decimal_is_IsNumeral n small in
     let some = number.0.0 in

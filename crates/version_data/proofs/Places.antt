@@ -1,5 +1,5 @@
 -- Places of names: the first equal one, and names that differ.
-use Rattle.std.proofs.Common.{◌≡◌, ℕ, zero, suc, arith, ◌+◌, ◌<◌, Bool, true, false, not, cond, List, [], ◌∷◌, ◌++◌, map, length, take, nat_eq, Option, Some, None, refl, sym, ap, ◌∙◌, get_or, slice_get, option_map, Global}
+use Rattle.std.proofs.Common.{◌≡◌, ℕ, zero, suc, arith, ◌+◌, ◌<◌, Bool, false, cond, List, [], ◌∷◌, ◌++◌, map, length, take, nat_eq, Option, Some, None, refl, sym, ap, ◌∙◌, get_or, slice_get, option_map, Global}
 use Rattle.std.specs.Prelude.{position, nat_lt}
 use Rattle.std.specs.Cmp.Lexicographic.{pointwise, bytes_decides, nat_list_eq_equiv}
 use Rattle.std.specs.List.{All, list_any}
@@ -7,33 +7,17 @@ use Rattle.indexmap.specs.IndexSet.{insert_key}
 use Rattle.std.proofs.lemmas.List.{get_or-take, take-map, map-append, length-take}
 use Rattle.std.proofs.lemmas.List.Folds.{list_any_none}
 use Rattle.std.proofs.lemmas.Option.{slice_get_within, get_or_from_slice_get}
+use Rattle.std.proofs.lemmas.Bool.{false_from_ne_true}
 use Rattle.netlist_schema.specs.Names.{AreDistinct, cell_names, lib_names}
 use Rattle.std.specs.Arc.{arc_value}
 use Rattle.std.specs.declared.sync.Arc.{Arc}
+use Rattle.netlist_schema.proofs.Lists.{take_next}
+use Rattle.edit_core.proofs.Positions.{position_from-position, position_from-map}
 use Rattle.version_data.specs.Shelves.{shelf_name}
 use Rattle.netlist_schema.specs.Types.{CellBody, Lib, LibId}
-use Rattle.std.proofs.lemmas.Bool.{le-leb}
-use Rattle.std.proofs.lemmas.Bool.Decides.{nat_tests}
 use Rattle.std.specs.List.{position_from, position_or_len}
 use Rattle.edit_core.specs.Find.{is_name, lib_named, place_of}
 use Rattle.netlist_schema.specs.Design.{Design}
-
-same_test : (n len : ℕ) → nat_lt (1 + n) (suc len) ≡ nat_lt n len
-same_test n len = grind (arith, nat_tests)
-
-one_more : (b : Bool) (i n len : ℕ) (rest : Option ℕ) → rest ≡ cond (nat_lt n len) (Some (i + 1 + n)) None → cond b (Some i) rest ≡ cond (nat_lt (cond (not b) (1 + n) 0) (suc len)) (Some (i + cond (not b) (1 + n) 0)) None
-one_more true i n len rest is =
-    let within : nat_lt 0 (suc len) ≡ true = le-leb 1 (suc len) (omega arith) in
-    let here : i ≡ i + 0 = omega arith in
-    ap (λ k. Some k) here ∙ ap (λ b. cond b (Some (i + 0)) None) (sym within)
-one_more false i n len rest is =
-    let here : i + 1 + n ≡ i + (1 + n) = omega arith in
-    is ∙ ap (λ k. cond (nat_lt n len) (Some k) None) here ∙ ap (λ b. cond b (Some (i + (1 + n))) None) (sym (same_test n len))
-
--- the place by recursion is std's position
-position_from-position : {X : Type 0} (test : X → Bool) (i : ℕ) (xs : List X) → position_from test i xs ≡ cond (nat_lt (position_or_len test xs) (length xs)) (Some (i + position_or_len test xs)) None
-position_from-position test i [] = refl
-position_from-position test i (x ∷ xs) = one_more (test x) i (position_or_len test xs) (length xs) (position_from test (i + 1) xs) (position_from-position test (i + 1) xs)
 
 position_from-flip : (name : List ℕ) (i : ℕ) (names : List (List ℕ)) → position_from (λ other. is_name other name) i names ≡ position_from (pointwise nat_eq name) i names
 position_from-flip name i [] = refl
@@ -50,15 +34,6 @@ place_of-position name names =
 pub place_found : (name : List ℕ) (names keys : List (List ℕ)) (found : Option ℕ) → keys ≡ names → found ≡ position (pointwise nat_eq name) keys → found ≡ place_of name names
 place_found name names keys found same is = is ∙ ap (position (pointwise nat_eq name)) same ∙ sym (place_of-position name names)
 
-pub take_next : {X : Type 0} (xs : List X) (i : ℕ) (x : X) → slice_get xs i ≡ Some x → take (suc i) xs ≡ take i xs ++ x ∷ []
-take_next [] i x found = cc
-take_next (y ∷ xs) zero x found = let same : y ≡ x = cc in ap (λ z. z ∷ []) same
-take_next (y ∷ xs) (suc i) x found = ap (λ rest. y ∷ rest) (take_next xs i x found)
-
-off : (b : Bool) → (b ≡ true → ⊥) → b ≡ false
-off true never = absurd (never refl)
-off false never = refl
-
 -- a name that is none of the names before it
 pub is_new : (names : List (List ℕ)) (i : ℕ) (name : List ℕ) → AreDistinct names → slice_get names i ≡ Some name → list_any (pointwise nat_eq name) (take i names) ≡ false
 is_new names i name distinct found = list_any_none (pointwise nat_eq name) (take i names) each
@@ -71,9 +46,9 @@ is_new names i name distinct found = list_any_none (pointwise nat_eq name) (take
         let before : k < i = omega (arith, length-take i names) in
         let here : get_or (take i names) k d ≡ get_or names k d = get_or-take i names k d before in
         let last : get_or names i d ≡ name = get_or_from_slice_get names i name d found in
-        off (pointwise nat_eq name (get_or (take i names) k d)) (λ same. distinct k i d before within (sym here ∙ sym ((bytes_decides name (get_or (take i names) k d)).0 same) ∙ sym last))
+        false_from_ne_true (pointwise nat_eq name (get_or (take i names) k d)) (λ same. distinct k i d before within (sym here ∙ sym ((bytes_decides name (get_or (take i names) k d)).0 same) ∙ sym last))
 
-got_name : (cells : List CellBody) (i : ℕ) (cell : CellBody) → slice_get cells i ≡ Some cell → slice_get (cell_names cells) i ≡ Some cell.name.id
+pub got_name : (cells : List CellBody) (i : ℕ) (cell : CellBody) → slice_get cells i ≡ Some cell → slice_get (cell_names cells) i ≡ Some cell.name.id
 got_name [] i cell found = cc
 got_name (c ∷ cells) zero cell found = let same : c ≡ cell = cc in ap (λ (b : CellBody). Some b.name.id) same
 got_name (c ∷ cells) (suc i) cell found = got_name cells i cell found
@@ -101,10 +76,6 @@ named_next cells i cell id keys new distinct found same before is =
     add-one n = omega arith
 
 -- ---- libraries by name
-
-position_from-map : {X Y : Type 0} (test : Y → Bool) (f : X → Y) (i : ℕ) (xs : List X) → position_from test i (map f xs) ≡ position_from (λ x. test (f x)) i xs
-position_from-map test f i [] = refl
-position_from-map test f i (x ∷ xs) = ap (λ rest. cond (test (f x)) (Some i) rest) (position_from-map test f (i + 1) xs)
 
 names_of_shelves : (shelves : List (Arc Lib Global)) → lib_names (map arc_value shelves) ≡ map shelf_name shelves
 names_of_shelves [] = refl

@@ -12,12 +12,13 @@ use Rattle.std.proofs.lemmas.List.{length-map, length-take, take-map, map-append
 use Rattle.std.proofs.lemmas.Option.{slice_get_within}
 use Rattle.netlist_schema.specs.Names.{AreDistinct, cell_names}
 use Rattle.netlist_schema.specs.Types.{CellBody}
+use Rattle.netlist_schema.proofs.Lists.{get_behind, get_mapped, take_next}
 use Rattle.ver_table.specs.Entries.{pairs_of}
 use Rattle.ver_table.specs.Rows.{Lists, numbered, set_all}
 use Rattle.ver_table.specs.declared.entries.Entry.{Entry}
 use Rattle.ver_table.proofs.Listed.{Lists-set, Lists-push, values-Lists, numbered-push}
 use Rattle.version_data.specs.Changes.{cells_set, KeepNames}
-use Rattle.version_data.proofs.Places.{is_new, take_next}
+use Rattle.version_data.proofs.Places.{is_new}
 
 set_here : {X : Type 0} (xs : List X) (i : ℕ) (x : X) → slice_get xs i ≡ Some x → slice_set xs i x ≡ xs
 set_here [] i x is = refl
@@ -96,15 +97,6 @@ take_right : {X : Type 0} (old xs : List X) (k : ℕ) → take (length old + k) 
 take_right [] xs k = let none : 0 + k ≡ k = omega arith in ap (λ n. take n xs) none
 take_right (x ∷ old) xs k = let one : suc (length old) + k ≡ suc (length old + k) = omega arith in ap (λ n. take n ((x ∷ old) ++ xs)) one ∙ ap (λ rest. x ∷ rest) (take_right old xs k)
 
-get_right : {X : Type 0} (old xs : List X) (k : ℕ) → slice_get (old ++ xs) (length old + k) ≡ slice_get xs k
-get_right [] xs k = let none : 0 + k ≡ k = omega arith in ap (slice_get xs) none
-get_right (x ∷ old) xs k = let one : suc (length old) + k ≡ suc (length old + k) = omega arith in ap (slice_get ((x ∷ old) ++ xs)) one ∙ get_right old xs k
-
-get_mapped : {X Y : Type 0} (f : X → Y) (xs : List X) (k : ℕ) (x : X) → slice_get xs k ≡ Some x → slice_get (map f xs) k ≡ Some (f x)
-get_mapped f [] k x is = cc
-get_mapped f (y ∷ xs) zero x is = let same : y ≡ x = cc in ap (λ z. Some (f z)) same
-get_mapped f (y ∷ xs) (suc k) x is = get_mapped f xs k x is
-
 abbrev Shared : Type 0
 Shared = Arc CellBody Global
 
@@ -122,7 +114,7 @@ more_name old cells k cell id keys new distinct found same before is =
     let part : (n : ℕ) → take (length old + n) names ≡ old ++ cell_names (map arc_value (take n cells)) =
     λ n. take_right old (map id_of cells) n ∙ ap (λ ns. old ++ ns) (take-map id_of n cells ∙ sym (names_of (take n cells))) in
     let next : length old + k + 1 ≡ length old + (k + 1) = omega arith in
-    name_next names (length old + k) (id_of cell) id keys new apart (get_right old (map id_of cells) k ∙ get_mapped id_of cells k cell found) same (before ∙ sym (part k)) is
+    name_next names (length old + k) (id_of cell) id keys new apart (get_behind old (map id_of cells) k ∙ get_mapped id_of cells k cell found) same (before ∙ sym (part k)) is
     ∙ ap (λ n. take n names) next ∙ part (k + 1)
 
 pub more_pair : (first : ℕ) (bodies : List Shared) (k : ℕ) (body : Shared) (entries new : List (Entry CellBody)) (entry : Entry CellBody) → slice_get bodies k ≡ Some body → pairs_of entries ≡ numbered first (map arc_value (take k bodies))

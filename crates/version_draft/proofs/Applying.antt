@@ -12,10 +12,13 @@ use Rattle.std.specs.Ordering.{nat_cmp, is_eq, is_lt}
 use Rattle.std.specs.declared.cmp.Ordering.{Ordering}
 use Rattle.std.specs.declared.cmp.Ordering.TheVariants.{Less}
 use Rattle.std.specs.declared.sync.Arc.{Arc}
-use Rattle.std.proofs.lemmas.Bool.{and_from, cases_lt}
+use Rattle.std.proofs.lemmas.Bool.{and_from, cases_order}
 use Rattle.std.proofs.lemmas.Map.Entries.{btree_map_get_place}
+use Rattle.std.proofs.lemmas.Option.{slice_get-map}
 use Rattle.netlist_schema.specs.Names.{AreDistinct, cell_names}
 use Rattle.netlist_schema.specs.Types.{CellBody, Lib}
+use Rattle.netlist_schema.proofs.Lists.{take_next}
+use Rattle.edit_core.proofs.Overlaid.{list_ext}
 use Rattle.ver_table.specs.Entries.{IsInOrder}
 use Rattle.ver_table.proofs.Places.{cmp_above, cmp_below, cmp_same}
 use Rattle.version_data.specs.Changes.{cells_set, KeepNames}
@@ -25,10 +28,9 @@ use Rattle.version_draft.specs.Layers.{IsBlank, changes_of, over_of}
 use Rattle.version_draft.specs.declared.layer.Layer.{Layer}
 use Rattle.version_draft.proofs.Layers.{get_changed}
 use Rattle.version_draft.proofs.Suiting.{no_lib, suits_at}
-use Rattle.version_draft.proofs.Works.{get_map, lib_here, lib_laid, lib_none}
+use Rattle.version_draft.proofs.Works.{lib_here, lib_laid, lib_none}
 use Rattle.netlist_schema.proofs.Cells.{All-slice_get}
 use Rattle.std.proofs.lemmas.List.{map-append, take_all}
-use Rattle.version_data.proofs.Places.{take_next}
 
 abbrev Shared : Type 0
 Shared = Arc CellBody Global
@@ -71,17 +73,11 @@ off_below : (k : ℕ) (es : List (ℕ × Shared)) → AllByRecursion (λ y. nat_
 off_below k [] all = refl
 off_below k (e ∷ es) all = ap (λ (r : Ordering). cond (is_eq r) (Some e.1) (lookup (is_at (nat_cmp k)) es)) all.0 ∙ off_below k es all.1
 
-three : (a b : ℕ) → (a ≡ b) ⊎ ((a < b) ⊎ (b < a))
-three a b = elim (cases_lt a b) [
-  | inl less ↦ inr (inl less)
-  | inr le ↦ elim (cases_lt b a) [ inl more ↦ inr (inr more) | inr ge ↦ inl (omega arith) ]
-]
-
 set_at : (es : List (ℕ × Shared)) (cells : List CellBody) (k : ℕ) → IsStrictlySortedBy nat_cmp (keys_of es)
     → slice_get (cells_set cells (valued es)) k ≡ option_map (λ old. unwrap_or (option_map arc_value (lookup (is_at (nat_cmp k)) es)) old) (slice_get cells k)
 unfolding IsStrictlySortedBy
 set_at [] cells k sorted = same_option (slice_get cells k)
-set_at (e ∷ es) cells k sorted = set_at es (slice_set cells e.0 (arc_value e.1)) k sorted.1 ∙ one (three k e.0)
+set_at (e ∷ es) cells k sorted = set_at es (slice_set cells e.0 (arc_value e.1)) k sorted.1 ∙ one (cases_order k e.0)
   where
     found : Option Shared
     found = lookup (is_at (nat_cmp k)) es
@@ -103,16 +99,6 @@ set_at (e ∷ es) cells k sorted = set_at es (slice_set cells e.0 (arc_value e.1
         ∙ ap (λ b. option_map (λ old. unwrap_or (option_map arc_value (cond b (Some e.1) found)) old) (slice_get cells k)) (sym on)
     one (inr (inl less)) = apart (λ is. omega arith) (ap is_eq (cmp_below k e.0 less))
     one (inr (inr more)) = apart (λ is. omega arith) (ap is_eq (cmp_above k e.0 more))
-
-list_ext : {X : Type 0} (xs ys : List X) → ((k : ℕ) → slice_get xs k ≡ slice_get ys k) → xs ≡ ys
-list_ext [] [] same = refl
-list_ext [] (y ∷ ys) same = let never : None ≡ Some y = same 0 in cc
-list_ext (x ∷ xs) [] same = let never : Some x ≡ None = same 0 in cc
-list_ext (x ∷ xs) (y ∷ ys) same =
-    let head : Some x ≡ Some y = same 0 in
-    let here : x ≡ y = cc in
-    let rest : xs ≡ ys = list_ext xs ys (λ k. same (suc k)) in
-    λ i. here i ∷ rest i
 
 pub set_is_changed : (m : BTreeMap ℕ Shared) (cells : List CellBody) → IsOrdered nat_cmp m → cells_set cells (valued m.entries) ≡ cells_changed (λ slot. option_map arc_value (get nat_cmp m slot)) 0 cells
 set_is_changed m cells ordered =
@@ -197,7 +183,7 @@ module _ (libs : List Lib) (layers : List Layer) (all : AllSuit libs layers) (so
     there = sym (ap (option_map arc_value) (sym is) ∙ at)
 
     laid_here : slice_get (libs_laid (map over_of layers) libs) k ≡ Some (lib_laid (over_of layer) (arc_value shelf))
-    laid_here = lib_here (map over_of layers) libs k (arc_value shelf) (over_of layer) there (get_map over_of layers k ∙ ap (option_map over_of) (sym has))
+    laid_here = lib_here (map over_of layers) libs k (arc_value shelf) (over_of layer) there (slice_get-map over_of layers k ∙ ap (option_map over_of) (sym has))
 
     pub laid_fits : Fits (arc_value shelf).cells (over_of layer)
     laid_fits = let suits = suits_at libs layers k (arc_value shelf) layer all there (sym has) in suits.fits

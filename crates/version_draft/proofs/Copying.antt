@@ -10,9 +10,9 @@ use Rattle.std.specs.declared.sync.Arc.{Arc}
 use Rattle.std.proofs.lemmas.Map.Entries.{lookup_clone}
 use Rattle.netlist_schema.specs.Names.{AreDistinct}
 use Rattle.netlist_schema.specs.Types.{CellBody, Lib}
+use Rattle.netlist_schema.proofs.Lists.{take_next}
 use Rattle.edit_core.proofs.Lists.{Apart, distinct_of}
 use Rattle.edit_core.proofs.Refusals.{is_name-refl}
-use Rattle.version_data.proofs.Places.{take_next}
 use Rattle.version_draft.specs.Drafts.{AllSuit, AreSameLayers}
 use Rattle.version_draft.specs.Layers.{over_of, IsSameLayer}
 use Rattle.version_draft.specs.declared.layer.Layer.{Layer}

@@ -1,5 +1,5 @@
 -- Drafts with another body for a cell, and with one more cell.
-use Rattle.std.proofs.Common.{◌≡◌, ℕ, zero, suc, arith, ◌+◌, ◌<◌, List, [], ◌∷◌, ◌++◌, false, map, length, Option, Some, None, Result, Ok, Err, OnOk, OnErr, refl, sym, ap, subst, ◌∙◌, slice_get}
+use Rattle.std.proofs.Common.{◌≡◌, ℕ, zero, suc, arith, ◌+◌, ◌<◌, List, [], ◌∷◌, ◌++◌, false, map, length, Option, Some, Result, Ok, Err, OnOk, OnErr, refl, sym, ap, subst, ◌∙◌, slice_get}
 use Rattle.std.specs.Prelude.{slice_index_or, IsSome, IsSomeAnd}
 use Rattle.std.specs.List.{list_any}
 use Rattle.std.proofs.lemmas.List.{length-map}
@@ -7,6 +7,7 @@ use Rattle.std.proofs.lemmas.Option.{slice_get_within}
 use Rattle.netlist_schema.specs.Design.{Design, cells_in, lib_at}
 use Rattle.netlist_schema.specs.Names.{AreDistinct, cell_names}
 use Rattle.netlist_schema.specs.Types.{CellBody, CellId, Lib, LibId, Note}
+use Rattle.netlist_schema.proofs.Lists.{some_of}
 use Rattle.edit_core.specs.Edit.{changed_at, with_changed_cell, with_more_cell}
 use Rattle.edit_core.specs.Find.{is_name}
 use Rattle.version_draft.specs.Drafts.{AllSuit, HasNewLayer}
@@ -29,10 +30,6 @@ on_err (Err e) P Q f p = f p
 pub either_way : {T E : Type 0} (r : Result T E) (P Q G : Type 0) → (P → G) → (Q → G) → OnOk r P → OnErr r Q → G
 either_way (Ok x) P Q G f g p q = f p
 either_way (Err e) P Q G f g p q = g q
-
-some_from : {X : Type 0} (o : Option X) → IsSome o → (x : X) × (o ≡ Some x)
-some_from None is = cc
-some_from (Some x) is = (x, refl)
 
 module _ (b : Design) (layers new : List Layer) (notes : Option (List Note)) (all : AllSuit b.libs layers) where
   cells_are : (lib : LibId) (old : Lib) (layer : Layer) → lib_at b lib ≡ Some old → slice_get layers lib.0 ≡ Some layer → cells_in (laid b (map over_of layers) notes) lib ≡ cells_laid (over_of layer) old.cells
@@ -96,7 +93,7 @@ pub base_lib : (b : Design) (layers : List Layer) (notes : Option (List Note)) (
 base_lib b layers notes lib is = under layers b.libs lib.0 is
   where
     under : (ls : List Layer) (libs : List Lib) (k : ℕ) → IsSome (slice_get (libs_laid (map over_of ls) libs) k) → (old : Lib) × (slice_get libs k ≡ Some old)
-    under [] libs k some = some_from (slice_get libs k) some
+    under [] libs k some = some_of (slice_get libs k) some
     under (l ∷ ls) [] k some = cc
     under (l ∷ ls) (x ∷ libs) zero some = (x, refl)
     under (l ∷ ls) (x ∷ libs) (suc k) some = under ls libs k some

@@ -6,14 +6,10 @@ use Rattle.std.proofs.lemmas.List.Folds.{list_any-append}
 use Rattle.std.proofs.lemmas.List.{map-append, length-map, length-append}
 use Rattle.netlist_schema.specs.Types.{CellBody}
 use Rattle.netlist_schema.specs.Names.{cell_names}
+use Rattle.netlist_schema.proofs.Lists.{get_there, get_front}
 use Rattle.edit_core.specs.Find.{is_name, place_of}
+use Rattle.edit_core.proofs.Same.{position_from-append}
 use Rattle.version_draft.specs.Laid.{Over, Fits, cells_changed, cells_laid}
-
--- there is an item at a place within a list
-slice_get_at : {X : Type 0} (xs : List X) (i : ℕ) → i < length xs → (x : X) × (slice_get xs i ≡ Some x)
-slice_get_at [] i within = absurd (omega arith)
-slice_get_at (x ∷ xs) zero within = (x, refl)
-slice_get_at (x ∷ xs) (suc i) within = slice_get_at xs i (omega arith)
 
 pub length_changed : (f : ℕ → Option CellBody) (slot : ℕ) (cells : List CellBody) → length (cells_changed f slot cells) ≡ length cells
 length_changed f slot [] = refl
@@ -24,11 +20,6 @@ get_changed f from slot at [] is = refl
 get_changed f from zero at (c ∷ cells) is = let here : from ≡ at = omega arith in ap (λ n. Some (unwrap_or (f n) c)) here
 get_changed f from (suc slot) at (c ∷ cells) is = get_changed f (suc from) slot at cells (omega arith)
 
-get_left : {X : Type 0} (xs ys : List X) (i : ℕ) → i < length xs → slice_get (xs ++ ys) i ≡ slice_get xs i
-get_left [] ys i within = absurd (omega arith)
-get_left (x ∷ xs) ys zero within = refl
-get_left (x ∷ xs) ys (suc i) within = get_left xs ys i (omega arith)
-
 get_right : {X : Type 0} (xs ys : List X) (i k : ℕ) → i ≡ length xs + k → slice_get (xs ++ ys) i ≡ slice_get ys k
 get_right [] ys i k is = let same : i ≡ k = omega arith in ap (slice_get ys) same
 get_right (x ∷ xs) ys zero k is = absurd (omega arith)
@@ -37,7 +28,7 @@ get_right (x ∷ xs) ys (suc i) k is = get_right xs ys i k (omega arith)
 -- a cell that the library has
 pub laid_old : (over : Over) (cells : List CellBody) (slot : ℕ) → slot < length cells → slice_get (cells_laid over cells) slot ≡ option_map (λ old. unwrap_or (over.changed slot) old) (slice_get cells slot)
 laid_old over cells slot within =
-    get_left (cells_changed over.changed 0 cells) over.added slot (omega (arith, length_changed over.changed 0 cells))
+    get_front (cells_changed over.changed 0 cells) over.added slot (omega (arith, length_changed over.changed 0 cells))
     ∙ get_changed over.changed 0 slot slot cells (omega arith)
 
 -- a cell that the layer adds
@@ -51,12 +42,12 @@ new_cell over cells slot given past is = is ∙ sym (laid_new over cells slot pa
 
 pub changed_cell : (over : Over) (cells : List CellBody) (slot : ℕ) (body : CellBody) → slot < length cells → Some body ≡ over.changed slot → Some body ≡ slice_get (cells_laid over cells) slot
 changed_cell over cells slot body within is =
-    let there = slice_get_at cells slot within in
+    let there = get_there cells slot within in
     sym (laid_old over cells slot within ∙ ap (option_map (λ old. unwrap_or (over.changed slot) old)) there.1 ∙ ap (λ o. Some (unwrap_or o there.0)) (sym is))
 
 pub same_cell : (over : Over) (cells : List CellBody) (slot : ℕ) (given : Option CellBody) → slot < length cells → None ≡ over.changed slot → given ≡ slice_get cells slot → given ≡ slice_get (cells_laid over cells) slot
 same_cell over cells slot given within none is =
-    let there = slice_get_at cells slot within in
+    let there = get_there cells slot within in
     is ∙ there.1 ∙ sym (laid_old over cells slot within ∙ ap (option_map (λ old. unwrap_or (over.changed slot) old)) there.1 ∙ ap (λ o. Some (unwrap_or o there.0)) (sym none))
 
 -- ---- by name
@@ -82,14 +73,6 @@ names_laid over cells fits =
     map-append (λ (c : CellBody). c.name.id) (cells_changed over.changed 0 cells) over.added
     ∙ ap (λ ns. ns ++ cell_names over.added) (names_changed over.changed 0 cells (λ slot body is. let at : 0 + slot ≡ slot = omega arith in fits slot body (ap over.changed (sym at) ∙ is)))
 
-found_first : {X : Type 0} (test : X → Bool) (i k : ℕ) (xs ys : List X) → position_from test i xs ≡ Some k → position_from test i (xs ++ ys) ≡ Some k
-found_first test i k [] ys is = cc
-found_first {X} test i k (x ∷ xs) ys is = one (test x) (found_first test (i + 1) k xs ys) is
-  where
-    one : (b : Bool) → (position_from test (i + 1) xs ≡ Some k → position_from test (i + 1) (xs ++ ys) ≡ Some k) → cond b (Some i) (position_from test (i + 1) xs) ≡ Some k → cond b (Some i) (position_from test (i + 1) (xs ++ ys)) ≡ Some k
-    one true more e = e
-    one false more e = more e
-
 found_later : {X : Type 0} (test : X → Bool) (i : ℕ) (xs ys : List X) → position_from test i xs ≡ None → position_from test i (xs ++ ys) ≡ position_from test (i + length xs) ys
 found_later test i [] ys is = let here : i ≡ i + 0 = omega arith in ap (λ n. position_from test n ys) here
 found_later {X} test i (x ∷ xs) ys is = one (test x) (found_later test (i + 1) xs ys) is
@@ -109,7 +92,7 @@ shifted test n i (x ∷ xs) = let next : n + i + 1 ≡ n + (i + 1) = omega arith
 
 pub old_place : (over : Over) (cells : List CellBody) (name : List ℕ) (k : ℕ) → Fits cells over → Some k ≡ place_of name (cell_names cells) → Some k ≡ place_of name (cell_names (cells_laid over cells))
 old_place over cells name k fits is =
-    sym (ap (place_of name) (names_laid over cells fits) ∙ found_first (λ (other : List ℕ). is_name other name) 0 k (cell_names cells) (cell_names over.added) (sym is))
+    sym (ap (place_of name) (names_laid over cells fits) ∙ position_from-append (λ (other : List ℕ). is_name other name) 0 k (cell_names cells) (cell_names over.added) (sym is))
 
 pub new_place : (over : Over) (cells : List CellBody) (name : List ℕ) (found : Option ℕ) → Fits cells over → None ≡ place_of name (cell_names cells) → found ≡ place_of name (cell_names over.added)
     → option_map (λ k. length cells + k) found ≡ place_of name (cell_names (cells_laid over cells))

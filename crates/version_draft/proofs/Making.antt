@@ -1,5 +1,5 @@
 -- Changes as edits of the design.
-use Rattle.std.proofs.Common.{◌≡◌, ℕ, List, [], ◌∷◌, ◌++◌, Option, Some, None, IsSome, refl, sym, ap, subst, ◌∙◌, ◌<◌, ◌≤◌, length, arith}
+use Rattle.std.proofs.Common.{◌≡◌, ℕ, List, [], ◌∷◌, ◌++◌, Option, Some, None, IsSome, refl, sym, ap, subst, ◌∙◌, ◌<◌, arith}
 use Rattle.std.specs.Prelude.{option_to_list, slice_get}
 use Rattle.std.specs.Option.{option_map, option_map_or}
 use Rattle.netlist_schema.specs.Change.{with_inst_put, with_net_put}
@@ -16,6 +16,7 @@ use Rattle.std.proofs.lemmas.Option.{slice_get_within}
 use Rattle.edit_core.proofs.Edits.{more_same}
 use Rattle.edit_core.proofs.Growing.{edited_is_grown}
 use Rattle.edit_core.proofs.Lists.{Apart, apart_of, distinct_of, each_left}
+use Rattle.uniquify_spec.proofs.SplitWhich.{few_cells_in}
 use Rattle.cells_model.specs.Change.{CanAllBeMade, CanBeMade, cell_edits, edit_of, edits_of, inst_put, net_put}
 use Rattle.cells_model.specs.Patch.{body_after}
 use Rattle.cells_model.specs.declared.change.Change.{Change}
@@ -93,16 +94,9 @@ made_next d xs x = sym (ap (edited d) (cell_edits_more d xs x) ∙ edited_joined
 
 -- ---- few cells
 
-few_cells : (d : Design) → IsValid d → (lib : LibId) → length (cells_in d lib) ≤ 65536
-few_cells d valid lib = one (lib_at d lib) refl
-  where
-    one : (o : Option Lib) → lib_at d lib ≡ o → length (option_map_or (λ (l : Lib). l.cells) o []) ≤ 65536
-    one None is = omega arith
-    one (Some l) is = All-slice_get (λ (x : Lib). length x.cells ≤ 65536) d.libs lib.0 l valid.limits.cells is
-
 pub place_is_low : (d : Design) (name : List ℕ) (lib : LibId) (place : ℕ) → IsValid d → Some place ≡ place_of name (cell_names (cells_in d lib)) → place < 65536
 place_is_low d name lib place valid is =
     let found = found_at (λ (c : CellBody). c.name.id) name (cells_in d lib) place (sym is) in
     let within = slice_get_within (cells_in d lib) place found.0 found.1 in
-    let few = few_cells d valid lib in
+    let few = few_cells_in d valid lib in
     omega arith

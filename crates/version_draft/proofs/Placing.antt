@@ -14,6 +14,7 @@ use Rattle.cells_model.specs.Patch.{body_after}
 use Rattle.cells_model.specs.declared.change.CellChange.{CellChange}
 use Rattle.cells_model.specs.declared.change.CellChange.TheVariants.{Fresh, Face, Inner, Net, Inst}
 use Rattle.cells_model.proofs.Patches.{cell_changed_same}
+use Rattle.version_data.proofs.Places.{got_name}
 use Rattle.version_draft.specs.Drafts.{AllSuit, Drafted, HasNewLayer}
 use Rattle.version_draft.specs.Laid.{laid}
 use Rattle.version_draft.specs.Layers.{over_of, IsPut, IsSameLayer}
@@ -130,11 +131,6 @@ name_kept (Inner id contents) body = refl
 name_kept (Net id place net) body = refl
 name_kept (Inst id place inst) body = refl
 
-names_at : (cells : List CellBody) (k : ℕ) (body : CellBody) → slice_get cells k ≡ Some body → slice_get (cell_names cells) k ≡ Some body.name.id
-names_at [] k body is = cc
-names_at (c ∷ cells) zero body is = let same : c ≡ body = cc in ap (λ (b : CellBody). Some b.name.id) same
-names_at (c ∷ cells) (suc k) body is = names_at cells k body is
-
 module _ (b : Design) (layers : List Layer) (notes : Option (List Note)) (all : AllSuit b.libs layers) (id : CellId) (lib : Lib) (count : ℕ) (change : CellChange) (there : lib_at b id.lib ≡ Some lib) (long : count ≡ length lib.cells) where
   abbrev pub now : Design
   now = laid b (map over_of layers) notes
@@ -157,7 +153,7 @@ module _ (b : Design) (layers : List Layer) (notes : Option (List Note)) (all : 
 
   module _ (new : List Layer) where
     named : (layer : Layer) (body : CellBody) → slice_get layers id.lib.0 ≡ Some layer → HasBody layer count id.slot body → slice_get (cell_names (cells_in now id.lib)) id.slot ≡ Some (body_after change body).name.id
-    named layer body has of = names_at (cells_in now id.lib) id.slot body (cell_is layer body has of) ∙ ap (λ n. Some n) (sym (name_kept change body))
+    named layer body has of = got_name (cells_in now id.lib) id.slot body (cell_is layer body has of) ∙ ap (λ n. Some n) (sym (name_kept change body))
 
     same : (P : Layer → Layer → Type 0) → ((o n : Layer) → P o n → IsSameLayer o n) → HasNewLayer layers new id.lib.0 P → HasNewLayer layers new id.lib.0 IsSameLayer
     same P is has = record { before = has.before; after = has.after; found = has.found; set = has.set; changed = is has.before has.after has.changed }

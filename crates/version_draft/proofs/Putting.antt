@@ -2,7 +2,7 @@
 use Rattle.std.proofs.Common.{◌≡◌, ◌⊎◌, inl, inr, ℕ, zero, suc, arith, ◌+◌, ◌-◌, ◌<◌, true, false, cond, ◌||◌, List, [], ◌∷◌, ◌++◌, length, take, Option, Some, refl, sym, ap, subst, ◌∙◌, slice_get, unwrap_or, append_assoc, nat_eq, eq-eqb}
 use Rattle.std.specs.Prelude.{slice_set, IsSomeAnd}
 use Rattle.std.specs.List.{list_any}
-use Rattle.std.proofs.lemmas.Bool.{cases_lt}
+use Rattle.std.proofs.lemmas.Bool.{cases_lt, cases_eq, or_parts}
 use Rattle.std.proofs.lemmas.Bool.Decides.{nat_tests}
 use Rattle.std.proofs.lemmas.List.{length-map, map-append}
 use Rattle.std.proofs.lemmas.List.Folds.{list_any-append}
@@ -10,7 +10,6 @@ use Rattle.netlist_schema.specs.Names.{AreDistinct, cell_names}
 use Rattle.netlist_schema.specs.Types.{CellBody, Lib}
 use Rattle.edit_core.specs.Edit.{changed_at}
 use Rattle.edit_core.specs.Find.{is_name}
-use Rattle.edit_core.proofs.Refusals.{neither}
 use Rattle.version_data.proofs.Places.{is_new}
 use Rattle.version_data.proofs.Setting.{one_name_kept}
 use Rattle.version_draft.specs.Drafts.{Suits}
@@ -114,12 +113,6 @@ named_at [] i id is = cc
 named_at (c ∷ cells) zero id is = let same : c.name.id ≡ id = cc in sym same
 named_at (c ∷ cells) (suc i) id is = named_at cells i id is
 
-one_or_other : (slot at : ℕ) → (slot ≡ at) ⊎ (slot ≡ at → ⊥)
-one_or_other slot at = elim (cases_lt slot at) [
-  | inl less ↦ inr (λ e. omega arith)
-  | inr le ↦ elim (cases_lt at slot) [ inl more ↦ inr (λ e. omega arith) | inr ge ↦ inl (omega arith) ]
-]
-
 pub suits_put : (lib : Lib) (old new : Layer) (count slot : ℕ) (body : CellBody) → count ≡ length lib.cells → slice_get (cell_names (cells_laid (over_of old) lib.cells)) slot ≡ Some body.name.id → IsPut old new count slot body → Suits lib old → Suits lib new
 suits_put lib old new count slot body long there put suits = elim (cases_lt slot count) [
   | inl before ↦
@@ -127,7 +120,7 @@ suits_put lib old new count slot body long there put suits = elim (cases_lt slot
       let here : slice_get (cell_names lib.cells) slot ≡ Some body.name.id = get_left (cell_names lib.cells) (cell_names (over_of old).added) slot body.name.id (omega (arith, length-map lib.cells (λ (c : CellBody). c.name.id))) names in
       record {
         named = has.names ∙ (suits.named ∙ ap cell_names (sym has.added));
-        fits = λ at other is. fit has here at other is (one_or_other slot at);
+        fits = λ at other is. fit has here at other is (cases_eq slot at);
       }
   | inr behind ↦
       let at : slot ≡ count + (slot - count) = omega arith in
@@ -166,7 +159,7 @@ is_free_name lib layer body suits distinct =
     let here : list_any (is_name body.name.id) names ≡ false = ap (list_any (is_name body.name.id)) (sym (front names)) ∙ none in
     let parts : (list_any (is_name body.name.id) (cell_names lib.cells) || list_any (is_name body.name.id) (cell_names (over_of layer).added)) ≡ false =
     sym (list_any-append (is_name body.name.id) (cell_names lib.cells) (cell_names (over_of layer).added)) ∙ (ap (list_any (is_name body.name.id)) (sym (names_laid (over_of layer) lib.cells suits.fits)) ∙ here) in
-    ap (list_any (is_name body.name.id)) suits.named ∙ (neither _ _ parts).1
+    ap (list_any (is_name body.name.id)) suits.named ∙ (or_parts _ _ parts).1
   where
     last : (xs : List (List ℕ)) → slice_get (xs ++ body.name.id ∷ []) (length xs) ≡ Some body.name.id
     last [] = refl

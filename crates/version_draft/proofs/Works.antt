@@ -1,6 +1,7 @@
 -- What stands at a place of a design with layers over it.
 use Rattle.std.proofs.Common.{◌≡◌, ℕ, zero, suc, ◌+◌, List, [], ◌∷◌, map, length, Option, Some, None, refl, sym, ap, ◌∙◌, slice_get, option_map}
 use Rattle.std.specs.Option.{option_map_or}
+use Rattle.std.proofs.lemmas.Option.{slice_get-map}
 use Rattle.netlist_schema.specs.Design.{Design, cell_at, cells_in, lib_at}
 use Rattle.netlist_schema.specs.Names.{lib_names}
 use Rattle.netlist_schema.specs.Types.{CellBody, CellId, Lib, LibId, Note}
@@ -19,11 +20,6 @@ lib_id place = record { 0 = place }
 abbrev pub lib_laid : Over → Lib → Lib
 lib_laid over lib = record lib { cells = cells_laid over lib.cells }
 
-pub get_map : {X Y : Type 0} (f : X → Y) (xs : List X) (k : ℕ) → slice_get (map f xs) k ≡ option_map f (slice_get xs k)
-get_map f [] k = refl
-get_map f (x ∷ xs) zero = refl
-get_map f (x ∷ xs) (suc k) = get_map f xs k
-
 pub lib_here : (overs : List Over) (libs : List Lib) (k : ℕ) (lib : Lib) (over : Over) → slice_get libs k ≡ Some lib → slice_get overs k ≡ Some over → slice_get (libs_laid overs libs) k ≡ Some (lib_laid over lib)
 lib_here [] libs k lib over there has = cc
 lib_here (o ∷ overs) [] k lib over there has = cc
@@ -41,7 +37,7 @@ lib_none (o ∷ overs) (l ∷ libs) (suc k) none = lib_none overs libs k none
 
 module _ (d : Design) (layers : List Layer) (notes : Option (List Note)) where
   over_here : (k : ℕ) (layer : Layer) → slice_get layers k ≡ Some layer → slice_get (map over_of layers) k ≡ Some (over_of layer)
-  over_here k layer has = get_map over_of layers k ∙ ap (option_map over_of) has
+  over_here k layer has = slice_get-map over_of layers k ∙ ap (option_map over_of) has
 
   cells_here : (lib : LibId) (old : Lib) (layer : Layer) → lib_at d lib ≡ Some old → slice_get layers lib.0 ≡ Some layer → cells_in (laid d (map over_of layers) notes) lib ≡ cells_laid (over_of layer) old.cells
   cells_here lib old layer there has = ap (λ (o : Option Lib). option_map_or (λ l. l.cells) o []) (lib_here (map over_of layers) d.libs lib.0 old (over_of layer) there (over_here lib.0 layer has))

@@ -3,10 +3,10 @@ use Rattle.std.specs.Prelude.{unwrap_or, slice_get, cond, nat_eq}
 use Rattle.std.specs.Option.{option_map_or}
 use Rattle.std.specs.BTreeSet.{contains}
 use Rattle.std.specs.Ordering.{nat_cmp}
+use Rattle.std.proofs.lemmas.Option.{slice_get_within}
 use Rattle.netlist_schema.specs.Design.{cells_in}
 use Rattle.netlist_schema.specs.Types.{CellBody}
 use Rattle.order_spec.specs.Order.{order_from}
-use Rattle.order_spec.proofs.Places.{get_below}
 use Rattle.cell_order.specs.ReadyQueue.{Fits, IsReadyQueue, IsSized, flag, has, waits, first_cells}
 use Rattle.cell_order.specs.declared.ready_queue.ReadyQueue.{ReadyQueue}
 use Rattle.cell_order.specs.declared.ready_queue.Waiting.{Waiting}
@@ -32,7 +32,7 @@ sized_after : (n : ℕ) (d e : ReadyQueue) → e.written ≡ d.written → e.wai
 sized_after n d e f g h = record { written = ap (λ v. length v.items) f ∙ h.written; waiting = ap (λ v. length v.items) g ∙ h.waiting }
 
 slot_there : (own : ℕ) (cells : List CellBody) (done : List ℕ) (flag has : ℕ → Bool) (waits : ℕ → List Waiting) (k : ℕ) → Fits own cells done [] flag has waits → has k ≡ true → k < length cells
-slot_there own cells done flag has waits k h m = let n = h.sound k m in get_below cells k n.cell n.there
+slot_there own cells done flag has waits k h m = let n = h.sound k m in slice_get_within cells k n.cell n.there
 
 pub take-freed-requires : goal.take-freed-requires
 take-freed-requires g c =

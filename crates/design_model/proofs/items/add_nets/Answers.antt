@@ -4,7 +4,7 @@ use Rattle.flat_spec.specs.Flattening.{net_item}
 use Rattle.flat_spec.specs.Paths.{at_path, nets_at}
 use Rattle.flat_spec.specs.declared.item.Item.{Item}
 use Rattle.flat_spec.proofs.PathLemmas.{IsNet-from}
-use Rattle.design_model.proofs.RunLemmas.{number_more}
+use Rattle.flat_spec.proofs.RunLemmas.{number_more}
 use Rattle.design_model.proofs.TableLemmas.{net_listed}
 use Rattle.design_model.proofs.items.add_nets.Goals as goal
 

@@ -3,7 +3,7 @@ use Rattle.std.specs.List.{range_with_len}
 use Rattle.flat_spec.specs.Flattening.{pin_item}
 use Rattle.design_model.specs.Items.{bit_at, bits_from}
 use Rattle.design_model.proofs.ItemLemmas.{port_more}
-use Rattle.design_model.proofs.RunLemmas.{all_found}
+use Rattle.flat_spec.proofs.RunLemmas.{all_found}
 use Rattle.design_model.proofs.items.add_pins.Goals as goal
 
 pub loop-place-preserved : goal.loop-place-preserved

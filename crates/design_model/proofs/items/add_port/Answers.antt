@@ -2,7 +2,7 @@ use Rattle.std.proofs.Common.{◌≡◌, ◌++◌, ◌∷◌, [], ℕ, map, refl
 use Rattle.flat_spec.specs.Flattening.{pin_item}
 use Rattle.flat_spec.specs.declared.item.Item.{Item}
 use Rattle.design_model.specs.Items.{bit_at}
-use Rattle.design_model.proofs.RunLemmas.{number_more}
+use Rattle.flat_spec.proofs.RunLemmas.{number_more}
 use Rattle.design_model.proofs.items.add_port.Goals as goal
 
 pub loop-bit-preserved : goal.loop-bit-preserved

@@ -1,6 +1,6 @@
 use Rattle.design_model.specs.Items.{items_below}
 use Rattle.design_model.proofs.ItemLemmas.{listed-reaches}
-use Rattle.design_model.proofs.RunLemmas.{piece_more}
+use Rattle.flat_spec.proofs.RunLemmas.{piece_more}
 use Rattle.design_model.proofs.plain.list_items.Goals as goal
 
 pub add_items-requires-clause-reached : goal.add_items-requires-clause-reached

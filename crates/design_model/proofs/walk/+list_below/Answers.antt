@@ -1,6 +1,6 @@
 use Rattle.std.proofs.Common.{◌≡◌, ◌<◌, ◌++◌, ◌∷◌, [], length, arith, refl, ap, ◌∙◌}
 use Rattle.flat_spec.specs.Occurrences.{occurrences}
-use Rattle.design_model.proofs.RunLemmas.{all_found}
+use Rattle.flat_spec.proofs.RunLemmas.{all_found}
 use Rattle.flat_spec.proofs.BelowLemmas.{below_each}
 use Rattle.design_model.proofs.WalkLemmas.{root_found, instance_more, occurrences-fewer}
 use Rattle.design_model.proofs.walk.+list_below.Goals as goal

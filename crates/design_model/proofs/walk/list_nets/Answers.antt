@@ -1,5 +1,5 @@
 use Rattle.flat_spec.specs.Occurrences.{own_nets}
-use Rattle.design_model.proofs.RunLemmas.{piece_more}
+use Rattle.flat_spec.proofs.RunLemmas.{piece_more}
 use Rattle.design_model.proofs.walk.list_nets.Goals as goal
 
 pub loop-occurrence-preserved : goal.loop-occurrence-preserved

@@ -1,6 +1,6 @@
 use Rattle.std.proofs.Common.{◌≡◌, ◌++◌, ◌∷◌, [], map, refl, ap, ◌∙◌}
 use Rattle.flat_spec.specs.Paths.{at_path}
-use Rattle.design_model.proofs.RunLemmas.{number_more}
+use Rattle.flat_spec.proofs.RunLemmas.{number_more}
 use Rattle.design_model.proofs.walk.list_own.Goals as goal
 
 pub loop-net-preserved : goal.loop-net-preserved

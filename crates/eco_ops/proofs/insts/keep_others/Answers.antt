@@ -4,10 +4,11 @@ use Rattle.std.proofs.lemmas.List.{take_more}
 use Rattle.netlist_schema.specs.Design.{Design}
 use Rattle.netlist_schema.specs.Types.{Note}
 use Rattle.edit_core.specs.Reading.{IsReachedBy}
+use Rattle.edit_core.proofs.Lists.{filter_both}
 use Rattle.cells_model.specs.State.{HasRead}
+use Rattle.eco_reads.proofs.NoteReads.{one_note_more, some_after}
 use Rattle.eco_plans.specs.Insts.{is_other}
 use Rattle.eco_reads.proofs.Below.{take_whole}
-use Rattle.eco_ops.proofs.DropOps.{filter_joined, one_note_more, some_after}
 use Rattle.eco_ops.proofs.insts.keep_others.Goals as goal
 
 pub returns-in_default-clause-reads : goal.returns-in_default-clause-reads
@@ -21,7 +22,7 @@ loop-note-preserved g c =
       kept = c.in-Ok.ensures.kept
           ∙ ap (λ (d : Design). c.loop-note.others.items ++ filter (is_other d c.args.id c.args.inst.now c.args.top) (c.note-item.result ∷ [])) c.loop-note.invariant.read.design
           ∙ ap (λ (ns : List Note). ns ++ filter (is_other (g.C.Cells.state c.args.cells.now).design c.args.id c.args.inst.now c.args.top) (c.note-item.result ∷ [])) c.loop-note.invariant.kept
-          ∙ sym (filter_joined (is_other (g.C.Cells.state c.args.cells.now).design c.args.id c.args.inst.now c.args.top) (take c.loop-note.note-index c.as_slice-note-items.result.now) (c.note-item.result ∷ []))
+          ∙ sym (filter_both (is_other (g.C.Cells.state c.args.cells.now).design c.args.id c.args.inst.now c.args.top) (take c.loop-note.note-index c.as_slice-note-items.result.now) (c.note-item.result ∷ []))
           ∙ ap (filter (is_other (g.C.Cells.state c.args.cells.now).design c.args.id c.args.inst.now c.args.top)) (sym longer);
       read = subst (λ (ns : List Note). HasRead (g.C.Cells.state c.args.cells.now) (g.C.Cells.state c.keep_other.new.cells) (IsReachedBy (g.C.Cells.state c.args.cells.now).design c.args.top ns)) (sym longer)
           (one_note_more (g.C.Cells.state c.args.cells.now) (g.C.Cells.state c.loop-note.cells) (g.C.Cells.state c.keep_other.new.cells) c.args.top (take c.loop-note.note-index c.as_slice-note-items.result.now) c.note-item.result c.loop-note.invariant.read c.in-Ok.ensures.reads);

@@ -1,4 +1,5 @@
-use Rattle.eco_ops.proofs.DropOps.{notes_alone, notes_and_paths}
+use Rattle.eco_reads.proofs.NoteReads.{notes_and_paths}
+use Rattle.eco_ops.proofs.DropOps.{notes_alone}
 use Rattle.eco_ops.proofs.insts.other_notes.Goals as goal
 
 pub returns-in_default-clause-reads : goal.returns-in_default-clause-reads

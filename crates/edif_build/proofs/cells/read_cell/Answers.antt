@@ -6,6 +6,7 @@ use Rattle.edif_spec.specs.Keyword.{name_definition, the}
 use Rattle.edif_spec.specs.Stands.{CellFault, CellTypeFault, ViewFault}
 use Rattle.edif_spec.specs.Stands as stands
 use Rattle.edif_spec.specs.declared.keyword.Keyword.TheVariants as keywords
+use Rattle.edif_spec.proofs.FaultsApart.{defined_first}
 use Rattle.edif_tree.specs.Handles.{here, all}
 use Rattle.edif_tree.specs.declared.node.Node.{Node}
 use Rattle.edif_build.specs.Cells.{OneNode, ReadCell, ViewsFault}
@@ -13,7 +14,6 @@ use Rattle.edif_build.specs.Headings.{HeadingFault, ReadHeading}
 use Rattle.edif_grammar.specs.Forms.{ArePartsOf}
 use Rattle.edif_grammar.specs.declared.lent.Form.{Form}
 use Rattle.edif_parts.proofs.Answering.{hand_on}
-use Rattle.edif_parts.proofs.NameForms.{defined_first}
 use Rattle.edif_parts.proofs.PartLemmas.{TwoNodes}
 use Rattle.edif_build.proofs.CellLemmas.{cell_means, cell_nodes, is_view, view_names, view_fails_there, views_fail}
 use Rattle.edif_build.proofs.cells.read_cell.Goals as goal

@@ -1,10 +1,10 @@
 use Rattle.std.proofs.Common.{◌≡◌, ◌<◌, ℕ, List, [], ◌++◌, length, take, sym, ◌∙◌, subst, Option, Some, true, inl, arith}
 use Rattle.std.specs.Prelude.{slice_get}
+use Rattle.std.proofs.lemmas.Option.{slice_get_within}
 use Rattle.spelling_spec.specs.Tree.{Placed, bare}
 use Rattle.edif_spec.specs.Rows.{has_keyword}
 use Rattle.edif_spec.specs.Stands.{DesignFault, libraries}
 use Rattle.edif_spec.specs.declared.keyword.Keyword.TheVariants.{Design}
-use Rattle.edif_spec.proofs.FaultForms.{get_below}
 use Rattle.edif_tree.specs.Handles.{here, all}
 use Rattle.edif_contents.specs.Known.{KnownLibs}
 use Rattle.edif_build.specs.Files.{DesignAt, FollowersFail, ReadFollowers}
@@ -19,7 +19,7 @@ found : (ts : List Placed) (o : Option ℕ) (i : ℕ) → o ≡ Some i → Desig
 found ts o i e d = let P : Option ℕ → Type 0 = λ v. DesignAt ts v in subst P e d
 
 below : (ts : List Placed) (o : Option ℕ) (i : ℕ) → o ≡ Some i → DesignAt ts o → i < length ts
-below ts o i e d = let f = found ts o i e d in get_below ts i f.0 f.1
+below ts o i e d = let f = found ts o i e d in slice_get_within ts i f.0 f.1
 
 -- the form at the place of the design
 design_there : (ts : List Placed) (i : ℕ) (t : Placed) (d : DesignAt ts (Some i)) → slice_get ts i ≡ Some t → d.0 ≡ t

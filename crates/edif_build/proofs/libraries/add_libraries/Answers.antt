@@ -2,12 +2,13 @@ use Rattle.std.proofs.Common.{◌≡◌, List, [], ◌∷◌, ◌++◌, sym, ap,
 use Rattle.spelling_spec.specs.Tree.{Placed, bare}
 use Rattle.edif_spec.specs.Means.{is_library}
 use Rattle.edif_spec.specs.Stands.{libraries}
+use Rattle.edif_spec.proofs.KnownValid.{regroup}
 use Rattle.edif_tree.specs.Handles.{here, all}
 use Rattle.edif_tree.specs.Eaches.{left}
 use Rattle.edif_build.specs.Libraries.{FailsAt, FailsIn, LibsAre, LibsFail}
 use Rattle.edif_parts.proofs.Answering.{hand_on}
 use Rattle.edif_parts.proofs.Steps.{ended, stepped}
-use Rattle.edif_build.proofs.FilterSteps.{passing_kept, passing_skipped, passing_all, append_assoc_to}
+use Rattle.edif_build.proofs.FilterSteps.{passing_kept, passing_skipped, passing_all}
 use Rattle.edif_build.proofs.libraries.add_libraries.Goals as goal
 
 pub loop-node-init : goal.loop-node-init
@@ -56,7 +57,7 @@ returns-in_err-add_library c = λ ds k.
     let back = libraries (left c.next.new.self) in
     let w : libraries ts ≡ front ++ t ∷ back = passing_all is_library ts b.0 (left c.loop-node.node-iterator) (left c.next.new.self) t b.1 c.in-Some.ensures.steps h in
     let v : (rest : List Placed) → (ds ++ front) ++ t ∷ (back ++ rest) ≡ (ds ++ libraries ts) ++ rest = λ rest.
-    append_assoc_to ds front (t ∷ (back ++ rest)) ∙ ap (λ z. ds ++ z) (sym (append_assoc_to front (t ∷ back) rest)) ∙ sym (append_assoc_to ds (front ++ t ∷ back) rest) ∙ ap (λ z. (ds ++ z) ++ rest) (sym w) in
+    regroup ds front (t ∷ (back ++ rest)) ∙ ap (λ z. ds ++ z) (sym (regroup front (t ∷ back) rest)) ∙ sym (regroup ds (front ++ t ∷ back) rest) ∙ ap (λ z. (ds ++ z) ++ rest) (sym w) in
     hand_on (λ _. LibsAre (ds ++ libraries ts) c.add_library.new.libs) (FailsAt LibsFail (ds ++ front) t) (FailsIn LibsFail (ds ++ libraries ts)) c.from_residual.result c.in_err-add_library.field-0.0
     c.from_residual.ensures.1 (λ f b rest. let P : List Placed → Type 0 = λ z. LibsFail z f in subst P (v rest) (b (back ++ rest)))
     (c.in_err-add_library.ensures (ds ++ front) (b.2 ds k))
@@ -74,7 +75,7 @@ loop-node-preserved c =
         b.0 ++ t ∷ [],
         stepped (all c.args.inner) b.0 (left c.loop-node.node-iterator) (left c.next.new.self) t b.1 c.in-Some.ensures.steps,
         λ ds k. (let P : List Placed → Type 0 = λ v. LibsAre v c.add_library.new.libs in
-            subst P (append_assoc_to ds front (t ∷ []) ∙ ap (λ v. ds ++ v) (sym (passing_kept is_library b.0 t h))) (c.in_ok-add_library.ensures (ds ++ front) (b.2 ds k))),
+            subst P (regroup ds front (t ∷ []) ∙ ap (λ v. ds ++ v) (sym (passing_kept is_library b.0 t h))) (c.in_ok-add_library.ensures (ds ++ front) (b.2 ds k))),
       ),
     )
 

@@ -9,10 +9,10 @@ use Rattle.edif_spec.specs.Stands as stands
 use Rattle.edif_spec.specs.declared.keyword.Keyword.{Keyword}
 use Rattle.edif_spec.specs.declared.keyword.Keyword.TheVariants as keywords
 use Rattle.edif_spec.specs.declared.fault.MeaningFault.{MeaningFault}
+use Rattle.edif_spec.proofs.FaultsApart.{defined_first}
 use Rattle.edif_tree.specs.Handles.{here}
 use Rattle.edif_build.specs.Libraries.{ReadHead}
 use Rattle.edif_parts.proofs.Answering.{hand_on}
-use Rattle.edif_parts.proofs.NameForms.{defined_first}
 use Rattle.edif_build.proofs.LibraryLemmas.{head_nodes, its_keyword, its_rows_fault}
 use Rattle.edif_build.proofs.libraries.read_head.Goals as goal
 

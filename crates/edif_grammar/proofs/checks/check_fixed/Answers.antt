@@ -1,11 +1,12 @@
 use Rattle.std.proofs.Common.{◌<◌, length, map, arith}
 use Rattle.std.proofs.lemmas.List.{length-map}
 use Rattle.std.proofs.lemmas.Result.{err_from_is_err_and}
+use Rattle.std.proofs.lemmas.Option.{slice_get_within}
 use Rattle.edif_spec.specs.Faults.{token_kind, misplaced}
 use Rattle.edif_tree.specs.Handles.{here, all}
 use Rattle.edif_grammar.specs.Rules.{choices, row_of}
 use Rattle.edif_grammar.specs.Checks.{ArgumentFits}
-use Rattle.edif_grammar.proofs.CheckLemmas.{below_next, map_get, get_within, fixed_at}
+use Rattle.edif_grammar.proofs.CheckLemmas.{below_next, map_get, fixed_at}
 use Rattle.edif_grammar.proofs.checks.check_fixed.Goals as goal
 
 pub returns-in_err-check_argument-clause-err : goal.returns-in_err-check_argument-clause-err
@@ -21,5 +22,5 @@ loop-i-preserved c =
 
 pub returns-clause-ok : goal.returns-clause-ok
 returns-clause-ok c = λ j d t e f.
-    let l : j < length (map choices c.args.wanted.now) = get_within (map choices c.args.wanted.now) j d e in
+    let l : j < length (map choices c.args.wanted.now) = slice_get_within (map choices c.args.wanted.now) j d e in
     c.loop-i.invariant j d t (omega (arith, l, length-map c.args.wanted.now choices)) e f

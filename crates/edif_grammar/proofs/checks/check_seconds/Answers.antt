@@ -1,10 +1,11 @@
 use Rattle.std.proofs.Common.{◌<◌, length, map, ap, sym, ◌∙◌, inl, inr, Some, arith}
 use Rattle.std.proofs.lemmas.List.{length-map}
 use Rattle.std.proofs.lemmas.Result.{err_from_is_err_and}
+use Rattle.std.proofs.lemmas.Option.{slice_get_within}
 use Rattle.edif_tree.specs.Handles.{all}
 use Rattle.edif_grammar.specs.Rules.{follower}
 use Rattle.edif_grammar.specs.Checks.{OnceFits}
-use Rattle.edif_grammar.proofs.CheckLemmas.{each_next, map_get, get_within, second_at}
+use Rattle.edif_grammar.proofs.CheckLemmas.{each_next, map_get, second_at}
 use Rattle.edif_grammar.proofs.checks.check_seconds.Goals as goal
 use Rattle.edif_grammar.proofs.checks.check_seconds.Goals.{then-second_is_bad_form+in_ok-check_once, else-second_is_bad_form}
 
@@ -31,5 +32,5 @@ loop-inner-preserved c =
 
 pub returns-clause-ok : goal.returns-clause-ok
 returns-clause-ok c = λ j a e.
-    let l : j < length (map follower c.args.allowed.now) = get_within (map follower c.args.allowed.now) j a e in
+    let l : j < length (map follower c.args.allowed.now) = slice_get_within (map follower c.args.allowed.now) j a e in
     c.loop-inner.invariant j a (omega (arith, l, length-map c.args.allowed.now follower)) e

@@ -10,9 +10,9 @@ use Rattle.edif_spec.specs.Rows.{Perhaps, those}
 use Rattle.edif_spec.specs.Stands.{DirectionFault, PortFault, BusNameFault, PropertiesFault}
 use Rattle.edif_spec.specs.Stands as stands
 use Rattle.edif_spec.specs.declared.keyword.Keyword.TheVariants as keywords
+use Rattle.edif_spec.proofs.FaultsApart.{defined_first}
 use Rattle.edif_tree.specs.Handles.{here, all}
 use Rattle.edif_parts.proofs.Answering.{hand_on}
-use Rattle.edif_parts.proofs.NameForms.{defined_first}
 use Rattle.edif_parts.proofs.PortForms.{port_node, one_direction, one_designator, port_means}
 use Rattle.edif_parts.proofs.ports.read_port.Goals as goal
 

@@ -9,9 +9,9 @@ use Rattle.edif_spec.specs.Rows.{Perhaps, those}
 use Rattle.edif_spec.specs.Stands.{InValue, NameFault, PropertyFault}
 use Rattle.edif_spec.specs.Stands as stands
 use Rattle.edif_spec.specs.declared.keyword.Keyword.TheVariants as keywords
+use Rattle.edif_spec.proofs.FaultsApart.{defined_first}
 use Rattle.edif_tree.specs.Handles.{here, all}
 use Rattle.edif_parts.proofs.Answering.{hand_on}
-use Rattle.edif_parts.proofs.NameForms.{defined_first}
 use Rattle.edif_parts.proofs.PropertyForms.{property_nodes, one_owner, property_means}
 use Rattle.edif_parts.proofs.properties.read_property.Goals as goal
 

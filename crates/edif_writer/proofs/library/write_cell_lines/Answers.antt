@@ -1,9 +1,9 @@
 use Rattle.std.proofs.Common.{◌∙◌, ◌++◌, ◌∷◌, [], ap, sym, map, take, get_or, append-nil}
 use Rattle.std.proofs.lemmas.List.{map-append}
+use Rattle.netlist_schema.proofs.Lists.{some_of}
 use Rattle.edif_spec.specs.Arranged.{arranged, new_cell, new_cells, orders_from}
 use Rattle.edif_spec.specs.Canonical.{layout, new_line, cell_tree}
 use Rattle.edif_spec.proofs.Arrange.{valid_whole}
-use Rattle.edif_spec.proofs.CellPlaces.{some_of}
 use Rattle.netlist_schema.specs.Design.{cells_in, cell_at}
 use Rattle.netlist_schema.specs.Types.{CellId}
 use Rattle.edif_writer.specs.Lines.{lined}

@@ -1,13 +1,14 @@
 use Rattle.std.proofs.Common.{[], ◌∙◌, subst, sym}
 use Rattle.std.proofs.lemmas.List.Elements.{recursion_from_All}
 use Rattle.netlist_schema.specs.Hierarchy.{IsCell}
+use Rattle.netlist_schema.proofs.Lists.{all_at}
 use Rattle.copy_names.proofs.SomeReads.{some_none, some_then}
 use Rattle.block_reads.proofs.Blocks.{is_got}
 use Rattle.cell_copies.specs.declared.spot.Step.{Step}
 use Rattle.cell_copies.specs.Drafts.{IsDraft}
 use Rattle.path_copies.specs.Along.{chain}
 use Rattle.path_copies.specs.Plans.{all_copied}
-use Rattle.path_copies.proofs.Chains.{drafted_more, drafted_none, each_got, whole_chain}
+use Rattle.path_copies.proofs.Chains.{drafted_more, drafted_none, whole_chain}
 use Rattle.path_copies.proofs.path_draft.draft_blocks.Goals as goal
 
 pub loop-place-init : goal.loop-place-init
@@ -20,7 +21,7 @@ pub copy-requires : goal.copy-requires
 copy-requires g c =
     let d = (g.C.Cells.state c.args.cells.now).design in
     subst (λ e. IsCell e c.step_at-step.result.of) (sym c.loop-place.invariant.some.design)
-    (each_got (λ (step : Step). IsCell d step.of) c.args.steps.now c.loop-place.place c.step_at-step.result (recursion_from_All (λ (step : Step). IsCell d step.of) c.args.steps.now c.requires) c.step_at-step.ensures)
+    (all_at (λ (step : Step). IsCell d step.of) c.args.steps.now c.loop-place.place c.step_at-step.result (recursion_from_All (λ (step : Step). IsCell d step.of) c.args.steps.now c.requires) c.step_at-step.ensures)
 
 pub returns-clause-drafted : goal.returns-clause-drafted
 returns-clause-drafted g c = λ top.

@@ -1,10 +1,11 @@
 use Rattle.std.proofs.Common.{◌≡◌, ◌∙◌, sym, length, map, arith, vec_len}
 use Rattle.std.specs.Prelude.{Ok, slice_index_or, ◌<◌}
 use Prim.Native.Nat.{ℕ}
+use Rattle.std.proofs.lemmas.Result.{IfOk-weaker}
 use Rattle.run_scripts.specs.Run.{all_steps}
 use Rattle.run_scripts.specs.Workers.{IsDone}
 use Rattle.run_scripts.specs.declared.workers.Done.{Done}
-use Rattle.run_scripts.proofs.Closing.{all_count, each_done, weaker}
+use Rattle.run_scripts.proofs.Closing.{all_count, each_done}
 use Rattle.run_scripts.proofs.workers.run_all.Goals as goal
 
 pub returns-clause-len : goal.returns-clause-len
@@ -12,7 +13,7 @@ returns-clause-len g c =
     let tries = c.in_ok-tries.tries in
     let passes = c.args.passes in
     let many : length tries.items ≡ length passes.items = sym tries.ok.0 ∙ (c.in_ok-tries.ensures.len ∙ passes.ok.0) in
-    weaker c.all_of.result (λ all. map Ok all.items ≡ tries.items) (λ all. vec_len all ≡ vec_len passes) (λ all is. all.ok.0 ∙ (all_count all.items tries.items is ∙ (many ∙ sym passes.ok.0))) c.all_of.ensures
+    IfOk-weaker c.all_of.result (λ all. map Ok all.items ≡ tries.items) (λ all. vec_len all ≡ vec_len passes) (λ all is. all.ok.0 ∙ (all_count all.items tries.items is ∙ (many ∙ sym passes.ok.0))) c.all_of.ensures
 
 pub returns-clause-each : goal.returns-clause-each
 returns-clause-each g c =
@@ -21,7 +22,7 @@ returns-clause-each g c =
     let db = c.args.db.now in
     let scripts = all_steps c.args.scripts.now in
     let many : length tries.items ≡ length passes.items = sym tries.ok.0 ∙ (c.in_ok-tries.ensures.len ∙ passes.ok.0) in
-    weaker c.all_of.result (λ all. map Ok all.items ≡ tries.items) (λ all. (k : ℕ) (d : Done) → k < vec_len passes → IsDone db scripts k (slice_index_or all.items k d))
+    IfOk-weaker c.all_of.result (λ all. map Ok all.items ≡ tries.items) (λ all. (k : ℕ) (d : Done) → k < vec_len passes → IsDone db scripts k (slice_index_or all.items k d))
     (λ all is k d less.
     each_done db scripts all.items tries.items passes.items is many (λ j p low. c.requires.numbered j p (omega (arith, low, passes.ok.0))) (λ j e p low. c.in_ok-tries.ensures.each j e p (omega (arith, low, passes.ok.0)))
     k d (omega (arith, less, passes.ok.0)))

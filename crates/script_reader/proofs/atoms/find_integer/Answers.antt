@@ -1,6 +1,7 @@
 use Rattle.std.proofs.Common.{◌∙◌, ap}
 use Rattle.spelling_spec.specs.Words.{integer}
-use Rattle.script_reader.proofs.AtomLemmas.{integer_found, integer_from_parse, no_integer, none_of_utf8}
+use Rattle.spelling_spec.proofs.ParseLemmas.{integer_from_parse}
+use Rattle.script_reader.proofs.AtomLemmas.{integer_found, no_integer, none_of_utf8}
 use Rattle.script_reader.proofs.atoms.find_integer.Goals as goal
 
 pub returns-in-Ok : goal.returns-in-Ok

@@ -5,8 +5,9 @@ use Rattle.netlist_schema.specs.Types.{Note}
 use Rattle.edit_core.specs.Reading.{IsReachedBy}
 use Rattle.cells_model.specs.State.{HasRead}
 use Rattle.eco_reads.proofs.Below.{take_whole}
+use Rattle.eco_reads.proofs.NoteReads.{one_note_more, some_after}
 use Rattle.ungroup_op.specs.Crossing.{crossings}
-use Rattle.ungroup_op.proofs.NoteReads.{crossings_joined, one_note_more, some_after}
+use Rattle.ungroup_op.proofs.NoteReads.{crossings_joined}
 use Rattle.ungroup_op.proofs.notes.list_crossings.Goals as goal
 
 pub returns-in_default-clause-reads : goal.returns-in_default-clause-reads

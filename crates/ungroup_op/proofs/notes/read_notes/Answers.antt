@@ -1,4 +1,5 @@
-use Rattle.ungroup_op.proofs.NoteReads.{notes_alone, notes_and_paths}
+use Rattle.eco_reads.proofs.NoteReads.{notes_and_paths}
+use Rattle.ungroup_op.proofs.NoteReads.{notes_alone}
 use Rattle.ungroup_op.proofs.notes.read_notes.Goals as goal
 
 pub returns-in_default-clause-reads : goal.returns-in_default-clause-reads

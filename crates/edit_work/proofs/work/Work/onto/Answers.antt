@@ -1,5 +1,5 @@
-use Rattle.std.proofs.Common.{◌≡◌, Result, Ok, Err, ap, sym, subst, ◌∙◌}
-use Rattle.std.specs.Result.{IfOk}
+use Rattle.std.proofs.Common.{◌≡◌, ap, sym, subst, ◌∙◌}
+use Rattle.std.proofs.lemmas.Result.{IfOk-weaker}
 use Rattle.netlist_schema.specs.Design.{Design}
 use Rattle.netlist_schema.specs.Valid.{IsValid}
 use Rattle.edit_work.specs.Becomes.{CanBecome, IsBehind}
@@ -8,10 +8,6 @@ use Rattle.version_data.specs.Shot.{Shot}
 use Rattle.version_draft.specs.Drafts.{Drafted}
 use Rattle.edit_work.proofs.work.Work.onto.Goals as goal
 use Rattle.edit_work.proofs.work.Work.onto.Goals.{In_ok-moved}
-
-if_ok : {T E : Type 0} (r : Result T E) (P Q : T → Type 0) → ((x : T) → P x → Q x) → IfOk r P → IfOk r Q
-if_ok (Ok x) P Q f p = f x p
-if_ok (Err e) P Q f p = tt
 
 -- the draft begins as the later version
 begun : (c : In_ok-moved) (target : Design) → CanBecome c.args.head.now.design c.args.self.now target → IsBehind c.args.self.now target c.in_ok-moved.moved.design
@@ -31,6 +27,6 @@ version-requires c =
 
 pub returns : goal.returns
 returns c =
-    if_ok c.version.result _ _
+    IfOk-weaker c.version.result _ _
     (λ made is target can. is ∙ c.in_ok-bring_all.ensures target (c.in_ok-add_all.ensures target (begun (goal.at.returns c).In_ok-moved target can)))
     c.version.ensures

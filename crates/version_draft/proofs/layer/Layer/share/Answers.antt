@@ -1,15 +1,12 @@
-use Rattle.std.proofs.Common.{rules, Some, None, Result, Ok, Err, IfOk, option_map}
+use Rattle.std.proofs.Common.{rules, Some, None, option_map}
 use Rattle.std.specs.Arc.{arc_value}
+use Rattle.std.proofs.lemmas.Result.{IfOk-weaker}
 use Rattle.version_draft.specs.Layers.{over_of}
 use Rattle.version_draft.proofs.Layers.{new_cell, changed_cell, same_cell}
 use Rattle.version_draft.proofs.layer.Layer.share.Goals as goal
 
-if_ok : {T E : Type 0} (r : Result T E) (P Q : T → Type 0) → ((x : T) → P x → Q x) → IfOk r P → IfOk r Q
-if_ok (Ok x) P Q f p = f x p
-if_ok (Err e) P Q f p = tt
-
 pub returns-then-slot-count : goal.returns-then-slot-count
-returns-then-slot-count c = if_ok c.share_added.result _ _ (λ body is. new_cell (over_of c.args.self.now) c.args.shelf.now.cells c.args.slot (option_map arc_value body) (search rules) (search rules)) c.share_added.ensures
+returns-then-slot-count c = IfOk-weaker c.share_added.result _ _ (λ body is. new_cell (over_of c.args.self.now) c.args.shelf.now.cells c.args.slot (option_map arc_value body) (search rules) (search rules)) c.share_added.ensures
 
 pub returns-in_ok-try_clone-in-Some : goal.returns-in_ok-try_clone-in-Some
 returns-in_ok-try_clone-in-Some c = changed_cell (over_of c.args.self.now) c.args.shelf.now.cells c.args.slot (arc_value c.in_ok-try_clone-in-Some.field-0) (search rules) (search rules)
