@@ -8,7 +8,8 @@ use Rattle.netlist_schema.specs.Types.{CellBody, CellId, Contents}
 use Rattle.netlist_schema.proofs.Lists.{all_append}
 use Rattle.edit_core.specs.Edit.{edited, edited_once, fresh, inner, with_contents, with_more_cell}
 use Rattle.edit_core.specs.Seen.{contents_at}
-use Rattle.edit_core.proofs.Edits.{cases_cell, cell_at-changed_same, cell_at-changed_other}
+use Rattle.netlist_schema.proofs.WithCell.{cases_cell}
+use Rattle.edit_core.proofs.Edits.{cell_at-changed_same, cell_at-changed_other}
 use Rattle.flat_spec.proofs.ListLemmas.{Member, Member-append_left, Member-append_right}
 use Rattle.uniquify_spec.specs.Blocks.{is_block}
 use Rattle.uniquify_spec.specs.Copies.{Copy}

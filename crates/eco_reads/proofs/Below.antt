@@ -16,7 +16,7 @@ use Rattle.netlist_schema.specs.Types.{CellId, Contents, Inst}
 use Rattle.netlist_schema.proofs.Objects.{both_Equal}
 use Rattle.netlist_schema.proofs.Ranks.{below_trans}
 use Rattle.edit_core.specs.Seen.{contents_at}
-use Rattle.edit_core.proofs.Edits.{same_id}
+use Rattle.netlist_schema.proofs.WithCell.{same_id}
 use Rattle.uniquify_spec.proofs.Agreed.{insts_inside as insts_of_found}
 use Rattle.cells_model.specs.Parts.{IsInside}
 use Rattle.cells_model.specs.State.{State, HasRead, HasReadSome}

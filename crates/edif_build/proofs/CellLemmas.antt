@@ -2,10 +2,9 @@
 use Rattle.std.proofs.Common.{◌≡◌, ℕ, List, [], ◌∷◌, ◌++◌, map, length, refl, ap, sym, ◌∙◌, subst, inl, inr, Bool, true, false, Option, Some, None, arith}
 use Rattle.std.specs.Prelude.{IsTrue, cond, slice_get}
 use Rattle.std.specs.List.{All, AllByRecursion}
-use Rattle.std.proofs.lemmas.List.Elements.{All-from_recursion}
 use Rattle.netlist_schema.specs.Design.{insts_of, nets_of, insts_in, nets_in}
 use Rattle.netlist_schema.specs.Names.{HasDistinctKeys}
-use Rattle.netlist_schema.specs.Typed.{IsTypedName, IsTypedProperty, IsTypedInst, IsTypedNet}
+use Rattle.netlist_schema.specs.Typed.{IsTypedName, IsTypedProperty}
 use Rattle.spelling_spec.specs.Tree.{Bare, Placed, Word', bare}
 use Rattle.edif_spec.specs.Keyword.{same, row, Takes, Choice, Follower, name_definition, identifier, the}
 use Rattle.edif_spec.specs.Rows.{has_keyword, those, IsFormOf, Each, Perhaps, Just}
@@ -22,8 +21,7 @@ use Rattle.edif_spec.specs.declared.fault.Kind.TheVariants.{BadForm, NotNetlist}
 use Rattle.edif_spec.specs.declared.fault.MeaningFault.{MeaningFault}
 use Rattle.edif_spec.specs.declared.fault.MeaningFault.TheVariants.{At, Clash}
 use Rattle.edif_spec.proofs.FaultForms.{filter_bare}
-use Rattle.edif_spec.proofs.KnownCells.{FineInside, parts_bare}
-use Rattle.edif_spec.proofs.KnownForms.{differ_distinct}
+use Rattle.edif_spec.proofs.KnownCells.{FineInside, parts_bare, nothing_inside}
 use Rattle.edif_spec.proofs.KnownRows.{follow_none}
 use Rattle.edif_tree.specs.Nodes as nodes
 use Rattle.edif_tree.specs.Handles.{here, all}
@@ -162,18 +160,7 @@ inside_names libs own ports (t ∷ []) (Some x) h = h.names
 inside_names libs own ports (t ∷ u ∷ us) (Some x) h = absurd h
 
 inside_fine : (libs : List design.Lib) (own : Option ℕ) (ports : List design.Port) (us : List Placed) (o : Option Inside) → ReadOnce (ReadContents libs own ports) us o → FineInside (insts_in (contents_of o)) (nets_in (contents_of o))
-inside_fine libs own ports us None h = record {
-  insts_count = omega arith;
-  nets_count = omega arith;
-  ends_count = omega arith;
-  inst_names = differ_distinct [] tt;
-  net_names = differ_distinct [] tt;
-  inst_keys = All-from_recursion (λ (i : design.Inst). HasDistinctKeys i.properties) [] tt;
-  net_keys = All-from_recursion (λ (n : design.Net). HasDistinctKeys n.properties) [] tt;
-  joined_once = differ_distinct [] tt;
-  insts_typed = All-from_recursion IsTypedInst [] tt;
-  nets_typed = All-from_recursion IsTypedNet [] tt;
-}
+inside_fine libs own ports us None h = nothing_inside
 inside_fine libs own ports [] (Some x) h = absurd h
 inside_fine libs own ports (t ∷ u ∷ us) (Some x) h = absurd h
 inside_fine libs own ports (t ∷ []) (Some x) h = record {

@@ -1,10 +1,10 @@
 -- Notes, their paths step by step, and their keys one more at a time.
-use Rattle.std.proofs.Common.{◌≡◌, ℕ, zero, suc, ◌+◌, ◌<◌, ◌≤◌, List, [], ◌∷◌, ◌++◌, map, length, drop, refl, ap, sym, ◌∙◌, subst, inl, inr, Bool, true, false, Some, None, arith, length-append, append-nil, Bor}
+use Rattle.std.proofs.Common.{◌≡◌, ℕ, suc, ◌+◌, ◌<◌, ◌≤◌, List, [], ◌∷◌, ◌++◌, map, length, drop, refl, ap, sym, ◌∙◌, subst, inl, inr, Bool, true, false, Some, None, arith, length-append, append-nil, Bor}
 use Rattle.std.specs.Prelude.{◌||◌, slice_get}
 use Rattle.std.specs.List.{AllByRecursion}
 use Rattle.std.proofs.lemmas.List.Elements.{All-from_recursion}
 use Rattle.netlist_schema.specs.Ident.{IsIdentifier}
-use Rattle.netlist_schema.proofs.Lists.{some_of}
+use Rattle.netlist_schema.proofs.Lists.{some_of, drop_next}
 use Rattle.spelling_spec.specs.Tree.{Placed, Form', Word', trees, bare}
 use Rattle.edif_spec.specs.Design as design
 use Rattle.edif_spec.specs.Faults.{arguments, place_of, FixedFault, FollowerFault}
@@ -43,21 +43,16 @@ few p (a ∷ b ∷ c ∷ ts) l = absurd (omega arith)
 pub too_few : (t : Placed) (place : ℕ) → length (arguments t) < 3 → place ≡ place_of t → ShapeFault t (At BadForm place)
 too_few t place l e = let P : ℕ → Type 0 = λ v. ShapeFault t (At BadForm v) in subst P (sym e) (inl (few (place_of t) (arguments t) l))
 
-drop_at : (ts : List Placed) (i : ℕ) (t : Placed) → slice_get ts i ≡ Some t → drop i ts ≡ t ∷ drop (suc i) ts
-drop_at [] i t e = absurd (cc e)
-drop_at (u ∷ ts) zero t e = let w : u ≡ t = cc e in ap (λ v. v ∷ ts) w
-drop_at (u ∷ ts) (suc i) t e = drop_at ts i t e
-
 -- the mark, the path and what follows it
 marked : (ts : List Placed) (u : Placed) → slice_get ts 1 ≡ Some u → (a : Placed) × (rest : List Placed) × (ts ≡ a ∷ u ∷ rest)
 marked [] u g = absurd (cc g)
-marked (a ∷ ts) u g = (a, drop 1 ts, ap (λ v. a ∷ v) (drop_at ts 0 u g))
+marked (a ∷ ts) u g = (a, drop 1 ts, ap (λ v. a ∷ v) (drop_next ts 0 u g))
 
 -- the mark, the path, the property and what follows it
 whole : (ts : List Placed) (u v : Placed) → slice_get ts 1 ≡ Some u → slice_get ts 2 ≡ Some v → (a : Placed) × (rest : List Placed) × (ts ≡ a ∷ u ∷ v ∷ rest)
 whole [] u v g h = absurd (cc g)
 whole (a ∷ []) u v g h = absurd (cc g)
-whole (a ∷ b ∷ ts) u v g h = (let w : b ≡ u = cc g in (a, drop 1 ts, (λ i. a ∷ w i ∷ drop_at ts 0 v h i)))
+whole (a ∷ b ∷ ts) u v g h = (let w : b ≡ u = cc g in (a, drop 1 ts, (λ i. a ∷ w i ∷ drop_next ts 0 v h i)))
 
 not_the : (b : Bool) → b ≡ false → (b || false) ≡ false
 not_the b h = ap (λ v. v || false) h
@@ -77,7 +72,7 @@ wrong_property t u v ts place q g h n e =
 pub too_many : (t y : Placed) (ts : List Placed) (place : ℕ) → ts ≡ arguments t → slice_get ts 3 ≡ Some y → place ≡ nodes.place_of y → ShapeFault t (At BadForm place)
 too_many t y ts place q g e =
     let P : List Placed → Type 0 = λ v. FollowerFault bad_form [] v (At BadForm place) in
-    inr (subst P (sym (drop_at ts 3 y g) ∙ ap (drop 3) q) (inl (refl, ap (λ v. At BadForm v) (e ∙ place_is y))))
+    inr (subst P (sym (drop_next ts 3 y g) ∙ ap (drop 3) q) (inl (refl, ap (λ v. At BadForm v) (e ∙ place_is y))))
 
 pub parts_are : (t : Placed) (p : NoteParts) (ts : List Placed) → ts ≡ arguments t → length ts ≤ 3 → slice_get ts 1 ≡ Some (here p.path) → slice_get ts 2 ≡ Some (here p.property) → has_keyword keywords.Path (bare (here p.path)) ≡ true → has_keyword keywords.Property (bare (here p.property)) ≡ true → HasNoteParts t p
 parts_are t p ts q l g h k m =

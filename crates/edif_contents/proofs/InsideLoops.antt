@@ -5,7 +5,7 @@ use Rattle.std.specs.List.{All, AllByRecursion, AllZip, flat_map}
 use Rattle.std.proofs.lemmas.List.Elements.{All-from_recursion, recursion_from_All}
 use Rattle.std.proofs.lemmas.Grind.{flat_map-append}
 use Rattle.std.proofs.lemmas.List.{length-map}
-use Rattle.netlist_schema.proofs.Lists.{all_push}
+use Rattle.netlist_schema.proofs.Lists.{all_push, zip_length}
 use Rattle.spelling_spec.specs.Tree.{Bare, Placed, bare}
 use Rattle.netlist_schema.specs.Names.{AreDistinct}
 use Rattle.netlist_schema.specs.Width.{IsWidth}
@@ -20,7 +20,7 @@ use Rattle.edif_spec.specs.declared.keyword.Keyword.TheVariants as keywords
 use Rattle.edif_spec.specs.declared.fault.MeaningFault.{MeaningFault}
 use Rattle.edif_spec.specs.declared.fault.MeaningFault.TheVariants.{OverLimit}
 use Rattle.edif_spec.proofs.FaultForms.{filter_bare}
-use Rattle.edif_spec.proofs.NetFaultsApart.{net_declares, zip_append, zip_flat, zip_length}
+use Rattle.edif_spec.proofs.NetFaultsApart.{net_declares, zip_append, zip_flat}
 use Rattle.edif_spec.proofs.RowForms.{GivesName, length_numbered, net_names_are, nets_counted, rows_fine}
 use Rattle.edif_tree.specs.Handles.{all}
 use Rattle.edif_parts.specs.Names.{DefinesName, ids}

@@ -6,7 +6,7 @@ use Rattle.std.proofs.lemmas.Grind.{flat_map-append}
 use Rattle.std.proofs.lemmas.List.{length-map, length-replicate, map-append}
 use Rattle.std.proofs.lemmas.List.Elements.{All-weaker}
 use Rattle.std.proofs.Math.Nat.{add-mul, mul_comm, suc-mul}
-use Rattle.netlist_schema.proofs.Lists.{get_behind}
+use Rattle.netlist_schema.proofs.Lists.{get_behind, zip_length}
 use Rattle.spelling_spec.specs.Tree.{Placed, bare}
 use Rattle.netlist_schema.specs.Names.{AreDistinct}
 use Rattle.bus_spec.specs.Members.{numbered}
@@ -18,7 +18,6 @@ use Rattle.edif_spec.specs.Stands.{MeansRowEnd, SameEnd}
 use Rattle.edif_spec.specs.declared.fault.ClashKind.TheVariants.{EndTwice}
 use Rattle.edif_spec.specs.declared.fault.MeaningFault.{MeaningFault}
 use Rattle.edif_spec.specs.declared.fault.MeaningFault.TheVariants.{Clash, OverLimit}
-use Rattle.edif_spec.proofs.NetFaultsApart.{zip_length}
 use Rattle.edif_parts.proofs.NamedForms.{each_push}
 use Rattle.edif_contents.specs.Joins.{bits, row_of, Joined, IsTwice, AreJoined}
 use Rattle.edif_parts.proofs.NameLists.{none_distinct, distinct_push}

@@ -4,7 +4,7 @@ use Rattle.std.specs.Prelude.{cond, slice_get, IfOk, IfErr}
 use Rattle.std.specs.List.{AllZip, AllByRecursion}
 use Rattle.std.proofs.lemmas.Bool.{and_parts, cases_Bool}
 use Rattle.std.proofs.lemmas.List.{length-map}
-use Rattle.netlist_schema.proofs.Lists.{take_front}
+use Rattle.netlist_schema.proofs.Lists.{take_front, zip_length}
 use Rattle.spelling_spec.specs.Tree.{Bare, Placed, Form', Word', Integer', String', End, More, bare}
 use Rattle.edif_spec.specs.Keyword.{row, Row, Takes, Choice, Follower, Many, One, name_definition, the, integer}
 use Rattle.edif_spec.specs.Rows.{has_keyword, those, is_one_of, is_follower, AtMostOnce, FitsRow, IsFormOf}
@@ -17,7 +17,6 @@ use Rattle.edif_spec.specs.declared.fault.MeaningFault.{MeaningFault}
 use Rattle.edif_spec.specs.declared.fault.MeaningFault.TheVariants.{NotInProfile, At}
 use Rattle.edif_spec.proofs.FaultForms.{filter_bare, none_of_two, none_of_one}
 use Rattle.edif_spec.proofs.KnownForms as known
-use Rattle.edif_spec.proofs.NetFaultsApart.{zip_length}
 use Rattle.edif_grammar.specs.Forms.{ArePartsOf, Fails, Fits, FitsOwn, HasOwnKind, HasParts, fault_of, row_above}
 use Rattle.edif_grammar.specs.declared.lent.Form.{Form}
 use Rattle.edif_grammar.specs.declared.lent.Breach.{Breach}

@@ -1,5 +1,5 @@
 -- No fault stands in a form that means something: contents, views and cells.
-use Rattle.std.proofs.Common.{◌≡◌, ℕ, ◌≤◌, List, [], ◌∷◌, map, length, refl, ap, sym, ◌∙◌, subst, inl, inr, true, Option, Some, None, arith}
+use Rattle.std.proofs.Common.{◌≡◌, ℕ, ◌≤◌, List, [], ◌∷◌, map, length, refl, ap, sym, ◌∙◌, subst, inl, inr, true, Option, Some, None, arith, map-id}
 use Rattle.std.specs.Prelude.{IfSome}
 use Rattle.std.specs.List.{AllZip, AllByRecursion, All, flat_map}
 use Rattle.std.proofs.lemmas.List.Elements.{recursion_from_All}
@@ -22,10 +22,11 @@ use Rattle.edif_spec.specs.declared.keyword.Keyword.TheVariants as keywords
 use Rattle.edif_spec.specs.declared.fault.Kind.TheVariants.{BadForm, NotNetlist}
 use Rattle.edif_spec.specs.declared.fault.MeaningFault.{MeaningFault}
 use Rattle.netlist_schema.specs.declared.cell.CellKind.TheVariants as kinds
+use Rattle.netlist_schema.proofs.Lists.{zip_length}
 use Rattle.edif_spec.proofs.Once.{each_once, port_once}
 use Rattle.edif_spec.proofs.OnceFile.{inst_once, end_once}
 use Rattle.edif_spec.proofs.FaultForms.{part_is, parts_are, row_apart, each_apart, perhaps_apart, just_apart, each_length, beyond_apart, each_with, IsNamed, repeats_apart, two_apart, differ, Differ}
-pub use Rattle.edif_spec.proofs.NetFaultsApart.{dangles_apart, library_ref_apart, cell_ref_apart, view_ref_apart, inst_apart, inst_named, all_kept, net_apart, net_named, net_declares, joined_ends, ends_of_form, map_same, net_ends, net_shape_apart, zip_flat, zip_length}
+pub use Rattle.edif_spec.proofs.NetFaultsApart.{dangles_apart, library_ref_apart, cell_ref_apart, view_ref_apart, inst_apart, inst_named, all_kept, net_apart, net_named, net_declares, joined_ends, ends_of_form, net_ends, net_shape_apart, zip_flat}
 use Rattle.edif_spec.proofs.RowForms.{GivesName, ends_counted, keys_of_rows, net_names_are, nets_counted, row_ends_of}
 use Rattle.edif_spec.proofs.FaultsApart.{name_apart, properties_apart, word_apart, three, form_named, interface_apart, FineInterface}
 
@@ -79,7 +80,7 @@ contents_apart libs own ports t c f h v b =
         let P : List Bare → Type 0 = λ w. Each (MeansInst libs own) w c.insts in
         let i : is ≡ c.insts = each_once (MeansInst libs own) (inst_once libs own) (map bare (insts_in t)) is c.insts g (subst P (sym e) h.insts) in
         two_apart (MeansRowEnd libs ports c.insts) (SameEnd libs ports c.insts f) (λ x. x) (same_end libs ports c.insts f) (flat_map row_ends (nets_in t)) (flat_map (λ (n : design.Net). n.ends) c.nets) ends
-        (subst Differ (sym (map_same (flat_map (λ (n : design.Net). n.ends) c.nets))) (differ (flat_map (λ (n : design.Net). n.ends) c.nets) v.joined_once)) (subst (λ w. AtTwo (SameEnd libs ports w f) (flat_map row_ends (nets_in t))) i b)
+        (subst Differ (sym (map-id (flat_map (λ (n : design.Net). n.ends) c.nets))) (differ (flat_map (λ (n : design.Net). n.ends) c.nets) v.joined_once)) (subst (λ w. AtTwo (SameEnd libs ports w f) (flat_map row_ends (nets_in t))) i b)
     go e d l m names ends keys (stands.inst_again b) = repeats_apart (λ (i : design.Inst). i.name.id) f (insts_in t) c.insts (each_with (MeansInst libs own) (λ u i. IsNamed u i.name.id) (inst_named libs own) (insts_in t) (those keywords.Instance h.inner) c.insts e h.insts) v.inst_names b
     go e d l m names ends keys (stands.net_again b) = two_apart (λ a x. a.0 ≡ x) (SameOfTwo f) (λ (n : design.Net). n.name.id) (same_name_of_two f) (flat_map net_names_in (nets_in t)) c.nets names (differ (map (λ (n : design.Net). n.name.id) c.nets) v.net_names) b
     go e d l m names ends keys (stands.many_insts b) = let k : length c.insts ≤ 1048576 = v.insts in beyond_apart 1048576 (insts_in t) f (omega (arith, l, k)) b

@@ -6,7 +6,7 @@ use Rattle.std.proofs.lemmas.List.Elements.{recursion_from_All}
 use Rattle.std.proofs.lemmas.Option.{slice_get_within}
 use Rattle.std.proofs.lemmas.List.{length-map}
 use Rattle.netlist_schema.specs.Names.{AreDistinct}
-use Rattle.netlist_schema.proofs.Lists.{drop_front, map_drop, get_mapped, get_unmapped}
+use Rattle.netlist_schema.proofs.Lists.{drop_front, map_drop, get_mapped, get_unmapped, zip_length}
 use Rattle.spelling_spec.specs.Tree.{Bare, Placed, Trees, Form', Word', Integer', String', End, More, form, word, items, bare, bares}
 use Rattle.edif_spec.specs.Keyword.{row, Row, Takes, Skips, Choice, Follower, Many, One}
 use Rattle.edif_spec.specs.Rows.{has_keyword, those, is_one_of, is_follower, AtMostOnce, FitsRow, IsFormOf, Each, EachAfter, Perhaps, Just}
@@ -63,15 +63,9 @@ part_is k t fixed inner i u b h e f =
 pub part_there : (k : Keyword) (t : Placed) (fixed inner : List Bare) (i : ℕ) (b : Bare) → IsFormOf k (bare t) fixed inner → slice_get (fixed ++ inner) i ≡ Some b → (u : Placed) × (slice_get (arguments t) i ≡ Some u) × (bare u ≡ b)
 part_there k t fixed inner i b h f = get_unmapped bare (arguments t) i b (ap (λ v. slice_get v i) (arguments_are k t fixed inner h) ∙ f)
 
-zip_length : (cs : List (List Choice)) (ts : List Bare) → AllZip (λ cs t. IsTrue (is_one_of cs t)) cs ts → length cs ≡ length ts
-zip_length [] [] h = refl
-zip_length [] (t ∷ ts) h = absurd h
-zip_length (c ∷ cs) [] h = absurd h
-zip_length (c ∷ cs) (t ∷ ts) h = ap suc (zip_length cs ts h.1)
-
 fits_count : (r : Row) (fixed inner : List Bare) → FitsRow r fixed inner → fixed_count r ≡ length fixed
 fits_count Skips fixed inner h = sym (ap length h)
-fits_count (Takes cs fs) fixed inner h = zip_length cs fixed h.0
+fits_count (Takes cs fs) fixed inner h = zip_length (λ cs t. IsTrue (is_one_of cs t)) cs fixed h.0
 
 dropped : (n : ℕ) (ts : List Placed) (fixed inner : List Bare) → map bare ts ≡ fixed ++ inner → n ≡ length fixed → map bare (drop n ts) ≡ inner
 dropped n ts fixed inner e l = map_drop bare n ts ∙ (ap (drop n) e ∙ (ap (λ v. drop v (fixed ++ inner)) l ∙ drop_front fixed inner))
@@ -120,7 +114,7 @@ seconds_apart (One k ∷ fs) ts f h (inr b) = seconds_apart fs ts f h.1 b
 breaches_apart : (kind : Kind) (r : Row) (t : Placed) (fixed inner : List Bare) (f : MeaningFault) → map bare (arguments t) ≡ fixed ++ inner → FitsRow r fixed inner → Breaches kind r t f → ⊥
 breaches_apart kind Skips t fixed inner f e h b = b
 breaches_apart kind (Takes cs fs) t fixed inner f e h b =
-    let rest : map bare (drop (length cs) (arguments t)) ≡ inner = dropped (length cs) (arguments t) fixed inner e (zip_length cs fixed h.0) in
+    let rest : map bare (drop (length cs) (arguments t)) ≡ inner = dropped (length cs) (arguments t) fixed inner e (zip_length (λ cs t. IsTrue (is_one_of cs t)) cs fixed h.0) in
     let follows : IsTrue (list_all (is_follower fs) (map bare (drop (length cs) (arguments t)))) = ap (list_all (is_follower fs)) rest ∙ h.1 in
     let P : List Bare → Type 0 = λ v. AtMostOnce fs v in
     let once : AtMostOnce fs (map bare (drop (length cs) (arguments t))) = subst P (sym rest) h.2 in

@@ -1,5 +1,5 @@
 -- A form means something, or a fault stands in it: references, instances, nets, contents, views and cells.
-use Rattle.std.proofs.Common.{◌≡◌, ◌≢◌, ℕ, ◌+◌, ◌<◌, ◌≤◌, ℤ, pos, negsuc, List, [], ◌∷◌, map, length, refl, ap, sym, ◌∙◌, subst, ◌⊎◌, inl, inr, Bool, true, false, Option, Some, None, arith}
+use Rattle.std.proofs.Common.{◌≡◌, ◌≢◌, ℕ, ◌+◌, ◌<◌, ◌≤◌, ℤ, pos, negsuc, List, [], ◌∷◌, map, length, refl, ap, sym, ◌∙◌, subst, ◌⊎◌, inl, inr, Bool, true, false, Option, Some, None, arith, map-id}
 use Rattle.std.specs.Prelude.{IsTrue, cond, ◌||◌, IfSome, nat_lt}
 use Rattle.std.specs.List.{AllZip, AllByRecursion, All, flat_map}
 use Rattle.std.proofs.lemmas.List.Elements.{All-from_recursion, recursion_from_All}
@@ -26,8 +26,9 @@ use Rattle.edif_spec.specs.declared.fault.Kind.TheVariants.{BadForm, NotNetlist,
 use Rattle.edif_spec.specs.declared.fault.ClashKind.TheVariants.{Duplicate, EndTwice}
 use Rattle.edif_spec.specs.declared.fault.MeaningFault.TheVariants.{At, Clash}
 use Rattle.netlist_schema.specs.declared.cell.CellKind.TheVariants as kinds
+use Rattle.netlist_schema.proofs.Lists.{zip_length}
 use Rattle.edif_spec.proofs.FaultForms.{filter_bare, part_there, each_with, IsNamed}
-use Rattle.edif_spec.proofs.CellFaultsApart.{all_kept, ends_of_form, inst_named, zip_flat, zip_length, FineContents, FineCell}
+use Rattle.edif_spec.proofs.CellFaultsApart.{all_kept, ends_of_form, inst_named, zip_flat, FineContents, FineCell}
 use Rattle.edif_spec.proofs.RowForms.{GivesName, ends_counted, net_names_are, nets_counted, row_ends_of, rows_fine}
 use Rattle.edif_spec.proofs.FaultsApart.{FineInterface}
 use Rattle.edif_spec.proofs.KnownForms.{Faulty, Written, IsOf, Meant, beyond_known, names_known, distinct_known, bytes_same, differ_distinct, nat_same, parts_of, word_choice, integer_choice, only, form_choice, known0, known1, known2, known3}
@@ -295,14 +296,10 @@ end_same x y = elim (option_same x.inst y.inst) [
   ]
 ]
 
-map_same : {A : Type 0} (xs : List A) → map (λ x. x) xs ≡ xs
-map_same [] = refl
-map_same (x ∷ xs) = ap (λ v. x ∷ v) (map_same xs)
-
 ends_known : (libs : List design.Lib) (ports : List design.Port) (insts : List design.Inst) (ts : List (Placed × ℕ × ℕ)) (es : List design.End) → AllZip (MeansRowEnd libs ports insts) ts es → AreDistinct es ⊎ Faulty (λ f. AtTwo (SameEnd libs ports insts f) ts)
 ends_known libs ports insts ts es h = elim (distinct_known (MeansRowEnd libs ports insts) (λ f a b. SameEnd libs ports insts f a b) (λ e. e) end_same (λ a b x m n. (Clash EndTwice (place_of b.0) (place_of a.0), (x, m, n, refl))) ts es h) [
   | inr b ↦ inr b
-  | inl d ↦ inl (subst AreDistinct (map_same es) d)
+  | inl d ↦ inl (subst AreDistinct (map-id es) d)
 ]
 
 -- the names of nets
@@ -490,8 +487,8 @@ pub record FineInside (insts : List design.Inst) (nets : List design.Net) : Type
   pub insts_typed : All IsTypedInst insts
   pub nets_typed : All IsTypedNet nets
 
-inside : (o : Option design.Contents) → IfSome o (λ x. IsTypedContents x × FineContents x) → FineInside (insts_inside o) (nets_inside o)
-inside None h = record {
+pub nothing_inside : FineInside [] []
+nothing_inside = record {
   insts_count = omega arith;
   nets_count = omega arith;
   ends_count = omega arith;
@@ -503,6 +500,9 @@ inside None h = record {
   insts_typed = All-from_recursion IsTypedInst [] tt;
   nets_typed = All-from_recursion IsTypedNet [] tt;
 }
+
+inside : (o : Option design.Contents) → IfSome o (λ x. IsTypedContents x × FineContents x) → FineInside (insts_inside o) (nets_inside o)
+inside None h = nothing_inside
 inside (Some x) h = record {
   insts_count = h.1.insts;
   nets_count = h.1.nets;

@@ -5,7 +5,7 @@ use Rattle.std.specs.List.{list_all, AllZip, AllByRecursion, All}
 use Rattle.std.proofs.lemmas.List.Elements.{All-from_recursion}
 use Rattle.std.proofs.lemmas.Bool.Decides.{nat_tests}
 use Rattle.std.proofs.lemmas.Bool.{cases_Bool}
-use Rattle.std.proofs.lemmas.List.{length-map}
+use Rattle.std.proofs.lemmas.List.{length-map, map-append}
 use Rattle.netlist_schema.specs.Names.{AreDistinct}
 use Rattle.spelling_spec.specs.Tree.{Bare, Placed, Trees, Form', Word', Integer', String', End, More, form, word, trees, items, bare, bares}
 use Rattle.edif_spec.specs.Keyword.{row, Row, Takes, Choice, AnIdentifier, AnInteger, AString, AForm, Follower, Many, One}
@@ -30,10 +30,6 @@ pub split : {A : Type 0} (n : ℕ) (xs : List A) → take n xs ++ drop n xs ≡ 
 split zero xs = refl
 split (suc n) [] = refl
 split (suc n) (x ∷ xs) = ap (λ v. x ∷ v) (split n xs)
-
-pub map_append : {A B : Type 0} (f : A → B) (xs ys : List A) → map f (xs ++ ys) ≡ map f xs ++ map f ys
-map_append f [] ys = refl
-map_append f (x ∷ xs) ys = ap (λ v. f x ∷ v) (map_append f xs ys)
 
 pub trees_bares : (ts : Trees ℕ) → trees (map bare (items ts)) ≡ bares ts
 trees_bares End = refl
@@ -114,7 +110,7 @@ fits_known k cs fs p q name ts r h =
         let fit : FitsRow (Takes cs fs) (map bare (take (length cs) (items ts))) (map bare (drop (length cs) (items ts))) = (fixed_bare cs (take (length cs) (items ts)) x, y, z) in
         let P : Row → Type 0 = λ v. FitsRow v (map bare (take (length cs) (items ts))) (map bare (drop (length cs) (items ts))) in
         let e : bare t ≡ form (word name ∷ (map bare (take (length cs) (items ts)) ++ map bare (drop (length cs) (items ts)))) =
-        ap (λ v. Form' tt (More (word name) v)) (sym (trees_bares ts) ∙ ap trees (ap (map bare) s ∙ map_append bare (take (length cs) (items ts)) (drop (length cs) (items ts)))) in
+        ap (λ v. Form' tt (More (word name) v)) (sym (trees_bares ts) ∙ ap trees (ap (map bare) s ∙ map-append bare (take (length cs) (items ts)) (drop (length cs) (items ts)))) in
         let f : IsFormOf k (bare t) (map bare (take (length cs) (items ts))) (map bare (drop (length cs) (items ts))) = record { spelled = name; is = e; keyword = h; fits = subst P (sym r) fit } in
         let Q : List Placed → Type 0 = λ v. IsFormOf k (bare t) (map bare (take (length cs) (items ts))) (map bare v) in
         inl (record { fixed = take (length cs) (items ts); split = s ∙ ap (λ v. take (length cs) (items ts) ++ v) (sym n); choices = x; form = subst Q (sym n) f })

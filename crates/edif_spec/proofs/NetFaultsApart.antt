@@ -1,5 +1,5 @@
 -- No fault stands in a form that means something: references, instances and nets.
-use Rattle.std.proofs.Common.{◌≡◌, ℕ, suc, ◌<◌, pos, List, [], ◌∷◌, ◌++◌, map, length, refl, ap, sym, ◌∙◌, subst, inl, inr, Bool, true, false, Option, Some, None}
+use Rattle.std.proofs.Common.{◌≡◌, ℕ, ◌<◌, pos, List, [], ◌∷◌, ◌++◌, map, refl, ap, sym, ◌∙◌, subst, inl, inr, Bool, true, false, Option, Some, None}
 use Rattle.std.specs.Prelude.{IsTrue, cond, IfSome}
 use Rattle.std.specs.List.{AllZip, AllByRecursion, flat_map, list_all}
 use Rattle.netlist_schema.specs.Names.{HasDistinctKeys}
@@ -202,16 +202,6 @@ zip_flat R S f g each [] [] h = tt
 zip_flat R S f g each [] (y ∷ ys) h = absurd h
 zip_flat R S f g each (x ∷ xs) [] h = absurd h
 zip_flat R S f g each (x ∷ xs) (y ∷ ys) h = zip_append S (f x) (g y) (flat_map f xs) (flat_map g ys) (each x y h.0) (zip_flat R S f g each xs ys h.1)
-
-pub zip_length : {A B : Type 0} (R : A → B → Type 0) (xs : List A) (ys : List B) → AllZip R xs ys → length xs ≡ length ys
-zip_length R [] [] h = refl
-zip_length R [] (y ∷ ys) h = absurd h
-zip_length R (x ∷ xs) [] h = absurd h
-zip_length R (x ∷ xs) (y ∷ ys) h = ap suc (zip_length R xs ys h.1)
-
-pub map_same : {A : Type 0} (xs : List A) → map (λ x. x) xs ≡ xs
-map_same [] = refl
-map_same (x ∷ xs) = ap (λ v. x ∷ v) (map_same xs)
 
 -- shapes
 any_weaker : (F G : Placed → MeaningFault → Type 0) (f : MeaningFault) → ((u : Placed) → F u f → G u f) → (ts : List Placed) → Among F ts f → Among G ts f

@@ -1,9 +1,8 @@
 -- A tree means one design at most.
-use Rattle.std.proofs.Common.{◌≡◌, ℕ, suc, ℤ, pos, List, [], ◌∷◌, ◌++◌, length, refl, ap, sym, ◌∙◌, subst, inl, inr, Bool, true, false, Option, Some, None, arith}
+use Rattle.std.proofs.Common.{◌≡◌, ℕ, ℤ, pos, List, [], ◌∷◌, ◌++◌, length, refl, ap, sym, ◌∙◌, subst, inl, inr, Bool, true, false, Option, Some, None, arith}
 use Rattle.std.specs.Prelude.{IsTrue}
-use Rattle.std.specs.List.{AllZip}
 use Rattle.spelling_spec.specs.Tree.{Bare, form, word, integer, string, trees, items, Form'}
-use Rattle.edif_spec.specs.Keyword.{spelling_of, same, row, Row, Takes, Skips, Choice}
+use Rattle.edif_spec.specs.Keyword.{spelling_of, same, row, Row, Takes, Skips}
 use Rattle.edif_spec.specs.Rows.{those, is_one_of, FitsRow, IsFormOf, Each, Perhaps, EachAfter}
 use Rattle.edif_spec.specs.Means.{MeansName, MeansText, MeansBoolean, MeansNumber, MeansValue, MeansProperty, MeansProperties, MeansDirection, MeansBusName, MeansPort}
 use Rattle.edif_spec.specs.declared.keyword.Keyword.{Keyword}
@@ -13,6 +12,7 @@ use Rattle.edif_spec.specs.Design as design
 use Rattle.netlist_schema.specs.declared.cell.Direction.TheVariants as directions
 use Rattle.netlist_schema.specs.declared.property.Num.TheVariants as numbers
 use Rattle.netlist_schema.specs.declared.property.Value.TheVariants as values
+use Rattle.netlist_schema.proofs.Lists.{zip_length}
 use Rattle.edif_spec.proofs.Groups.{agree, same_left}
 
 pub items_trees : (ts : List Bare) → items (trees ts) ≡ ts
@@ -33,15 +33,9 @@ same_split [] (d ∷ b) x y l e = absurd (omega arith)
 same_split (c ∷ a) [] x y l e = absurd (omega arith)
 same_split (c ∷ a) (d ∷ b) x y l e = let n : length a ≡ length b = omega arith in let r : (a ≡ b) × (x ≡ y) = same_split a b x y n (cc e) in let f : c ≡ d = cc e in ((cc), r.1)
 
-zip_length : (cs : List (List Choice)) (ts : List Bare) → AllZip (λ cs t. IsTrue (is_one_of cs t)) cs ts → length cs ≡ length ts
-zip_length [] [] h = refl
-zip_length [] (t ∷ ts) h = absurd h
-zip_length (c ∷ cs) [] h = absurd h
-zip_length (c ∷ cs) (t ∷ ts) h = ap suc (zip_length cs ts h.1)
-
 fixed_length : (r : Row) (f g i j : List Bare) → FitsRow r f i → FitsRow r g j → length f ≡ length g
 fixed_length Skips f g i j h k = ap length (h ∙ sym k)
-fixed_length (Takes cs fs) f g i j h k = sym (zip_length cs f h.0) ∙ zip_length cs g k.0
+fixed_length (Takes cs fs) f g i j h k = sym (zip_length (λ cs t. IsTrue (is_one_of cs t)) cs f h.0) ∙ zip_length (λ cs t. IsTrue (is_one_of cs t)) cs g k.0
 
 -- a form has its fixed arguments and its followers in one way
 pub one_form : (k : Keyword) (t : Bare) (f g i j : List Bare) → IsFormOf k t f i → IsFormOf k t g j → (f ≡ g) × (i ≡ j)

@@ -5,7 +5,6 @@ use Rattle.std.specs.List.{AllByRecursion}
 use Rattle.std.proofs.lemmas.List.Elements.{filter-append}
 use Rattle.netlist_schema.proofs.Lists.{some_of, get_mapped, all_at}
 use Rattle.spelling_spec.specs.Tree.{Bare, word}
-use Rattle.edif_spec.proofs.KnownForms.{map_append}
 use Rattle.edif_spec.proofs.CellPlaces.{lib_of_cell}
 use Rattle.edif_spec.specs.Keyword.{Many}
 use Rattle.edif_spec.specs.Rows.{Perhaps}
@@ -13,6 +12,7 @@ use Rattle.edif_spec.specs.Canonical.{perhaps, name_tree, property_tree, cell_re
 use Rattle.edif_spec.specs.Means.{meant, MeansPath, MeansNote, MeansDesign, MeansContents, MeansFile, is_note}
 use Rattle.netlist_schema.specs.Design.{insts_in}
 use Rattle.netlist_schema.specs.Valid.{IsValid}
+use Rattle.std.proofs.lemmas.List.{map-append}
 use Rattle.edif_spec.specs.Defined.{AllAfter, DefinedBefore}
 use Rattle.edif_spec.proofs.ValidForms.{distinct, Valid, ValidLib, ValidCell, ValidTop, ValidPath, ValidNote, ValidRoot, ValidContents}
 use Rattle.edif_spec.proofs.FromValid.{from_valid}
@@ -71,7 +71,7 @@ is_scope d before after l cells rest v e f =
       at = at;
       lib_names = distinct_front (design.lib_ids (before ++ cut l.head cells ∷ [])) (design.lib_ids after) (ap distinct (sym (scope_names before after l cells) ∙ ap design.lib_ids e) ∙ v.lib_names);
       cell_names = λ i x g. let m = at i x g in let w = all_at (ValidLib d.libs) d.libs i m.0 v.libs m.1 in
-          distinct_front (map (λ c. c.name.id) x.cells) (map (λ c. c.name.id) m.3.0) (ap distinct (sym (map_append (λ (c : design.CellBody). c.name.id) x.cells m.3.0) ∙ ap (map (λ c. c.name.id)) (sym m.3.1)) ∙ w.cell_names);
+          distinct_front (map (λ c. c.name.id) x.cells) (map (λ c. c.name.id) m.3.0) (ap distinct (sym (map-append (λ (c : design.CellBody). c.name.id) x.cells m.3.0) ∙ ap (map (λ c. c.name.id)) (sym m.3.1)) ∙ w.cell_names);
     }
 
 -- a cell's contents mean what they were made of

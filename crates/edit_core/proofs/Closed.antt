@@ -12,7 +12,8 @@ use Rattle.netlist_schema.specs.Valid.{IsValid}
 use Rattle.netlist_schema.proofs.Cells.{cell_of_inst}
 use Rattle.edit_core.specs.Edit.{PlacesOld, AllPlaceOld, Edit, fresh, inner, own, noted, edited, edited_once, with_more_cell, lib_with_more, with_contents, with_properties}
 use Rattle.edit_core.specs.Objects.{IsClosed, outside_of}
-use Rattle.edit_core.proofs.Edits.{cells_of, more_same, more_other, once_alike, cases_cell, cell_at-changed_same, cell_at-changed_other}
+use Rattle.netlist_schema.proofs.WithCell.{cases_cell}
+use Rattle.edit_core.proofs.Edits.{cells_of, more_same, more_other, once_alike, cell_at-changed_same, cell_at-changed_other}
 
 pub valid_is_closed : (d : Design) → IsValid d → IsClosed d
 valid_is_closed d valid id inst has =

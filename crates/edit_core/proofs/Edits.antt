@@ -7,6 +7,7 @@ use Rattle.netlist_schema.specs.Design.{Design, lib_at, cell_at, cells_in}
 use Rattle.netlist_schema.specs.Names.{cell_names}
 use Rattle.netlist_schema.specs.Types.{CellBody, CellId, Contents as CellContents, Lib, LibId, Object}
 use Rattle.netlist_schema.specs.declared.ids.Object.TheVariants.{Directory, Interface, Contents, Notes}
+use Rattle.netlist_schema.proofs.WithCell.{same_id, cases_cell}
 use Rattle.edit_core.specs.Edit.{Edit, fresh, lib_with_more, with_more_cell, inner, own, noted, changed_at, with_changed_cell, with_contents, with_properties, edited_once, edited, IsChangedBy, IsChanged, GoesLast, AllGoLast}
 use Rattle.edit_core.specs.Objects.{Agrees, Grown, IsPrefix, Outside, outside_of, outside_at, face_of}
 
@@ -34,20 +35,6 @@ slice_get-changed_other f zero (x ∷ xs) zero other = absurd (other refl)
 slice_get-changed_other f zero (x ∷ xs) (suc j) other = refl
 slice_get-changed_other f (suc i) (x ∷ xs) zero other = refl
 slice_get-changed_other f (suc i) (x ∷ xs) (suc j) other = slice_get-changed_other f i xs j (λ same. other (ap suc same))
-
-pub same_id : (a b : CellId) → a.lib.0 ≡ b.lib.0 → a.slot ≡ b.slot → a ≡ b
-same_id a b libs slots = λ i. record { lib = record { 0 = libs i }; slot = slots i }
-
-pub cases_cell : (a b : CellId) → (a ≡ b) ⊎ (a ≢ b)
-cases_cell a b =
-    ⊎_elim
-    (λ (libs : a.lib.0 ≡ b.lib.0).
-    ⊎_elim
-    (λ (slots : a.slot ≡ b.slot). inl (same_id a b libs slots))
-    (λ (slots : a.slot ≢ b.slot). inr (λ (same : a ≡ b). slots (ap (λ (c : CellId). c.slot) same)))
-    (cases_eq a.slot b.slot))
-    (λ (libs : a.lib.0 ≢ b.lib.0). inr (λ (same : a ≡ b). libs (ap (λ (c : CellId). c.lib.0) same)))
-    (cases_eq a.lib.0 b.lib.0)
 
 abbrev lib_change : (CellBody → CellBody) → ℕ → Lib → Lib
 lib_change f slot lib = record lib { cells = changed_at f slot lib.cells }

@@ -10,11 +10,11 @@ use Rattle.netlist_schema.specs.Typed.{IsTypedCell, IsTypedName, IsTypedInst, Is
 use Rattle.netlist_schema.specs.Types.{CellBody, CellId, Contents, End, Inst, Lib, Note, Port, TopHead}
 use Rattle.netlist_schema.specs.Valid.{IsValid, IsValidCell, IsEndAt, IsEndOf, HasBit, IsNoteBelow}
 use Rattle.netlist_schema.proofs.Cells.{cell_of_inst}
-use Rattle.netlist_schema.proofs.WithCell.{All-weaker}
+use Rattle.netlist_schema.proofs.WithCell.{All-weaker, cases_cell}
 use Rattle.edit_core.specs.Edit.{noted, changed_at, edited_once}
 use Rattle.edit_core.specs.Objects.{Outside, outside_of, outside_at}
 use Rattle.edit_core.proofs.Closed.{has_inst, changed_body}
-use Rattle.edit_core.proofs.Edits.{map-changed_at, cases_cell, cell_at-changed_same, cell_at-changed_other}
+use Rattle.edit_core.proofs.Edits.{map-changed_at, cell_at-changed_same, cell_at-changed_other}
 use Rattle.edit_core.proofs.Filled.{fill, filled, filled_alike, filled_cell_after}
 use Rattle.edit_core.proofs.Lists.{All-changed_at, length-changed_at}
 

@@ -22,7 +22,7 @@ use Rattle.edit_core.specs.Rule.{no_inst}
 use Rattle.edit_core.specs.declared.reply.Reply.TheVariants.{NoInst}
 use Rattle.edit_spec.specs.DropInst.{end_moved, end_without_inst, net_without_inst, without_inst, set_notes}
 use Rattle.edit_spec.specs.Step.{step}
-use Rattle.edit_core.proofs.Edits.{cases_cell}
+use Rattle.netlist_schema.proofs.WithCell.{cases_cell}
 use Rattle.edit_core.proofs.Filled.{fill, filled, inner_filled, has_contents}
 use Rattle.edit_core.proofs.InnerValid.{AreGoodContents, AreGoodNotes, good_notes_before, with_both, inner_valid, inst_after, inst_here, inst_elsewhere, below_with_more}
 use Rattle.edit_core.proofs.Levels.{same_cell-refl}

@@ -8,7 +8,7 @@ use Rattle.std.specs.Option.{option_map_or}
 use Rattle.std.specs.Prelude.{IsSomeAnd}
 use Rattle.std.proofs.lemmas.Bool.{or_parts}
 use Rattle.netlist_schema.proofs.Cells.{All-cell_at}
-use Rattle.netlist_schema.proofs.WithCell.{All-weaker, with_cell_is_valid}
+use Rattle.netlist_schema.proofs.WithCell.{All-weaker, with_cell_is_valid, cases_cell}
 use Rattle.netlist_schema.specs.Change.{shape_of}
 use Rattle.netlist_schema.specs.Design.{Design, cell_at, insts_of, nets_of, ends_of}
 use Rattle.netlist_schema.specs.Hierarchy.{IsCell, HasInst, IsBelow, placed, deeper, NoCellIsBelowItself}
@@ -22,7 +22,7 @@ use Rattle.edit_core.specs.Edit.{changed_at}
 use Rattle.edit_core.specs.Find.{is_same}
 use Rattle.edit_spec.specs.AddInst.{new_inst}
 use Rattle.edit_spec.specs.SetProp.{set_property}
-use Rattle.edit_core.proofs.Edits.{map-changed_at, cases_cell}
+use Rattle.edit_core.proofs.Edits.{map-changed_at}
 use Rattle.edit_core.proofs.Filled.{fill, filled, with_changed_is}
 use Rattle.edit_core.proofs.InnerValid.{AreGoodContents, good_notes_before, weaker_top, with_both, inner_valid, inst_after, inst_here, inst_elsewhere, resolves_with_more}
 use Rattle.edit_core.proofs.Lists.{All-changed_at, length-changed_at}

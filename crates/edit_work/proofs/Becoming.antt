@@ -15,7 +15,8 @@ use Rattle.netlist_schema.proofs.Lists.{get_there}
 use Rattle.edit_core.specs.Edit.{changed_at, lib_with_more, with_changed_cell, with_more_cell}
 use Rattle.edit_core.specs.Objects.{Agrees, IsPrefix, face_of}
 use Rattle.edit_core.specs.Overlay.{HasSameHeads}
-use Rattle.edit_core.proofs.Edits.{IsNext, cases_cell, cell_at-changed_other, cell_at-changed_same, cells_of, map-changed_at, more_other, other_cell_at}
+use Rattle.netlist_schema.proofs.WithCell.{cases_cell}
+use Rattle.edit_core.proofs.Edits.{IsNext, cell_at-changed_other, cell_at-changed_same, cells_of, map-changed_at, more_other, other_cell_at}
 use Rattle.edit_core.proofs.Overlaid.{design_by_objects}
 use Rattle.edit_core.proofs.Same.{names_of_directory}
 use Rattle.cells_model.specs.State.{State}

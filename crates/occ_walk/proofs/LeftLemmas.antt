@@ -1,13 +1,13 @@
 -- What is left of a walk when it gives an item, enters an occurrence, leaves one, or begins.
 use Rattle.std.proofs.Common.{◌≡◌, ◌<◌, ◌+◌, ◌-◌, ℕ, List, [], ◌∷◌, ◌++◌, length, take, drop, refl, sym, ap, subst, ◌∙◌, arith, append_assoc, append-nil, true, false, Option, Some, None, slice_get}
 use Rattle.std.specs.List.{enumerate_from, flat_map}
-use Rattle.std.proofs.lemmas.List.{drop_more, length_push, same_from_push, take_at}
-use Rattle.std.proofs.lemmas.Option.{get_or_from_slice_get, same_Some, slice_get_within}
+use Rattle.std.proofs.lemmas.List.{length_push, same_from_push, take_at}
+use Rattle.std.proofs.lemmas.Option.{same_Some}
 use Rattle.netlist_schema.specs.Design.{Design}
 use Rattle.netlist_schema.specs.Hierarchy.{insts_at}
 use Rattle.netlist_schema.specs.Types.{CellId, Inst}
 use Rattle.netlist_schema.specs.Valid.{IsValid}
-use Rattle.netlist_schema.proofs.Lists.{drop_past}
+use Rattle.netlist_schema.proofs.Lists.{drop_past, drop_next}
 use Rattle.flat_spec.specs.Below.{items_under}
 use Rattle.flat_spec.specs.Flattening.{flattening}
 use Rattle.flat_spec.specs.Paths.{Reaches}
@@ -29,15 +29,12 @@ use Rattle.walk_items.proofs.FrameLemmas.{lowest_added, lowest_of, none_above}
 use Rattle.walk_items.proofs.StageLemmas.{over_left, own_opens}
 use Rattle.occ_walk.proofs.BelowLemmas.{next_is_small}
 
-drop_at : {A : Type 0} (xs : List A) (k : ℕ) (x : A) → slice_get xs k ≡ Some x → drop k xs ≡ x ∷ drop (k + 1) xs
-drop_at xs k x e = drop_more xs k x (slice_get_within xs k x e) ∙ ap (λ v. v ∷ drop (k + 1) xs) (get_or_from_slice_get xs k x x e)
-
 -- an instance opens into what is at and below its occurrence, and the others
 below_opened : (d : Design) → IsValid d → (path : List ℕ) (c : CellId) (i : ℕ) (inst : Inst) → slice_get (insts_at d c) i ≡ Some inst
     → below_from d path c i
     ≡ (own_left d (record { path = path ++ i ∷ []; cell = inst.of }) Whole ++ below_from d (path ++ i ∷ []) inst.of 0) ++ below_from d path c (i + 1)
 below_opened d valid path c i inst there =
-    ap (λ (v : List Inst). flat_map (λ (p : ℕ × Inst). items_under d (top_of d) (path ++ p.0 ∷ []) p.1.of) (enumerate_from i v)) (drop_at (insts_at d c) i inst there)
+    ap (λ (v : List Inst). flat_map (λ (p : ℕ × Inst). items_under d (top_of d) (path ++ p.0 ∷ []) p.1.of) (enumerate_from i v)) (drop_next (insts_at d c) i inst there)
     ∙ ap (λ v. v ++ below_from d path c (i + 1)) (items_go_down d (top_of d) (path ++ i ∷ []) inst.of valid.no_cycle)
 
 below_ended : (d : Design) (path : List ℕ) (c : CellId) (i : ℕ) → slice_get (insts_at d c) i ≡ None → below_from d path c i ≡ []

@@ -8,7 +8,7 @@ use Rattle.netlist_schema.specs.Design.{Design}
 use Rattle.netlist_schema.specs.Types.{CellId}
 use Rattle.netlist_schema.specs.Valid.{IsValid}
 use Rattle.flat_spec.proofs.PathLemmas.{slice_get-within}
-use Rattle.edit_core.proofs.Edits.{same_id}
+use Rattle.netlist_schema.proofs.WithCell.{same_id}
 use Rattle.edit_core.proofs.Lists.{Apart}
 use Rattle.flat_spec.proofs.ListLemmas.{Member}
 use Rattle.uniquify_spec.specs.Copies.{Copy}

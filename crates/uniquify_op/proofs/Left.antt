@@ -6,7 +6,7 @@ use Rattle.std.proofs.lemmas.List.{map-append}
 use Rattle.netlist_schema.specs.Design.{Design}
 use Rattle.netlist_schema.specs.Types.{CellId}
 use Rattle.netlist_schema.specs.Valid.{IsValid}
-use Rattle.netlist_schema.proofs.Lists.{drop_past}
+use Rattle.netlist_schema.proofs.Lists.{drop_past, drop_next}
 use Rattle.flat_spec.specs.Occurrences.{Occurrence, under}
 use Rattle.uniquify_spec.specs.Blocks.{blocks_below, root_of}
 use Rattle.cell_copies.specs.declared.spot.Step.{Step}
@@ -16,7 +16,7 @@ use Rattle.uniquify_op.specs.Frames.{row_at}
 use Rattle.uniquify_op.specs.Walks.{IsFrame, all_under, below_path, left_in, left_of, path_at}
 use Rattle.uniquify_op.specs.declared.frame.Frame.{Frame}
 use Rattle.uniquify_op.proofs.BlocksBelow.{blocks_go_down}
-use Rattle.uniquify_op.proofs.Places.{drop_at, path_at_more, row_at_more}
+use Rattle.uniquify_op.proofs.Places.{path_at_more, row_at_more}
 
 pub left_push : (d : Design) (os : List Occurrence) (rows : List (List Step)) (frames : List Frame) (frame : Frame) → left_of d os rows (frames ++ frame ∷ []) ≡ left_in d os rows frame ++ left_of d os rows frames
 left_push d os rows [] frame = sym (append-nil (left_in d os rows frame))
@@ -41,7 +41,7 @@ left_taken d os rows frame step at =
     let path = path_at os frame.number in
     let rest = drop (frame.taken + 1) (row_at rows frame.row) in
     let first : List Occurrence = root_of step.of ∷ blocks_below d step.of in
-    ap (λ steps. map (below_path path) (all_under d steps)) (drop_at (row_at rows frame.row) frame.taken step at)
+    ap (λ steps. map (below_path path) (all_under d steps)) (drop_next (row_at rows frame.row) frame.taken step at)
     ∙ map-append (below_path path) (map (under step.place) first) (all_under d rest)
     ∙ ap (λ l. l ++ map (below_path path) (all_under d rest))
     (prefixed-under path step.place first

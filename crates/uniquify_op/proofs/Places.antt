@@ -1,5 +1,5 @@
 -- Places in lists that go on.
-use Rattle.std.proofs.Common.{◌≡◌, ◌<◌, ◌≤◌, ◌+◌, ℕ, zero, suc, Bool, true, false, cond, List, [], ◌∷◌, ◌++◌, length, drop, Option, Some, None, refl, sym, ap, ◌∙◌, add-one}
+use Rattle.std.proofs.Common.{◌≡◌, ◌<◌, ◌≤◌, ◌+◌, ℕ, zero, suc, Bool, true, false, cond, List, [], ◌∷◌, ◌++◌, length, Option, Some, None, refl, sym, ap, ◌∙◌}
 use Rattle.std.specs.Prelude.{filter, slice_get, unwrap_or}
 use Rattle.std.specs.Option.{option_map_or}
 use Rattle.std.proofs.lemmas.Option.{slice_get_past}
@@ -9,14 +9,6 @@ use Rattle.edit_core.proofs.Edits.{last_of}
 use Rattle.cell_copies.specs.declared.spot.Step.{Step}
 use Rattle.uniquify_op.specs.Frames.{row_at}
 use Rattle.uniquify_op.specs.Walks.{path_at}
-
-pub drop_at : {X : Type 0} (xs : List X) (i : ℕ) (x : X) → slice_get xs i ≡ Some x → drop i xs ≡ x ∷ drop (i + 1) xs
-drop_at {X} xs i x at = by xs i at ∙ ap (λ n. x ∷ drop n xs) (sym (add-one i))
-  where
-    by : (xs : List X) (i : ℕ) → slice_get xs i ≡ Some x → drop i xs ≡ x ∷ drop (suc i) xs
-    by [] i at = cc
-    by (y ∷ ys) zero at = let same : y ≡ x = cc in ap (λ z. z ∷ ys) same
-    by (y ∷ ys) (suc i) at = by ys i at
 
 pub row_at_more : (rows more : List (List Step)) (place : ℕ) → place < length rows → row_at (rows ++ more) place ≡ row_at rows place
 row_at_more rows more place less = ap (λ (o : Option (List Step)). unwrap_or o []) (get_front rows more place less)

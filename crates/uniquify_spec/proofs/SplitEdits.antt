@@ -149,6 +149,16 @@ member-cases_last before v m member = elim (Member-append_cases before (v ∷ []
   | inr right ↦ elim right [ inl e ↦ inr (sym e) | inr never ↦ absurd never ]
 ]
 
+-- and still, after the change that makes one more copy
+both_onward : (d : Design) (edit : Edit) (before : List Copy) (v : Copy) (b : Design) → HasBoth d before b → IsCell (edited_once b edit) v.id → HasBoth d (before ++ v ∷ []) (edited_once b edit)
+both_onward d edit before v b there made = (
+  λ id is. is_cell_after edit b id (there.0 id is),
+  λ m member. elim (member-cases_last before v m member) [
+    | inl old ↦ is_cell_after edit b m.id (there.1 m old)
+    | inr same ↦ subst (λ (x : Copy). IsCell (edited_once b edit) x.id) (sym same) made
+  ],
+)
+
 there_of : (d b : Design) (body : CellBody) (c : CellId) → IsClosed d → cell_at d c ≡ Some body → ((id : CellId) → IsCell d id → IsCell b id) → (x : Inst) → Member (insts_of body) x → IsCell b x.of
 there_of d b body c closed is there x member =
     there x.of (closed c x (subst (λ (o : Option CellBody). Contains (option_map_or insts_of o []) x) (sym is) (Member-contains (insts_of body) x member)))
@@ -160,14 +170,7 @@ new_places d closed (v ∷ ms) before b rest way new there after =
     let body = body_of d v.of new.0.cell in
     let next = is_next d b before v way new.0 in
     let edit = fresh v.id (renamed v body.0) in
-    let made : IsCell (edited_once b edit) v.id = new_is_cell d b before v (renamed v body.0) way new.0 in
-    let onward : HasBoth d (before ++ v ∷ []) (edited_once b edit) = (
-      λ id is. is_cell_after edit b id (there.0 id is),
-      λ m member. elim (member-cases_last before v m member) [
-        | inl old ↦ is_cell_after edit b m.id (there.1 m old)
-        | inr same ↦ subst (λ (x : Copy). IsCell (edited_once b edit) x.id) (sym same) made
-      ],
-    ) in
+    let onward = both_onward d edit before v b there (new_is_cell d b before v (renamed v body.0) way new.0) in
     let here : AllPlaceOld b (edit ∷ new_cells d ms ++ rest) = (
       All-from_recursion (λ (x : Inst). IsCell b x.of) (insts_of body.0) (each_of (λ (x : Inst). IsCell b x.of) (insts_of body.0) (there_of d b body.0 v.of closed body.1 there.0)),
       new_places d closed ms (before ++ v ∷ []) (edited_once b edit) rest (one_more d b before v (renamed v body.0) way new.0) new.1 onward
@@ -222,14 +225,7 @@ new_finds d [] before b rest way new there after = after b (there.0, λ m member
 new_finds d (v ∷ ms) before b rest way new there after =
     let body = body_of d v.of new.0.cell in
     let edit = fresh v.id (renamed v body.0) in
-    let made : IsCell (edited_once b edit) v.id = new_is_cell d b before v (renamed v body.0) way new.0 in
-    let onward : HasBoth d (before ++ v ∷ []) (edited_once b edit) = (
-      λ id is. is_cell_after edit b id (there.0 id is),
-      λ m member. elim (member-cases_last before v m member) [
-        | inl old ↦ is_cell_after edit b m.id (there.1 m old)
-        | inr same ↦ subst (λ (x : Copy). IsCell (edited_once b edit) x.id) (sym same) made
-      ],
-    ) in
+    let onward = both_onward d edit before v b there (new_is_cell d b before v (renamed v body.0) way new.0) in
     let here : AllFindOld b (edit ∷ new_cells d ms ++ rest) = (
       way.libs v.id.lib (lib_of_new d before v new.0),
       new_finds d ms (before ++ v ∷ []) (edited_once b edit) rest (one_more d b before v (renamed v body.0) way new.0) new.1 onward

@@ -4,12 +4,13 @@ use Rattle.std.specs.Prelude.{IsSome}
 use Rattle.std.specs.List.{range_with_len}
 use Rattle.std.specs.Option.{option_map, option_map_or}
 use Rattle.std.proofs.lemmas.Bool.{false≢true}
-use Rattle.std.proofs.lemmas.List.{drop_all, drop_more, length-map}
+use Rattle.std.proofs.lemmas.List.{drop_all, length-map}
 use Rattle.std.proofs.lemmas.List.FromFn.{get_or-range_with_len, length-range_with_len}
-use Rattle.std.proofs.lemmas.Option.{get_or_from_slice_get, slice_get-get_or, slice_get-map, slice_get_within}
+use Rattle.std.proofs.lemmas.Option.{slice_get-get_or, slice_get-map}
 use Rattle.netlist_schema.specs.Design.{Design, cell_at, nets_of, port_width}
 use Rattle.netlist_schema.specs.Types.{CellBody, CellId, Port}
 use Rattle.netlist_schema.specs.Valid.{IsValid}
+use Rattle.netlist_schema.proofs.Lists.{drop_next}
 use Rattle.flat_spec.specs.Flattening.{net_item, pin_item}
 use Rattle.flat_spec.specs.Occurrences.{Occurrence, own_nets}
 use Rattle.flat_spec.specs.Paths.{Bit, at_path, nets_at}
@@ -26,9 +27,6 @@ use Rattle.walk_items.specs.declared.place.Stage.{Stage}
 use Rattle.walk_items.specs.declared.place.Stage.TheVariants.{Whole, Nets, Pins, Done}
 use Rattle.walk_items.proofs.PortLemmas.{behind_is_pin, bits_of_ports, pin_bit, pins_past}
 
-drop_at : {A : Type 0} (xs : List A) (k : ℕ) (x : A) → slice_get xs k ≡ Some x → drop k xs ≡ x ∷ drop (k + 1) xs
-drop_at xs k x e = drop_more xs k x (slice_get_within xs k x e) ∙ ap (λ v. v ∷ drop (k + 1) xs) (get_or_from_slice_get xs k x x e)
-
 -- the occurrence, and then its nets
 pub whole_ahead : (d : Design) (o : Occurrence) (item : ItemRef) → item_of item ≡ enter_item d o → IsAhead d o Whole (Some item)
 whole_ahead d o item is = (refl, ap (λ v. v ∷ own_left d o (Nets 0)) (sym is))
@@ -44,7 +42,7 @@ net_there d o n less =
 net_opens : (d : Design) (o : Occurrence) (n : ℕ) → n < length (nets_at d o.cell)
     → own_left d o (Nets n) ≡ net_item d (top_of d).cell (at_path o.path n) ∷ own_left d o (Nets (n + 1))
 net_opens d o n less =
-    ap (λ (v : List NetAt). map (net_item d (top_of d).cell) v ++ pins_of d o) (drop_at (own_nets d o) n (at_path o.path n) (net_there d o n less))
+    ap (λ (v : List NetAt). map (net_item d (top_of d).cell) v ++ pins_of d o) (drop_next (own_nets d o) n (at_path o.path n) (net_there d o n less))
 
 opened_ahead : (items others : List Item) (item : Item) (v : Item) → items ≡ v ∷ others → item ≡ v → items ≡ item ∷ drop 1 items
 opened_ahead items others item v is same = is ∙ ap (λ x. x ∷ others) (sym same) ∙ ap (λ xs. item ∷ drop 1 xs) (sym is)
@@ -76,7 +74,7 @@ pin_opens d valid o p port at is =
     let b : Bit = record { port = p.port; bit = p.bit } in
     let bit_at : slice_get bits p.number ≡ Some b = ap (λ (v : List Bit). slice_get v p.number) (sym (bits_of_ports d o)) ∙ (pin_bit d valid o p port at is).shown in
     let pin_at : slice_get (pins_of d o) p.number ≡ Some (make b) = slice_get-map make bits p.number ∙ ap (option_map make) bit_at in
-    drop_at (pins_of d o) p.number (make b) pin_at
+    drop_next (pins_of d o) p.number (make b) pin_at
 
 -- a pin, and behind it the others
 pub pin_ahead : (d : Design) → IsValid d → (o : Occurrence) (p : PinAt) (port : Port) (item : ItemRef) → slice_get (ports_shown d o) p.port ≡ Some port
