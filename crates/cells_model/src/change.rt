@@ -2,7 +2,7 @@
 use netlist_schema::{CellBody, CellId, Contents, Inst, Net, Note, Property, Row};
 
 /// A change of a cell.
-#[derive(Debug, PartialEq, Eq, Drop)]
+#[derive(Drop)]
 pub enum CellChange {
     /// Adds a cell. It writes the directory and the cell, inside and out.
     Fresh {
@@ -37,7 +37,7 @@ pub enum CellChange {
 
 /// Changes of cells, each made in the design that the ones before it leave, and notes where they are given; all are written
 /// together.
-#[derive(Debug, PartialEq, Eq, Drop)]
+#[derive(Drop)]
 pub struct Change {
     pub cells: Row<CellChange>,
     pub notes: Option<Row<Note>>,

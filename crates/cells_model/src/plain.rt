@@ -19,13 +19,24 @@ use std::snapshot::Snapshot;
 
 /// A design that is read and edited cell by cell. One net or one instance is written in its place; any other write copies
 /// the libraries: it is made to be plain, and not fast.
-#[derive(Drop)]
 pub struct PlainCells {
     alloc: Global,
     base: Snapshot<Design>,
     design: Design,
     reads: Row<Object>,
     written: Row<Object>,
+}
+
+impl Drop for PlainCells {
+    fn drop(self) {
+        let PlainCells {
+            alloc: _,
+            base: _,
+            design: _,
+            reads: _,
+            written: _,
+        } = self;
+    }
 }
 
 impl Model for PlainCells {

@@ -22,10 +22,15 @@ pub struct Later {
 
 /// The last commit of each object that a commit wrote. A commit goes by the version that it made, and the last one is the
 /// one of the greatest version.
-#[derive(Drop)]
 pub struct Stamps {
     /// The last commit by object. An entry without one has the same meaning as no entry: it holds the memory of a mark.
     marks: BTreeMap<Object, Option<u64>>,
+}
+
+impl Drop for Stamps {
+    fn drop(self) {
+        let Stamps { marks: _ } = self;
+    }
 }
 
 impl Model for Stamps {

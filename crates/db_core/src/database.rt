@@ -21,7 +21,6 @@ use std::marker::Model;
 use std::sync::Arc;
 
 /// A design that callers share, in versions. Contracts see its opening design and the history of the calls.
-#[derive(Drop)]
 pub struct Core {
     alloc: Global,
     /// The design that the history begins with. It does not count as a kept version.
@@ -34,6 +33,20 @@ pub struct Core {
     stamps: Stamps,
     /// The history, with a place for the release of each live pin.
     log: Vec<Event>,
+}
+
+impl Drop for Core {
+    fn drop(self) {
+        let Core {
+            alloc: _,
+            opening: _,
+            versions: _,
+            newest: _,
+            pins: _,
+            stamps: _,
+            log: _,
+        } = self;
+    }
 }
 
 impl Model for Core {

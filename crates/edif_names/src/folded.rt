@@ -22,9 +22,14 @@ pub struct Noted {
 }
 
 /// The names of a scope by a hash of their lower case. Of the names that are the same ignoring case the first two are kept.
-#[derive(Drop)]
 pub struct Folded {
     buckets: IndexMap<u64, Vec<Numbered>>,
+}
+
+impl Drop for Folded {
+    fn drop(self) {
+        let Folded { buckets: _ } = self;
+    }
 }
 
 impl Folded {

@@ -36,11 +36,20 @@ pub struct Entry {
 }
 
 /// The names defined in a scope, in order, no two of them equal byte for byte. Contracts see the list of definitions.
-#[derive(Drop)]
 pub struct Scope {
     alloc: Global,
     exact: IndexMap<Vec<u8>, Entry>,
     folded: Folded,
+}
+
+impl Drop for Scope {
+    fn drop(self) {
+        let Scope {
+            alloc: _,
+            exact: _,
+            folded: _,
+        } = self;
+    }
 }
 
 impl Model for Scope {

@@ -12,13 +12,24 @@ use std::alloc::Global;
 use std::marker::Model;
 
 /// Nodes, each with its place and shape, as contracts see them. Each word stands once.
-#[derive(Drop)]
 pub struct Store {
     nodes: Vec<StoredNode>,
     arguments: NodeLists,
     words: IndexSet<Ident>,
     integers: Vec<i64>,
     strings: Vec<Text>,
+}
+
+impl Drop for Store {
+    fn drop(self) {
+        let Store {
+            nodes: _,
+            arguments: _,
+            words: _,
+            integers: _,
+            strings: _,
+        } = self;
+    }
 }
 
 impl Model for Store {

@@ -11,10 +11,15 @@ use crate::stored::{NodeId, StoredShape};
 use std::marker::Model;
 
 /// A tree, as contracts see it: the table of its nodes, and the node of the whole file. A tree of the file stands at that node.
-#[derive(Drop)]
 pub struct Tree {
     nodes: Store,
     root: NodeId,
+}
+
+impl Drop for Tree {
+    fn drop(self) {
+        let Tree { nodes: _, root: _ } = self;
+    }
 }
 
 impl Model for Tree {

@@ -2,23 +2,39 @@
 use netlist_schema::{Ident, Property, Row};
 
 /// A cell, by the name of its library and its own. Both are matched byte for byte.
-#[derive(Debug, PartialEq, Eq, Drop)]
+#[derive(Debug, PartialEq, Eq)]
 pub struct CellName {
     pub lib: Ident,
     pub cell: Ident,
 }
 
+impl Drop for CellName {
+    fn drop(self) {
+        let CellName { lib: _, cell: _ } = self;
+    }
+}
+
 /// A bit of a port, by the names of the instance and the port, and the bit's place in the port, from 0. No instance means
 /// a port of the cell itself. A scalar port has bit 0 alone.
-#[derive(Debug, PartialEq, Eq, Drop)]
+#[derive(Debug, PartialEq, Eq)]
 pub struct EndName {
     pub inst: Option<Ident>,
     pub port: Ident,
     pub bit: u32,
 }
 
+impl Drop for EndName {
+    fn drop(self) {
+        let EndName {
+            inst: _,
+            port: _,
+            bit: _,
+        } = self;
+    }
+}
+
 /// What an operation replies. The first five are given where it is done; the others refuse it.
-#[derive(Debug, PartialEq, Eq, Drop)]
+#[derive(Debug, PartialEq, Eq)]
 pub enum Reply {
     /// The change is made.
     Done,
@@ -78,4 +94,40 @@ pub enum Reply {
     TooMany {
         limit: u64,
     },
+}
+
+impl Drop for Reply {
+    fn drop(self) {
+        match self {
+            Reply::Done => {}
+            Reply::Cell {
+                ports: _,
+                insts: _,
+                nets: _,
+                leaf: _,
+            } => {}
+            Reply::Net { ends: _ } => {}
+            Reply::Inst {
+                of: _,
+                properties: _,
+            } => {}
+            Reply::Copies(_) => {}
+            Reply::NoLib => {}
+            Reply::NoCell => {}
+            Reply::NoInst => {}
+            Reply::NoNet => {}
+            Reply::NoPort => {}
+            Reply::BadBit { width: _ } => {}
+            Reply::Taken => {}
+            Reply::AlreadyJoined { net: _ } => {}
+            Reply::NotJoined => {}
+            Reply::IsLeaf => {}
+            Reply::IsCyclic => {}
+            Reply::LaterLibrary => {}
+            Reply::NoPath => {}
+            Reply::NoNote => {}
+            Reply::NoTop => {}
+            Reply::TooMany { limit: _ } => {}
+        }
+    }
 }

@@ -20,7 +20,7 @@ pub enum Target {
 
 /// An operation on a design. `cell` is the cell whose contents are shown or changed. New cells, instances, nets, ends,
 /// properties and notes go last. A refused operation changes nothing. `docs/operations.md` has the table of refusals.
-#[derive(Debug, PartialEq, Eq, Drop)]
+#[derive(Debug, PartialEq, Eq)]
 pub enum Op {
     /// Counts the ports, instances and nets of a cell.
     ShowCell {
@@ -101,4 +101,46 @@ pub enum Op {
         cell: CellName,
         inst: Ident,
     },
+}
+
+impl Drop for Op {
+    fn drop(self) {
+        match self {
+            Op::ShowCell { cell: _ } => {}
+            Op::ShowNet { cell: _, net: _ } => {}
+            Op::ShowInst { cell: _, inst: _ } => {}
+            Op::AddCell {
+                cell: _,
+                leaf: _,
+                ports: _,
+            } => {}
+            Op::AddNet { cell: _, net: _ } => {}
+            Op::DropNet { cell: _, net: _ } => {}
+            Op::AddInst {
+                cell: _,
+                inst: _,
+                of: _,
+            } => {}
+            Op::DropInst { cell: _, inst: _ } => {}
+            Op::Join {
+                cell: _,
+                net: _,
+                end: _,
+            } => {}
+            Op::Cut { cell: _, end: _ } => {}
+            Op::SetProp {
+                cell: _,
+                target: _,
+                property: _,
+            } => {}
+            Op::SetNote {
+                path: _,
+                property: _,
+            } => {}
+            Op::DropNote { path: _, key: _ } => {}
+            Op::Uniquify => {}
+            Op::UniquePath { path: _ } => {}
+            Op::Ungroup { cell: _, inst: _ } => {}
+        }
+    }
 }

@@ -6,11 +6,20 @@ use std::marker::Model;
 use version_data::Snapshot;
 
 /// A pin. It holds its version of the design, which can be read without the database.
-#[derive(Drop)]
 pub struct Pin {
     number: u64,
     caller: u32,
     snapshot: Snapshot,
+}
+
+impl Drop for Pin {
+    fn drop(self) {
+        let Pin {
+            number: _,
+            caller: _,
+            snapshot: _,
+        } = self;
+    }
 }
 
 impl Model for Pin {

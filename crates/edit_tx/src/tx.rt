@@ -22,13 +22,24 @@ use std::sync::Arc;
 use version_data::Snapshot;
 
 /// A transaction: operations that are tried, one after the other, on a pinned version, with their replies.
-#[derive(Drop)]
 pub struct Tx {
     alloc: Global,
     pin: Pin,
     work: Work,
     ops: Row<Op>,
     replies: Row<Reply>,
+}
+
+impl Drop for Tx {
+    fn drop(self) {
+        let Tx {
+            alloc: _,
+            pin: _,
+            work: _,
+            ops: _,
+            replies: _,
+        } = self;
+    }
 }
 
 impl Model for Tx {

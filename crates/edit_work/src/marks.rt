@@ -17,10 +17,15 @@ use std::marker::Model;
 
 /// A list of objects, each once, with a place for each, so that an object is found in it without a walk. Contracts see the
 /// list.
-#[derive(Drop)]
 pub struct Marks {
     list: Row<Object>,
     places: BTreeMap<Object, u64>,
+}
+
+impl Drop for Marks {
+    fn drop(self) {
+        let Marks { list: _, places: _ } = self;
+    }
 }
 
 impl Model for Marks {

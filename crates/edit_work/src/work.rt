@@ -22,12 +22,22 @@ use version_data::Snapshot;
 use version_draft::Draft;
 
 /// A version that is edited, with the objects that were read and written.
-#[derive(Drop)]
 pub struct Work {
     alloc: Global,
     draft: Draft,
     reads: Marks,
     written: Marks,
+}
+
+impl Drop for Work {
+    fn drop(self) {
+        let Work {
+            alloc: _,
+            draft: _,
+            reads: _,
+            written: _,
+        } = self;
+    }
 }
 
 impl Model for Work {

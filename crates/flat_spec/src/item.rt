@@ -6,14 +6,20 @@ use netlist_schema::{CellId, Copied, NoMemory, Property, Row};
 use std::alloc::Global;
 
 /// A net of an occurrence: the path of the occurrence, and the net's place in the contents there, from 0.
-#[derive(Debug, PartialEq, Eq, Drop)]
+#[derive(Debug, PartialEq, Eq)]
 pub struct NetAt {
     pub path: Path,
     pub net: u32,
 }
 
+impl Drop for NetAt {
+    fn drop(self) {
+        let NetAt { path: _, net: _ } = self;
+    }
+}
+
 /// One item of a flattening.
-#[derive(Debug, PartialEq, Eq, Drop)]
+#[derive(Debug, PartialEq, Eq)]
 pub enum Item {
     /// An occurrence, with its cell and its effective properties.
     Enter {
@@ -35,6 +41,29 @@ pub enum Item {
         bit: u32,
         first: Option<NetAt>,
     },
+}
+
+impl Drop for Item {
+    fn drop(self) {
+        match self {
+            Item::Enter {
+                path: _,
+                cell: _,
+                properties: _,
+            } => {}
+            Item::Net {
+                path: _,
+                net: _,
+                first: _,
+            } => {}
+            Item::Pin {
+                path: _,
+                port: _,
+                bit: _,
+                first: _,
+            } => {}
+        }
+    }
 }
 
 impl Copied for NetAt {

@@ -11,9 +11,15 @@ use std::marker::Model;
 
 /// The path of an occurrence: the places of the instances that lead to it from the top, each in the contents of the cell
 /// that the steps before it reach, from 0. The top's own path is empty. Contracts see a list of numbers of 32 bits.
-#[derive(Debug, Drop)]
+#[derive(Debug)]
 pub struct Path {
     steps: SmallVec<u32, 8>,
+}
+
+impl Drop for Path {
+    fn drop(self) {
+        let Path { steps: _ } = self;
+    }
 }
 
 impl Model for Path {

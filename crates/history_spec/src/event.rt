@@ -39,9 +39,19 @@ pub enum Answer {
 }
 
 /// An entry of the history: a call of a caller, and its answer. Callers are numbered from 0.
-#[derive(Debug, PartialEq, Eq, Drop)]
+#[derive(Debug, PartialEq, Eq)]
 pub struct Event {
     pub caller: u32,
     pub call: Call,
     pub answer: Answer,
+}
+
+impl Drop for Event {
+    fn drop(self) {
+        let Event {
+            caller: _,
+            call: _,
+            answer: _,
+        } = self;
+    }
 }

@@ -19,10 +19,15 @@ use std::alloc::Global;
 use std::marker::Model;
 
 /// For each cell at or below a top, which of its nets and own bits are connected in its tree, and what its nets join.
-#[derive(Drop)]
 pub struct Classes {
     /// By library and place.
     cells: Vec<Vec<CellNets>>,
+}
+
+impl Drop for Classes {
+    fn drop(self) {
+        let Classes { cells: _ } = self;
+    }
 }
 
 impl Model for Classes {

@@ -14,13 +14,25 @@ pub enum Direction {
 }
 
 /// A port of a cell. An array has a width; a scalar has none, and one bit.
-#[derive(Debug, PartialEq, Eq, Drop)]
+#[derive(Debug, PartialEq, Eq)]
 pub struct Port {
     pub name: Name,
     pub array: Option<Width>,
     pub direction: Option<Direction>,
     pub designator: Option<Text>,
     pub properties: Row<Property>,
+}
+
+impl Drop for Port {
+    fn drop(self) {
+        let Port {
+            name: _,
+            array: _,
+            direction: _,
+            designator: _,
+            properties: _,
+        } = self;
+    }
 }
 
 /// One bit of a port, by the places of the instance in the contents, of the port in its cell and of the bit in the port,
@@ -33,7 +45,7 @@ pub struct End {
 }
 
 /// An instance of the cell `of`.
-#[derive(Debug, PartialEq, Eq, Drop)]
+#[derive(Debug, PartialEq, Eq)]
 pub struct Inst {
     pub name: Name,
     pub of: CellId,
@@ -41,12 +53,33 @@ pub struct Inst {
     pub properties: Row<Property>,
 }
 
+impl Drop for Inst {
+    fn drop(self) {
+        let Inst {
+            name: _,
+            of: _,
+            designator: _,
+            properties: _,
+        } = self;
+    }
+}
+
 /// A net, with the bits that it joins, in order.
-#[derive(Debug, PartialEq, Eq, Drop)]
+#[derive(Debug, PartialEq, Eq)]
 pub struct Net {
     pub name: Name,
     pub ends: Row<End>,
     pub properties: Row<Property>,
+}
+
+impl Drop for Net {
+    fn drop(self) {
+        let Net {
+            name: _,
+            ends: _,
+            properties: _,
+        } = self;
+    }
 }
 
 /// What is inside a cell.
@@ -65,7 +98,7 @@ pub enum CellKind {
 }
 
 /// A cell with its one view. A leaf has no contents.
-#[derive(Debug, PartialEq, Eq, Drop)]
+#[derive(Debug, PartialEq, Eq)]
 pub struct CellBody {
     pub name: Name,
     pub kind: CellKind,
@@ -75,4 +108,19 @@ pub struct CellBody {
     pub interface_properties: Row<Property>,
     pub ports: Row<Port>,
     pub contents: Option<Contents>,
+}
+
+impl Drop for CellBody {
+    fn drop(self) {
+        let CellBody {
+            name: _,
+            kind: _,
+            properties: _,
+            view: _,
+            view_properties: _,
+            interface_properties: _,
+            ports: _,
+            contents: _,
+        } = self;
+    }
 }

@@ -21,12 +21,23 @@ use std::marker::Model;
 /// contents; the names of a scope differ byte for byte; an instance is of a cell whose library is not later than its own;
 /// each note's path has a step and resolves from the top, and no two notes have both the same path and the same key; there
 /// are notes only with a top; and no cell is below itself.
-#[derive(Debug, Drop)]
+#[derive(Debug)]
 pub struct Design {
     title: Name,
     libs: Row<Lib>,
     top: Option<TopHead>,
     notes: Row<Note>,
+}
+
+impl Drop for Design {
+    fn drop(self) {
+        let Design {
+            title: _,
+            libs: _,
+            top: _,
+            notes: _,
+        } = self;
+    }
 }
 
 impl Model for Design {

@@ -9,9 +9,15 @@ use std::marker::Model;
 
 /// An identifier: at least one letter, digit or underscore. It may begin with a digit. Up to 16 bytes lie in the value
 /// itself; a longer one takes an allocation.
-#[derive(Debug, Drop)]
+#[derive(Debug)]
 pub struct Ident {
     bytes: SmallVec<u8, 16>,
+}
+
+impl Drop for Ident {
+    fn drop(self) {
+        let Ident { bytes: _ } = self;
+    }
 }
 
 impl Model for Ident {

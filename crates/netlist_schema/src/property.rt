@@ -3,10 +3,16 @@ use crate::ident::Ident;
 use crate::text::Text;
 
 /// A name: its identifier, and the text of a rename where there is one.
-#[derive(Debug, PartialEq, Eq, Drop)]
+#[derive(Debug, PartialEq, Eq)]
 pub struct Name {
     pub id: Ident,
     pub shown: Option<Text>,
+}
+
+impl Drop for Name {
+    fn drop(self) {
+        let Name { id: _, shown: _ } = self;
+    }
 }
 
 /// A number as written: `Scaled` is the mantissa times ten to the exponent.
@@ -26,9 +32,19 @@ pub enum Value {
 }
 
 /// A property. Its key is the identifier of its name, and its owner a text where there is one.
-#[derive(Debug, PartialEq, Eq, Drop)]
+#[derive(Debug, PartialEq, Eq)]
 pub struct Property {
     pub key: Name,
     pub value: Value,
     pub owner: Option<Text>,
+}
+
+impl Drop for Property {
+    fn drop(self) {
+        let Property {
+            key: _,
+            value: _,
+            owner: _,
+        } = self;
+    }
 }

@@ -28,10 +28,18 @@ pub enum WalkError {
 }
 
 /// A walk over the flattening of a design, which it owns. Contracts see the design and the items that are left.
-#[derive(Drop)]
 pub struct Walk<S: Shown + Drop> {
     ground: Ground<S>,
     place: Place,
+}
+
+impl<S: Shown + Drop> Drop for Walk<S> {
+    fn drop(self) {
+        let Walk {
+            ground: _,
+            place: _,
+        } = self;
+    }
 }
 
 impl<S: Shown + Drop> Model for Walk<S> {

@@ -15,7 +15,6 @@ pub const MOST_PINS: u64 = MOST_EVENTS;
 
 /// The pins that were made, numbered from 0 in the order in which they were made, and those of them that are live. Each
 /// live pin holds a version.
-#[derive(Drop)]
 pub struct Pins {
     /// The version of each live pin, by its number.
     versions: BTreeMap<u64, u64>,
@@ -23,6 +22,16 @@ pub struct Pins {
     holders: BTreeMap<u64, u64>,
     /// The number of pins made.
     made: u64,
+}
+
+impl Drop for Pins {
+    fn drop(self) {
+        let Pins {
+            versions: _,
+            holders: _,
+            made: _,
+        } = self;
+    }
 }
 
 impl Model for Pins {

@@ -14,9 +14,14 @@ use std::alloc::Global;
 use std::collections::BTreeMap;
 
 /// The places of the instances of cells by their identifiers, of each cell that was asked for.
-#[derive(Drop)]
 pub struct NamedPlaces {
     cells: BTreeMap<CellId, IndexMap<Ident, u32>>,
+}
+
+impl Drop for NamedPlaces {
+    fn drop(self) {
+        let NamedPlaces { cells: _ } = self;
+    }
 }
 
 /// The places of instances by their identifiers.

@@ -12,9 +12,14 @@ use std::alloc::Global;
 use std::collections::BTreeMap;
 
 /// The notes of a design by the occurrences for which they are: for each of these the places of its notes among all, in order.
-#[derive(Drop)]
 pub struct PlacedNotes {
     table: BTreeMap<Steps, Vec<u32>>,
+}
+
+impl Drop for PlacedNotes {
+    fn drop(self) {
+        let PlacedNotes { table: _ } = self;
+    }
 }
 
 impl PlacedNotes {

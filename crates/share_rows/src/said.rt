@@ -18,6 +18,11 @@ pub enum Said {
     Conflict { object: Object, version: u64 },
 }
 
+/// Whether the one reply is that the change is made.
+fn is_done(replies: &[Reply]) -> bool {
+    replies.len() == 1 && matches!(replies.first(), Some(Reply::Done))
+}
+
 fn told(answer: &Answer) -> Said {
     match answer {
         Answer::Pinned { pin, version } => Said::Pinned {
@@ -28,10 +33,13 @@ fn told(answer: &Answer) -> Said {
         Answer::Gone(least) => Said::Gone(*least),
         Answer::Released => Said::Released,
         Answer::Collected(dropped) => Said::Collected(*dropped),
-        Answer::Committed { version, replies } => match replies.as_slice() {
-            [Reply::Done] => Said::Done(*version),
-            _ => Said::Committed,
-        },
+        Answer::Committed { version, replies } => {
+            if is_done(replies.as_slice()) {
+                Said::Done(*version)
+            } else {
+                Said::Committed
+            }
+        }
         Answer::Conflict { object, version } => Said::Conflict {
             object: *object,
             version: *version,

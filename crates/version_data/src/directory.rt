@@ -13,9 +13,14 @@ use std::sync::Arc;
 
 /// The names of a library's cells, in order, no two of them equal byte for byte, and at most 65,536. Contracts see the list.
 /// A name is found by a hash.
-#[derive(Drop)]
 pub struct Directory {
     names: IndexSet<Ident>,
+}
+
+impl Drop for Directory {
+    fn drop(self) {
+        let Directory { names: _ } = self;
+    }
 }
 
 impl Model for Directory {

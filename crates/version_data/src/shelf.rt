@@ -16,11 +16,20 @@ use ver_table::{Entry, Table};
 
 /// A library: its head, the directory of its cells, and their bodies by place. Contracts see the plain library. Libraries of
 /// several versions share heads, directories and pages of bodies.
-#[derive(Drop)]
 pub struct Shelf {
     head: Arc<LibHead>,
     directory: Arc<Directory>,
     cells: Table<CellBody, 64>,
+}
+
+impl Drop for Shelf {
+    fn drop(self) {
+        let Shelf {
+            head: _,
+            directory: _,
+            cells: _,
+        } = self;
+    }
 }
 
 impl Model for Shelf {

@@ -11,10 +11,18 @@ use std::marker::Model;
 use std::sync::Arc;
 
 /// One version of a design. Further snapshots of it share its parts, and a snapshot can be read as long as it is held.
-#[derive(Drop)]
 pub struct Snapshot {
     version: u64,
     parts: Arc<Version>,
+}
+
+impl Drop for Snapshot {
+    fn drop(self) {
+        let Snapshot {
+            version: _,
+            parts: _,
+        } = self;
+    }
 }
 
 impl Model for Snapshot {

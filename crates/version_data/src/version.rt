@@ -18,18 +18,32 @@ use std::marker::Model;
 use std::sync::Arc;
 
 /// What no operation changes of a design, its libraries aside: the title and the top.
-#[derive(Drop)]
 pub struct Heads {
     pub title: Name,
     pub top: Option<TopHead>,
 }
 
+impl Drop for Heads {
+    fn drop(self) {
+        let Heads { title: _, top: _ } = self;
+    }
+}
+
 /// A valid design, whose parts other versions may share. Contracts see the plain design.
-#[derive(Drop)]
 pub struct Version {
     heads: Arc<Heads>,
     shelves: Vec<Arc<Shelf>>,
     notes: Arc<Row<Note>>,
+}
+
+impl Drop for Version {
+    fn drop(self) {
+        let Version {
+            heads: _,
+            shelves: _,
+            notes: _,
+        } = self;
+    }
 }
 
 impl Model for Version {

@@ -27,11 +27,20 @@ use version_data::{Shelf, Snapshot, Version};
 
 /// A version with a layer over each of its libraries, and with other notes where there are any. What is not changed is read
 /// from the version.
-#[derive(Drop)]
 pub struct Draft {
     base: Snapshot,
     layers: Vec<Layer>,
     notes: Option<Arc<Row<Note>>>,
+}
+
+impl Drop for Draft {
+    fn drop(self) {
+        let Draft {
+            base: _,
+            layers: _,
+            notes: _,
+        } = self;
+    }
 }
 
 impl Model for Draft {
