@@ -1,10 +1,8 @@
-//! What the single operations plan, over what they have read: other contents of a cell, another net or instance, a new cell, other
-//! notes; or why they refuse.
+//! What the single operations on cells, nets, properties and notes plan, over what they have read: another net or instance,
+//! contents without a net, a new cell, other notes, what is shown; or why they refuse.
 #![tactic(auto)]
 
 pub mod add;
-pub mod ends;
-pub mod insts;
 pub mod nets;
 pub mod notes;
 pub mod props;

@@ -1,5 +1,2 @@
-pub mod Commits
-pub mod Counted
-pub mod Steps
-pub mod Ends
+pub mod Told
 pub mod Texts

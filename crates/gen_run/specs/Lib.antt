@@ -1,3 +1,2 @@
-pub mod Counting
 pub mod Pieces
-pub mod Stand
+pub mod Told

@@ -1,9 +1,6 @@
 //! The run of a number: a generated design is edited again and again in one thread, as by two callers, and then counted.
 #![tactic(auto)]
 
-mod counting;
-mod rounds;
-mod run;
 mod tell;
 
 pub use tell::summary;

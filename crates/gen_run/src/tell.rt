@@ -2,10 +2,10 @@
 ghost use Rattle.std.specs.Prelude.{◌≡◌, ◌≤◌, IfOk, string_bytes};
 ghost use Rattle.gen_spec.specs.Summary.{IsSummaryOf};
 ghost use Rattle.gen_run.specs.Pieces.{summary_pieces, walk_pieces};
-ghost use Rattle.gen_run.specs.Stand.{IsTold};
+ghost use Rattle.gen_run.specs.Told.{IsTold};
 
-use crate::counting::{commits_in, dropped_in, walk_pinned};
-use crate::run::{end, go_through};
+use gen_rounds::counting::{commits_in, dropped_in, walk_pinned};
+use gen_rounds::run::{end, go_through};
 use gen_spec::{Summary, Walked};
 use netlist_schema::{NoMemory, Text};
 use std::alloc::{AllocError, Global};

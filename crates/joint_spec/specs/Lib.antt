@@ -1,3 +1,4 @@
 pub mod Ended
 pub mod Laws
+pub mod Scripts
 pub mod Written

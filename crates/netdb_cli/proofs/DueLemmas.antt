@@ -15,15 +15,16 @@ use Rattle.session_spec.specs.declared.script.Step.{Step}
 use Rattle.session_spec.proofs.OneScript.{one_script}
 use Rattle.design_file.specs.Files.{IsDesignFile, IsNoDesignFile, IsWrong}
 use Rattle.design_file.proofs.BytesLemmas.{not_wrong, one_design}
-use Rattle.netdb_cli.specs.Command.{Request, Show, Run, Generate}
+use Rattle.call_words.specs.Command.{Request, Show, Run, Generate}
 use Rattle.netdb_cli.specs.Due.{AreDueOf, Comes, Files, IsBadFile, IsDue, IsDueOf, IsDueOfDesign, IsDueOfFile, IsDueOfRun, IsExcuse, IsServed}
-use Rattle.netdb_cli.specs.Outcome.{Gives, OutputGives, ReadGives, RunGives, SummaryGives, TextGives}
-use Rattle.netdb_cli.specs.Refusals.{RefusesDesign, RefusesFile, RefusesScript, RefusesScripts}
-use Rattle.netdb_cli.specs.Told.{AreRead, IsBadScript, IsLarge, IsScriptFile}
-use Rattle.netdb_cli.specs.declared.command.TheConstants.{MOST_SCRIPT_BYTES}
-use Rattle.netdb_cli.specs.declared.command.Wanted.{Wanted}
-use Rattle.netdb_cli.specs.declared.status.Status.{Status}
-use Rattle.netdb_cli.specs.declared.status.Status.TheVariants as status
+use Rattle.call_output.specs.Gives.{OutputGives, RunGives, SummaryGives, TextGives}
+use Rattle.netdb_cli.specs.Outcome.{Gives, ReadGives}
+use Rattle.call_spec.specs.Refusals.{RefusesDesign, RefusesFile, RefusesScript, RefusesScripts}
+use Rattle.call_spec.specs.Told.{AreRead, IsBadScript, IsLarge, IsScriptFile}
+use Rattle.call_spec.specs.declared.limits.TheConstants.{MOST_SCRIPT_BYTES}
+use Rattle.call_words.specs.declared.command.Wanted.{Wanted}
+use Rattle.call_spec.specs.declared.status.Status.{Status}
+use Rattle.call_spec.specs.declared.status.Status.TheVariants as status
 
 -- what is known of scripts: a text is a script or has a bad line, it has one first bad line, and scripts that have room meet no full log
 record Known : Type 0 where

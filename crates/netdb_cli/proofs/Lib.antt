@@ -1,4 +1,3 @@
 pub mod DueLemmas
-pub mod InputLemmas
-pub mod OutputLemmas
+pub mod OutcomeLemmas
 pub mod WordLemmas

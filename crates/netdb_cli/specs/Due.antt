@@ -6,13 +6,13 @@ use Rattle.netdb_outside.specs.Outside.{Shelf, file_named}
 use Rattle.session_spec.specs.Headline.{CanWalk, HaveRoom, SomeWalks}
 use Rattle.session_spec.specs.declared.script.Step.{Step}
 use Rattle.design_file.specs.Files.{IsDesignFile, IsNoDesignFile}
-use Rattle.netdb_cli.specs.Command.{Request, Show, Run, Generate}
-use Rattle.netdb_cli.specs.Output.{HasTop, LacksTop}
-use Rattle.netdb_cli.specs.Told.{IsBadScript, IsLarge, IsScriptFile}
-use Rattle.netdb_cli.specs.declared.command.TheConstants.{MOST_SCRIPT_BYTES}
-use Rattle.netdb_cli.specs.declared.command.Wanted.{Wanted}
-use Rattle.netdb_cli.specs.declared.status.Status.{Status}
-use Rattle.netdb_cli.specs.declared.status.Status.TheVariants as status
+use Rattle.call_words.specs.Command.{Request, Show, Run, Generate}
+use Rattle.call_output.specs.Output.{HasTop, LacksTop}
+use Rattle.call_spec.specs.Told.{IsBadScript, IsLarge, IsScriptFile}
+use Rattle.call_spec.specs.declared.limits.TheConstants.{MOST_SCRIPT_BYTES}
+use Rattle.call_words.specs.declared.command.Wanted.{Wanted}
+use Rattle.call_spec.specs.declared.status.Status.{Status}
+use Rattle.call_spec.specs.declared.status.Status.TheVariants as status
 
 -- a fault in reading, or want of memory
 abbrev pub IsExcuse : Status → Type 0

@@ -1,15 +1,16 @@
 //! The top call.
 ghost use Rattle.std.specs.Prelude.{◌≡◌, ◌↔◌, ◌≤◌, length};
 ghost use Rattle.netdb_outside.specs.Outside.{SameFiles};
-ghost use Rattle.netdb_cli.specs.Command.{Asks, IsCommand, IsGood, Request, Show, Run, request_of, spelled};
+ghost use Rattle.call_words.specs.Command.{Asks, IsCommand, IsGood, Request, Show, Run, request_of, spelled};
 ghost use Rattle.netdb_cli.specs.Due.{IsDue};
-ghost use Rattle.netdb_cli.specs.Outcome.{CountsReading, CountsWriting, Gives, ReadGives};
+ghost use Rattle.call_spec.specs.Counts.{CountsReading, CountsWriting};
+ghost use Rattle.netdb_cli.specs.Outcome.{Gives, ReadGives};
 
-use crate::command::{Command, Wanted, command_of};
-use crate::inputs::{read_design, read_scripts};
 use crate::laws::given_is_due;
-use crate::outputs::{write_output, write_report, write_summary};
-use crate::status::Status;
+use call_files::{read_design, read_scripts};
+use call_output::{write_output, write_report, write_summary};
+use call_spec::Status;
+use call_words::{Command, Wanted, command_of};
 use netdb_outside::{Files, Gate, Sink};
 use netlist_schema::Design;
 use std::alloc::Global;

@@ -1,9 +1,9 @@
 //! What is said of a status.
 ghost use Rattle.std.specs.Prelude.{◌≡◌, ◌++◌, IfOk, OnOk, codes};
 ghost use Rattle.std.specs.Fmt.{decimal};
-ghost use Rattle.netdb_cli.specs.StatusText.{status_text as text_of, status_words};
+ghost use Rattle.call_spec.specs.StatusText.{status_text as text_of, status_words};
 
-use crate::status::Status;
+use call_spec::Status;
 use design_file::fault_text;
 use itoa::Buffer;
 use netlist_schema::{NoMemory, Text};

@@ -17,7 +17,8 @@ use Rattle.db_share.specs.Passes.{Shared, Pass, IsReady, maker}
 use Rattle.db_share.specs.Calls.{Closes, Opens}
 use Rattle.db_share.proofs.Own.{rest_own}
 use Rattle.joint_spec.specs.Ended.{Ended, HasEnded, HaveEnded, met_full}
-use Rattle.run_scripts.specs.Run.{HaveRun, all_steps}
+use Rattle.joint_spec.specs.Scripts.{all_steps}
+use Rattle.run_scripts.specs.Run.{HaveRun}
 use Rattle.run_scripts.specs.Workers.{IsDone, end_of}
 use Rattle.run_scripts.specs.declared.workers.Done.{Done}
 

@@ -10,7 +10,7 @@ use Rattle.session_spec.specs.declared.script.Step.{Step}
 use Rattle.turn_cell.proofs.Rows.{got_at}
 use Rattle.db_share.specs.Passes.{Shared, Pass, IsReady, new_pass}
 use Rattle.db_share.specs.Calls.{GoesOn, Opens}
-use Rattle.run_scripts.specs.Run.{all_steps}
+use Rattle.joint_spec.specs.Scripts.{all_steps}
 use Rattle.run_scripts.specs.Workers.{IsDone, IsFresh}
 
 -- the steps of the script at a place

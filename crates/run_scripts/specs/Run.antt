@@ -2,14 +2,9 @@
 use Rattle.std.specs.Prelude.{◌≡◌, ◌<◌, ℕ, Bool, List, length, map}
 use Rattle.std.specs.List.{All}
 use Rattle.netlist_schema.specs.Design.{Design}
-use Rattle.session_spec.specs.ScriptText.{Parts, steps_of}
 use Rattle.session_spec.specs.declared.script.Step.{Step}
 use Rattle.db_core.specs.Story.{Story, IsHistory}
 use Rattle.joint_spec.specs.Ended.{Ended, HaveEnded, met_full}
-
--- the steps of each script
-abbrev pub all_steps : List Parts → List (List Step)
-all_steps scripts = map (λ script. steps_of script.lines) scripts
 
 -- The scripts were run beside each other on a database of the design, each as the caller of its number. The history of the database is
 -- legal and has no other callers; each script came to its end there, with one of these transcripts; and this says whether one met a full log.

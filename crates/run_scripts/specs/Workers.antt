@@ -5,7 +5,7 @@ use Rattle.session_spec.specs.ScriptText.{Parts}
 use Rattle.session_spec.specs.declared.script.Step.{Step}
 use Rattle.db_share.specs.Passes.{Shared, Pass, IsReady}
 use Rattle.joint_spec.specs.Ended.{Ended}
-use Rattle.run_scripts.specs.Run.{all_steps}
+use Rattle.joint_spec.specs.Scripts.{all_steps}
 use Rattle.run_scripts.specs.declared.workers.Done.{Done}
 
 -- a pass with which no call was made yet, of the number of one of the scripts

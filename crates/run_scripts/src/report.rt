@@ -4,7 +4,8 @@ ghost use Rattle.netlist_schema.specs.Design.{Design as DesignFacts};
 ghost use Rattle.netdb_outside.specs.Outside.{Rose};
 ghost use Rattle.session_spec.specs.Headline.{CanWalk};
 ghost use Rattle.session_spec.specs.declared.script.Step.{Step};
-ghost use Rattle.run_scripts.specs.Run.{HaveRun, all_steps};
+ghost use Rattle.joint_spec.specs.Scripts.{all_steps};
+ghost use Rattle.run_scripts.specs.Run.{HaveRun};
 ghost use Rattle.run_scripts.specs.Written.{RunWrites};
 
 use crate::ended::RunEnd;

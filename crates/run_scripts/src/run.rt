@@ -1,7 +1,8 @@
 //! Scripts beside each other on one database.
 ghost use Rattle.std.specs.Prelude.{◌≡◌, ◌≤◌, IfOk, length};
 ghost use Rattle.session_spec.specs.Headline.{CanWalk};
-ghost use Rattle.run_scripts.specs.Run.{HaveRun, all_steps};
+ghost use Rattle.joint_spec.specs.Scripts.{all_steps};
+ghost use Rattle.run_scripts.specs.Run.{HaveRun};
 
 use crate::workers::{parts_of, run_all, some_met_full};
 use db_share::{Core, Db};

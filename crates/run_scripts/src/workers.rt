@@ -2,7 +2,7 @@
 ghost use Rattle.std.specs.Prelude.{◌≡◌, ◌<◌, ℕ, IfOk, Ok, map, slice_index_or, vec_len};
 ghost use Rattle.std.specs.List.{All, list_any};
 ghost use Rattle.db_share.specs.Passes.{Pass as PassFacts};
-ghost use Rattle.run_scripts.specs.Run.{all_steps};
+ghost use Rattle.joint_spec.specs.Scripts.{all_steps};
 ghost use Rattle.run_scripts.specs.Workers.{IsDone, IsFresh};
 
 use db_share::{Db, Pass};

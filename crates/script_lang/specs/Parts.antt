@@ -1,34 +1,11 @@
--- What the code writes, one after another.
-use Rattle.std.specs.Prelude.{ℕ, List, [], ◌∷◌, ◌++◌, Option, None, Some, map, codes, decimal}
-use Rattle.std.specs.List.{flat_map}
-use Rattle.edit_core.specs.declared.reply.EndName.{EndName}
+-- What the code writes of an event, one after another.
+use Rattle.std.specs.Prelude.{ℕ, List, [], ◌∷◌, ◌++◌, Option, None, Some, codes, decimal}
 use Rattle.edit_spec.specs.declared.ops.Op.{Op}
 use Rattle.edit_core.specs.declared.reply.Reply.{Reply}
 use Rattle.history_spec.specs.declared.event.Event.{Event}
 use Rattle.netlist_schema.specs.Design.{Design}
-use Rattle.session_spec.specs.Lines.{op_pieces}
-use Rattle.session_spec.specs.Pieces.{Piece, piece_text}
-use Rattle.session_spec.specs.Texts.{answer_words, call_words, end_words, reply_text}
-
--- each word behind a blank
-abbrev pub behind_blanks : List (List ℕ) → List ℕ
-behind_blanks words = flat_map (λ word. codes " " ++ word) words
-
--- each word behind a mark
-abbrev pub behind : ℕ → List (List ℕ) → List ℕ
-behind mark words = flat_map (λ word. mark ∷ word) words
-
--- pieces as words, each behind a blank
-abbrev pub behind_pieces : List Piece → List ℕ
-behind_pieces pieces = behind_blanks (map piece_text pieces)
-
--- the words of an operation
-abbrev pub op_words : Op → List (List ℕ)
-op_words op = map piece_text (op_pieces op)
-
--- ends, each behind `;`
-abbrev pub more_ends : List EndName → List ℕ
-more_ends ends = flat_map (λ end. codes ";" ++ behind_blanks (end_words end)) ends
+use Rattle.session_spec.specs.Texts.{answer_words, call_words, reply_text}
+use Rattle.script_texts.specs.Parts.{behind_blanks, op_words}
 
 -- the words of an event behind its number
 abbrev pub event_words : Design → Event → List (List ℕ)

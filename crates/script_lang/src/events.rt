@@ -5,14 +5,15 @@ ghost use Rattle.std.specs.Option.{option_copied};
 ghost use Rattle.edif_names.specs.Parts.{Grows};
 ghost use Rattle.report_spec.specs.Lines.{spaced};
 ghost use Rattle.session_spec.specs.Texts.{answer_words, call_words, conflict_words, event_text, op_lines, ops_of, replies_of};
-ghost use Rattle.script_lang.specs.Parts.{behind_blanks, event_words, op_line, told_text};
+ghost use Rattle.script_texts.specs.Parts.{behind_blanks};
+ghost use Rattle.script_lang.specs.Parts.{event_words, op_line, told_text};
 
-use crate::ops::push_op;
-use crate::texts::{push_object, push_reply, push_size};
-use crate::words::{push_count, push_digits, push_number, push_word};
 use edit_spec::{Op, Reply};
 use history_spec::{Answer, Call, Event};
 use netlist_schema::{NoMemory, Object, Shown};
+use script_texts::ops::push_op;
+use script_texts::texts::{push_object, push_reply, push_size};
+use script_texts::words::{push_count, push_digits, push_number, push_word};
 use std::alloc::Global;
 
 /// Appends an event with its number in the history: who called, the call and the answer in a line, and below it each operation of

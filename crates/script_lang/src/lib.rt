@@ -2,11 +2,8 @@
 #![tactic(auto)]
 
 pub mod events;
-mod ops;
-pub mod texts;
-mod words;
 
 pub use events::event_text;
 pub use script_reader::{ScriptError, parse};
+pub use script_texts::{object_text, reply_text, texts};
 pub use session_spec::{Script, ScriptLine, Step};
-pub use texts::{object_text, reply_text};

@@ -1,11 +1,4 @@
-pub mod Answering
-pub mod AtomLemmas
 pub mod CutLemmas
-pub mod FrontLemmas
-pub mod OpLemmas
-pub mod PieceLemmas
 pub mod ProgressLemmas
 pub mod StepLemmas
-pub mod ValueLemmas
-pub mod VerbLemmas
 pub mod WordLemmas

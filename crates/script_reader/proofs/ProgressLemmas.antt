@@ -12,7 +12,7 @@ use Rattle.session_spec.specs.declared.script.ScriptLine.{ScriptLine}
 use Rattle.session_spec.specs.declared.script.Step.{Step}
 use Rattle.session_spec.proofs.OneScript.{one_reading}
 use Rattle.session_spec.proofs.OneStep.{one_step}
-use Rattle.script_reader.specs.Reading.{lent}
+use Rattle.script_words.specs.Reading.{lent}
 use Rattle.script_reader.proofs.WordLemmas.{lines_are_few}
 use Rattle.script_reader.specs.Line.{AreRead, Goes, IsBadLine, IsFirst, Leads, SaysIt}
 

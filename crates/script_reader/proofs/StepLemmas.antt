@@ -1,6 +1,6 @@
 -- A step by its verb, and what can be said of one that was read.
-use Rattle.std.proofs.Common.{◌≡◌, ◌∙◌, ℕ, zero, suc, ◌<◌, ◌^◌, List, [], ◌∷◌, ◌++◌, None, Some, true, false, map, length, Ok, Err, inl, inr, refl, sym, ap, subst, arith, ◌≢◌}
-use Rattle.std.specs.Prelude.{Option, Result, IfOk}
+use Rattle.std.proofs.Common.{◌≡◌, ◌∙◌, ℕ, zero, suc, ◌<◌, ◌^◌, List, Bor, [], ◌∷◌, ◌++◌, None, Some, true, false, map, length, Ok, Err, inl, inr, refl, sym, ap, subst, arith, ◌≢◌}
+use Rattle.std.specs.Prelude.{Option, Result, IfOk, ◌==◌, codes}
 use Rattle.std.specs.List.{All, AllByRecursion}
 use Rattle.std.proofs.lemmas.List.Elements.{All-from_recursion}
 use Rattle.netlist_schema.specs.Typed.{IsBytes}
@@ -13,17 +13,18 @@ use Rattle.edit_spec.specs.declared.ops.Op.TheVariants as op
 use Rattle.edit_spec.specs.declared.ops.PortDecl.{PortDecl}
 use Rattle.edit_spec.specs.declared.ops.Target.{Target}
 use Rattle.edit_spec.specs.declared.ops.Target.TheVariants as targets
-use Rattle.session_spec.specs.Lines.{IsPlainOp, IsSayable, IsSayableOp, end_pieces, op_pieces, path_piece, port_piece, property_pieces, step_pieces, target_pieces, value_pieces, width_atoms}
+use Rattle.session_spec.specs.Lines.{IsPlainOp, IsSayable, IsSayableOp, end_pieces, op_pieces, path_piece, port_piece, property_pieces, step_pieces, target_pieces, value_pieces, width_atoms, said}
 use Rattle.session_spec.specs.Pieces.{Atom, Said, Named, Number, Integer, Exponent, Quoted, Piece, Alone, Joined, IsSayableAtom, IsSayablePiece, SpellAtoms, SpellPieces, SpellsAtom, SpellsPiece}
 use Rattle.session_spec.specs.ScriptText.{SayStep}
 use Rattle.session_spec.specs.declared.script.Step.{Step}
 use Rattle.session_spec.specs.declared.script.Step.TheVariants.{Begin, Run, Commit, Abandon, Pin, PinAt, Walk, Release, Collect}
-use Rattle.script_reader.specs.Reading.{Reads}
-use Rattle.script_reader.specs.Verbs.{HasBytes, IsStepOf, OpHasBytes, ReadsStep, SayRest, StepHasBytes, verb_of, verb_word}
-use Rattle.script_reader.specs.declared.unread.Unread.{Unread}
-use Rattle.script_reader.specs.declared.verbs.Verb.{Verb}
-use Rattle.script_reader.proofs.VerbLemmas.{one_verb}
-use Rattle.script_reader.proofs.FrontLemmas.{is_none, spells_none}
+use Rattle.script_words.specs.Reading.{Reads, lent}
+use Rattle.script_ops.specs.Verbs.{HasBytes, OpHasBytes, verb_word}
+use Rattle.script_reader.specs.Steps.{IsStepOf, ReadsStep, SayRest, StepHasBytes, verb_of, limit_pieces}
+use Rattle.script_words.specs.declared.unread.Unread.{Unread}
+use Rattle.script_ops.specs.declared.verbs.Verb.{Verb}
+use Rattle.script_ops.proofs.VerbLemmas.{one_verb}
+use Rattle.script_ops.proofs.FrontLemmas.{is_none, spells_none, some_words}
 
 -- ---- the first word, and the rest
 
@@ -218,6 +219,12 @@ sayable words Release s b = all_sayable words (step_pieces Release) s (tt, tt)
 sayable words Collect s b = all_sayable words (step_pieces Collect) s (tt, tt)
 
 -- ---- reading a step
+
+-- words that say no limit
+pub no_limit : (words : List (Bor (List ℕ))) → (length words == 0) ≡ false → ((n : ℕ) → ¬ SpellPieces (lent words) (said (codes "limit") ∷ Alone (Number 1 4294967295 n) ∷ []))
+    → (limit : Option ℕ) → ¬ SpellPieces (lent words) (limit_pieces limit)
+no_limit words e n None s = some_words words e s
+no_limit words e n (Some limit) s = n limit s
 
 -- no words say a step
 pub says_nothing : (s : Step) → ¬ SayStep [] s

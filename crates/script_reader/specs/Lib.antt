@@ -1,5 +1,3 @@
 pub mod Line
 pub mod Parts
-pub mod Reading
-pub mod Values
-pub mod Verbs
+pub mod Steps

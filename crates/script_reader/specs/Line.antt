@@ -9,8 +9,8 @@ use Rattle.session_spec.specs.declared.script.Step.{Step}
 use Rattle.script_reader.specs.declared.script.Place.{Place}
 use Rattle.script_reader.specs.declared.script.Place.TheVariants.{Free, Block, Holding}
 use Rattle.script_reader.specs.declared.script.Progress.{Progress}
-use Rattle.script_reader.specs.declared.unread.Unread.{Unread}
-use Rattle.script_reader.specs.declared.unread.Unread.TheVariants.{Bad}
+use Rattle.script_words.specs.declared.unread.Unread.{Unread}
+use Rattle.script_words.specs.declared.unread.Unread.TheVariants.{Bad}
 
 -- the line says a step
 pub record SaysIt (line : List ℕ) (step : Step) : Type 0 where

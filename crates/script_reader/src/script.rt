@@ -4,14 +4,14 @@ ghost use Rattle.std.specs.Option.{option_map};
 ghost use Rattle.session_spec.specs.ScriptText as text;
 ghost use Rattle.session_spec.specs.ScriptText.{IsFirstBad, IsScriptText};
 ghost use Rattle.script_reader.specs.Line.{AreRead, Goes, IsBadLine, IsFirst, place_of};
-ghost use Rattle.script_reader.specs.Reading.{lent};
-ghost use Rattle.script_reader.specs.declared.unread.Unread.TheVariants.{Bad};
+ghost use Rattle.script_words.specs.Reading.{lent};
+ghost use Rattle.script_words.specs.declared.unread.Unread.TheVariants.{Bad};
 ghost use Rattle.script_reader.specs.declared.script.ScriptError.TheVariants.{NoMemory};
 
 use crate::cut::cut_lines;
 use crate::line::read_line;
-use crate::unread::Unread;
 use netlist_schema::{NoMemory, Row};
+use script_words::unread::Unread;
 use session_spec::{Script, ScriptLine, Step};
 use std::alloc::Global;
 

@@ -25,13 +25,14 @@ use Rattle.run_spec.proofs.Pins.{held_is_live, live_is_there}
 use Rattle.run_spec.proofs.Places.{commit_full}
 use Rattle.db_share.specs.Passes.{Shared, Pass, HasPin, IsReady}
 use Rattle.db_share.specs.Calls.{GoesOn as PassGoesOn}
+use Rattle.script_held.specs.Holding.{block_of, held_of}
+use Rattle.script_held.specs.declared.held.Block.{Block}
+use Rattle.script_held.specs.declared.held.Held.{Held}
+use Rattle.script_held.specs.declared.held.Held.TheVariants as held
+use Rattle.script_held.specs.declared.held.Stop.{Stop}
+use Rattle.script_held.specs.declared.held.Stop.TheVariants.{Full, Short}
 use Rattle.script_run.specs.Coming.{Again, Begun, Comes, Refused, Starts, Stops, Tries, reply_lines}
-use Rattle.script_run.specs.Holding.{Stands, block_of, held_of}
-use Rattle.script_run.specs.declared.held.Block.{Block}
-use Rattle.script_run.specs.declared.held.Held.{Held}
-use Rattle.script_run.specs.declared.held.Held.TheVariants as held
-use Rattle.script_run.specs.declared.held.Stop.{Stop}
-use Rattle.script_run.specs.declared.held.Stop.TheVariants.{Full, Short}
+use Rattle.script_run.specs.Holding.{Stands}
 use Rattle.script_run.proofs.Calls.{makes_later, stands_then}
 
 -- what holds at any rate

@@ -35,12 +35,14 @@ use Rattle.db_core.specs.declared.errors.CommitError.TheVariants.{LogFull as Com
 use Rattle.db_share.specs.Passes.{Shared, Pass, HasPin}
 use Rattle.db_share.specs.Calls.{GoesOn as PassGoesOn, HasReleased, IsFull, LacksMemory, Makes as MakesEvent}
 use Rattle.db_share.proofs.Keeping.{keeps_committed}
+use Rattle.script_held.specs.Holding.{block_of, filled}
+use Rattle.script_held.specs.declared.held.Block.{Block}
+use Rattle.script_held.specs.declared.held.Held.TheVariants as held
+use Rattle.script_held.specs.declared.held.Stop.TheVariants.{Short}
+use Rattle.script_held.proofs.Calls.{one_call}
 use Rattle.script_run.specs.Coming.{Commits, Stops, accepted, refused}
-use Rattle.script_run.specs.Holding.{Stands, block_of, filled}
-use Rattle.script_run.specs.declared.held.Block.{Block}
-use Rattle.script_run.specs.declared.held.Held.TheVariants as held
-use Rattle.script_run.specs.declared.held.Stop.TheVariants.{Short}
-use Rattle.script_run.proofs.Calls.{makes_later, no_call, one_call}
+use Rattle.script_run.specs.Holding.{Stands}
+use Rattle.script_run.proofs.Calls.{makes_later, no_call}
 
 -- what was written stays what the words say, as the history goes on
 pub writes_later : (d : Design) (caller : ℕ) (mid new : List Event) (done : List Exchange) (before text : List ℕ) (words : List Word) → (m : Makes d caller mid new done) → Writes d mid before text words

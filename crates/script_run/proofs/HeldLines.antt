@@ -20,13 +20,15 @@ use Rattle.db_core.specs.declared.errors.CollectError.TheVariants.{LogFull as Co
 use Rattle.db_share.specs.Passes.{Shared, Pass, HasPin, KeepsPins}
 use Rattle.db_share.specs.Calls.{HasReleased, IsFull, LacksMemory, Makes}
 use Rattle.db_share.proofs.Keeping.{keeps_collected}
+use Rattle.script_held.specs.Holding.{IsHeldBy, block_of, filled, held_of, told}
+use Rattle.script_held.specs.declared.held.Block.{Block}
+use Rattle.script_held.specs.declared.held.Held.{Held}
+use Rattle.script_held.specs.declared.held.Held.TheVariants as held
+use Rattle.script_held.specs.declared.held.Stop.TheVariants.{Short}
+use Rattle.script_held.proofs.Calls.{one_call}
 use Rattle.script_run.specs.Coming.{Comes, Stops}
-use Rattle.script_run.specs.Holding.{IsHeldBy, Stands, block_of, filled, held_of, told}
-use Rattle.script_run.specs.declared.held.Block.{Block}
-use Rattle.script_run.specs.declared.held.Held.{Held}
-use Rattle.script_run.specs.declared.held.Held.TheVariants as held
-use Rattle.script_run.specs.declared.held.Stop.TheVariants.{Short}
-use Rattle.script_run.proofs.Calls.{no_call, one_call}
+use Rattle.script_run.specs.Holding.{Stands}
+use Rattle.script_run.proofs.Calls.{no_call}
 
 -- what is held is kept over a call that keeps pins
 pub held_kept : (db : Shared) (old new : Pass) (h : Held) → KeepsPins db old new → IsHeldBy db old h → IsHeldBy db new h

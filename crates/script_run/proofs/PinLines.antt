@@ -16,11 +16,13 @@ use Rattle.run_spec.proofs.OneLine.{begin_goes, broken, gone_goes, no_version_go
 use Rattle.run_spec.proofs.Pins.{holds_after}
 use Rattle.db_share.specs.Passes.{Shared, Pass, HasPin, known}
 use Rattle.db_share.specs.Calls.{IsFull, LacksMemory, Looks, Makes, Pins}
+use Rattle.script_held.specs.Holding.{filled, told}
+use Rattle.script_held.specs.declared.held.Held.TheVariants as held
+use Rattle.script_held.specs.declared.held.Stop.TheVariants.{Short}
+use Rattle.script_held.proofs.Calls.{one_call}
 use Rattle.script_run.specs.Coming.{Comes, Starts, Stops}
-use Rattle.script_run.specs.Holding.{Stands, filled, told}
-use Rattle.script_run.specs.declared.held.Held.TheVariants as held
-use Rattle.script_run.specs.declared.held.Stop.TheVariants.{Short}
-use Rattle.script_run.proofs.Calls.{no_call, one_call}
+use Rattle.script_run.specs.Holding.{Stands}
+use Rattle.script_run.proofs.Calls.{no_call}
 
 -- a line that pins may be refused by a full log
 abbrev MayBeFull : Step → Type 0

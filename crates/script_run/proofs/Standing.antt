@@ -15,9 +15,9 @@ use Rattle.history_spec.specs.State.{State, opening}
 use Rattle.history_spec.proofs.Histories.{goes_on_from}
 use Rattle.history_spec.proofs.Versions.{follows_after, grown_on}
 use Rattle.db_share.specs.Passes.{Shared, Pass}
+use Rattle.script_held.specs.declared.held.Held.TheVariants.{OnPin}
 use Rattle.script_run.specs.Coming.{step_at}
 use Rattle.script_run.specs.Holding.{Stands}
-use Rattle.script_run.specs.declared.held.Held.TheVariants.{OnPin}
 use Rattle.script_run.proofs.HeldLines.{held_is_there}
 
 -- ---- the line at a place of the script

@@ -16,13 +16,13 @@ use Rattle.run_spec.proofs.Endings.{comes_to_break, comes_to_end, comes_to_full}
 use Rattle.db_share.specs.Passes.{Shared, Pass, IsReady}
 use Rattle.db_share.specs.Calls.{GoesOn}
 use Rattle.db_share.proofs.Opened.{goes_on_twice}
+use Rattle.script_held.specs.Holding.{IsHeldBy, ended_full, held_of, left_held}
+use Rattle.script_held.specs.declared.held.Held.{Held}
+use Rattle.script_held.specs.declared.held.Held.TheVariants as held
+use Rattle.script_held.specs.declared.held.Stop.{Stop}
+use Rattle.script_held.specs.declared.held.Stop.TheVariants.{Full, Short}
+use Rattle.script_held.proofs.Calls.{asked, stays}
 use Rattle.script_run.specs.Coming.{Comes, Ends, MayStand, step_at}
-use Rattle.script_run.specs.Holding.{IsHeldBy, ended_full, held_of, left_held}
-use Rattle.script_run.specs.declared.held.Held.{Held}
-use Rattle.script_run.specs.declared.held.Held.TheVariants as held
-use Rattle.script_run.specs.declared.held.Stop.{Stop}
-use Rattle.script_run.specs.declared.held.Stop.TheVariants.{Full, Short}
-use Rattle.script_run.proofs.Calls.{asked, stays}
 use Rattle.script_run.proofs.Standing.{left_at, walks_later}
 
 -- before a line: the pass has gone on from where the script began, so far the script has come, and these lines are left

@@ -21,12 +21,13 @@ use Rattle.run_spec.specs.Calls.{Makes, Writes}
 use Rattle.run_spec.specs.Lines.{GoesOn, IsBroken, IsFilled, RunsAgain}
 use Rattle.run_spec.specs.Whole.{IsBrokenOff}
 use Rattle.db_share.specs.Passes.{Shared, Pass}
-use Rattle.script_run.specs.Holding.{IsHeldBy, Stands, block_of, held_of}
-use Rattle.script_run.specs.declared.held.Block.{Block}
-use Rattle.script_run.specs.declared.held.Held.{Held}
-use Rattle.script_run.specs.declared.held.Held.TheVariants.{InBlock, Nothing as Empty}
-use Rattle.script_run.specs.declared.held.Stop.{Stop}
-use Rattle.script_run.specs.declared.held.Stop.TheVariants.{Full, Short}
+use Rattle.script_held.specs.Holding.{IsHeldBy, block_of, held_of}
+use Rattle.script_held.specs.declared.held.Block.{Block}
+use Rattle.script_held.specs.declared.held.Held.{Held}
+use Rattle.script_held.specs.declared.held.Held.TheVariants.{InBlock, Nothing as Empty}
+use Rattle.script_held.specs.declared.held.Stop.{Stop}
+use Rattle.script_held.specs.declared.held.Stop.TheVariants.{Full, Short}
+use Rattle.script_run.specs.Holding.{Stands}
 
 -- the line was run, and this is held then
 abbrev pub Went : Shared → Pass → Pass → List ℕ → List ℕ → SessionHeld → Step → Held → Type 0

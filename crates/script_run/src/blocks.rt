@@ -6,15 +6,16 @@ ghost use Rattle.session_spec.specs.Session.{reply_behind};
 ghost use Rattle.session_spec.specs.Texts.{conflict_words, line, reply_text};
 ghost use Rattle.db_share.specs.Passes.{HasPin, IsReady};
 ghost use Rattle.db_share.specs.Calls.{GoesOn, HasReleased};
+ghost use Rattle.script_held.specs.Holding.{block_of};
 ghost use Rattle.script_run.specs.Coming.{BeginsAgain, Comes, Commits, Tries, accepted, refused, reply_lines};
-ghost use Rattle.script_run.specs.Holding.{Stands, block_of};
+ghost use Rattle.script_run.specs.Holding.{Stands};
 
-use crate::held::{Block, Held, Stop, filled};
 use crate::lines::start_block;
 use db_share::{CommitError, Db, Pass, Tx};
 use edit_spec::Op;
 use netdb_outside::Gate;
 use netlist_schema::{Copied, NoMemory, Object, Row};
+use script_held::{Block, Held, Stop, filled};
 use script_lang::{ScriptLine, Step};
 use script_say::{say_committed, say_conflict, say_log_full, say_reply};
 use std::alloc::Global;

@@ -2,7 +2,6 @@
 #![tactic(auto)]
 
 mod blocks;
-mod held;
 mod lines;
 mod places;
 pub mod run;

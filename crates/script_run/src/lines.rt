@@ -4,12 +4,13 @@ ghost use Rattle.report_spec.specs.Lines.{flattening_text};
 ghost use Rattle.session_spec.specs.Session.{Nothing, OnPin};
 ghost use Rattle.run_spec.specs.Lines.{IsNoBlock};
 ghost use Rattle.db_share.specs.Calls.{GoesOn};
+ghost use Rattle.script_held.specs.Holding.{block_of, held_of};
 ghost use Rattle.script_run.specs.Coming.{Comes, Starts};
-ghost use Rattle.script_run.specs.Holding.{Stands, block_of, held_of};
+ghost use Rattle.script_run.specs.Holding.{Stands};
 
-use crate::held::{Block, Held, Stop, filled, told};
 use db_share::{CollectError, Db, Pass, Pin, PinAtError, PinError, Tx};
 use netlist_schema::NoMemory;
+use script_held::{Block, Held, Stop, filled, told};
 use script_lang::Step;
 use script_say::{
     say_abandoned, say_begin, say_collected, say_gone, say_log_full, say_no_version, say_pin,

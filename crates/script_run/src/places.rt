@@ -5,16 +5,17 @@ ghost use Rattle.session_spec.specs.ScriptText.{Block as InsideBlock, Free, Hold
 ghost use Rattle.session_spec.specs.Session.{Nothing, OffPin, OnPin};
 ghost use Rattle.run_spec.specs.Lines.{place_of};
 ghost use Rattle.db_share.specs.Calls.{GoesOn};
+ghost use Rattle.script_held.specs.Holding.{block_of, held_of};
 ghost use Rattle.script_run.specs.Coming.{Comes, MayStand, step_at};
-ghost use Rattle.script_run.specs.Holding.{Stands, block_of, held_of};
+ghost use Rattle.script_run.specs.Holding.{Stands};
 
 use crate::blocks::{commit_block, try_op};
-use crate::held::{Block, Held, Stop, told};
 use crate::lines::{
     abandon_line, collect_line, pin_at_line, pin_line, release_line, show, start_block,
 };
 use db_share::{Db, Pass, Pin};
 use netdb_outside::Gate;
+use script_held::{Block, Held, Stop, told};
 use script_lang::{ScriptLine, Step};
 use script_say::say_no_pin;
 use std::alloc::Global;

@@ -7,11 +7,11 @@ ghost use Rattle.db_share.specs.Passes.{IsReady};
 ghost use Rattle.db_share.specs.Calls.{GoesOn};
 ghost use Rattle.script_run.specs.Coming.{Ends};
 
-use crate::held::{Held, Stop, settle};
 use crate::places::run_line;
 use db_share::{Db, Pass};
 use netdb_outside::Gate;
 use netlist_schema::{NoMemory, Text};
+use script_held::{Held, Stop, settle};
 use script_lang::{Script, ScriptLine};
 use std::alloc::Global;
 use std::sync::Wait;

@@ -1,6 +1,6 @@
 use Rattle.std.proofs.Common.{◌∙◌}
 use Rattle.std.specs.Prelude.{string_bytes}
-use Rattle.gen_run.proofs.Ends.{is_summary}
+use Rattle.gen_run.proofs.Told.{is_summary}
 use Rattle.gen_run.proofs.Texts.{text_is}
 use Rattle.gen_run.proofs.tell.summary.Goals as goal
 

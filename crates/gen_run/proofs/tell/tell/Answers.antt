@@ -2,7 +2,7 @@ use Rattle.std.proofs.Common.{◌≡◌, ◌≤◌, List, ap, sym, subst, ◌∙
 use Rattle.std.specs.List.{count_by, sum_by}
 use Rattle.history_spec.specs.declared.event.Event.{Event}
 use Rattle.gen_spec.specs.Summary.{dropped_by, is_accepted}
-use Rattle.gen_run.proofs.Ends.{is_told}
+use Rattle.gen_run.proofs.Told.{is_told}
 use Rattle.gen_run.proofs.tell.tell.Goals as goal
 
 pub commits_in-commits-requires : goal.commits_in-commits-requires

@@ -1,7 +1,7 @@
 use Rattle.std.proofs.Common.{subst, sym}
-use Rattle.netdb_cli.specs.Command.{request_of}
+use Rattle.call_words.specs.Command.{request_of}
 use Rattle.netdb_cli.specs.Outcome.{Gives}
-use Rattle.netdb_cli.specs.declared.command.Command.{Command}
+use Rattle.call_words.specs.declared.command.Command.{Command}
 use Rattle.netdb_cli.proofs.run.run_command.Goals as goal
 
 pub returns-in-Show-clause-gives : goal.returns-in-Show-clause-gives

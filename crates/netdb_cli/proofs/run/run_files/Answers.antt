@@ -1,5 +1,5 @@
-use Rattle.netdb_cli.specs.Command.{spelled}
-use Rattle.netdb_cli.proofs.OutputLemmas.{nothing_counted, scripts_are_no_fault}
+use Rattle.call_words.specs.Command.{spelled}
+use Rattle.netdb_cli.proofs.OutcomeLemmas.{nothing_counted, scripts_are_no_fault}
 use Rattle.netdb_cli.proofs.run.run_files.Goals as goal
 
 pub returns-in-Err-clause-writing : goal.returns-in-Err-clause-writing

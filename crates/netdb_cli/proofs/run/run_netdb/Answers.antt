@@ -1,7 +1,7 @@
 use Rattle.std.proofs.Common.{subst}
-use Rattle.netdb_cli.specs.Command.{Request, request_of, spelled}
+use Rattle.call_words.specs.Command.{Request, request_of, spelled}
 use Rattle.netdb_cli.specs.Outcome.{Gives}
-use Rattle.netdb_cli.proofs.OutputLemmas.{never_usage}
+use Rattle.netdb_cli.proofs.OutcomeLemmas.{never_usage}
 use Rattle.netdb_cli.proofs.WordLemmas.{asked_once}
 use Rattle.netdb_cli.proofs.run.run_netdb.Goals as goal
 

@@ -1,6 +1,6 @@
 use Rattle.std.proofs.Common.{◌∙◌, List, length, refl, ap, sym, arith}
 use Rattle.std.specs.List.{list_any}
-use Rattle.run_scripts.specs.Run.{all_steps}
+use Rattle.joint_spec.specs.Scripts.{all_steps}
 use Rattle.run_scripts.specs.declared.workers.Done.{Done}
 use Rattle.run_scripts.proofs.Closing.{are_done, closed_run, passes_all, passes_ready}
 use Rattle.run_scripts.proofs.Opening.{fresh, numbered}

@@ -1,6 +1,6 @@
 use Rattle.std.proofs.Common.{◌<◌, length, arith}
 use Rattle.session_spec.specs.ScriptText.{steps_of}
-use Rattle.run_scripts.specs.Run.{all_steps}
+use Rattle.joint_spec.specs.Scripts.{all_steps}
 use Rattle.run_scripts.proofs.Opening.{one_walks, own_done, steps_at}
 use Rattle.run_scripts.proofs.workers.run_own.Goals as goal
 

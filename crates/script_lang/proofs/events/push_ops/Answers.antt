@@ -1,7 +1,7 @@
 use Rattle.std.proofs.Common.{◌≡◌, ◌∙◌, ap, sym, ◌+◌, ◌∷◌, drop}
 use Rattle.std.specs.Option.{option_copied}
 use Rattle.std.proofs.lemmas.List.{drop_more}
-use Rattle.script_lang.proofs.LineLemmas.{grows_on, more_ops}
+use Rattle.script_lang.proofs.EventLemmas.{grows_on, more_ops}
 use Rattle.script_lang.proofs.events.push_ops.Goals as goal
 
 pub loop-op-preserved : goal.loop-op-preserved

@@ -1,7 +1,7 @@
 use Rattle.std.proofs.Common.{◌≡◌, ◌++◌, drop, not}
 use Rattle.std.specs.Prelude.{filter}
 use Rattle.spelling_spec.specs.Names.{is_empty}
-use Rattle.script_reader.specs.Reading.{lent}
+use Rattle.script_words.specs.Reading.{lent}
 use Rattle.script_reader.proofs.line.push_filled.Given as goal
 
 -- the words so far and the parts that are left, without empty ones, make the whole

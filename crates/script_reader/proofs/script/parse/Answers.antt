@@ -1,10 +1,10 @@
 use Rattle.std.proofs.Common.{◌≡◌, ◌∙◌, ℕ, List, ap, arith, length, subst, sym}
 use Rattle.session_spec.specs.ScriptText.{IsFirstBad, IsScript, Parts}
 use Rattle.session_spec.specs.declared.script.ScriptLine.{ScriptLine}
-use Rattle.script_reader.specs.Reading.{lent}
+use Rattle.script_words.specs.Reading.{lent}
 use Rattle.script_reader.specs.declared.script.ScriptError.{ScriptError}
 use Rattle.script_reader.specs.declared.script.ScriptError.TheVariants.{BadLine}
-use Rattle.script_reader.proofs.Answering.{error_on}
+use Rattle.script_words.proofs.Answering.{error_on}
 use Rattle.script_reader.proofs.ProgressLemmas.{few_lines, first_bad, is_script, length_lent, script_text}
 use Rattle.script_reader.proofs.script.parse.Goals as goal
 

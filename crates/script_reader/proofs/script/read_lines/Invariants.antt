@@ -1,6 +1,6 @@
 use Rattle.std.proofs.Common.{◌≡◌, take}
 use Rattle.script_reader.specs.Line.{AreRead, place_of}
-use Rattle.script_reader.specs.Reading.{lent}
+use Rattle.script_words.specs.Reading.{lent}
 use Rattle.script_reader.proofs.script.read_lines.Given as goal
 
 -- the lines so far were read

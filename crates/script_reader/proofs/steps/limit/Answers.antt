@@ -1,10 +1,10 @@
 use Rattle.std.proofs.Common.{◌∙◌, ℕ, sym}
 use Rattle.std.specs.Prelude.{Option}
 use Rattle.session_spec.specs.Pieces.{SpellPieces}
-use Rattle.script_reader.specs.Reading.{lent}
-use Rattle.script_reader.specs.Verbs.{limit_pieces}
-use Rattle.script_reader.proofs.Answering.{hand_on}
-use Rattle.script_reader.proofs.FrontLemmas.{no_limit}
+use Rattle.script_words.specs.Reading.{lent}
+use Rattle.script_reader.specs.Steps.{limit_pieces}
+use Rattle.script_words.proofs.Answering.{hand_on}
+use Rattle.script_reader.proofs.StepLemmas.{no_limit}
 use Rattle.script_reader.proofs.steps.limit.Goals as goal
 
 pub returns-in_err-counted_limit : goal.returns-in_err-counted_limit

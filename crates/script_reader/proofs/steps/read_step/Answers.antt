@@ -1,4 +1,4 @@
-use Rattle.script_reader.specs.Reading.{lent}
+use Rattle.script_words.specs.Reading.{lent}
 use Rattle.script_reader.proofs.StepLemmas.{step_read, step_sayable, unknown_says}
 use Rattle.script_reader.proofs.steps.read_step.Goals as goal
 

@@ -1,0 +1,146 @@
+//! The files of a command, read in the order of the words.
+ghost use Rattle.std.specs.Prelude.{◌≡◌, ◌≤◌, ◌+◌, ◌^◌, ◌<◌, ℕ, List, IfErr, IfOk, IfSome, MatchResult, length, vec_len};
+ghost use Rattle.netlist_schema.specs.declared.limits.TheConstants.{MOST_FILE_BYTES as MOST_DESIGN_BYTES};
+ghost use Rattle.netdb_outside.specs.Contents.{IsReadWhole};
+ghost use Rattle.netdb_outside.specs.Outside.{SameFiles};
+ghost use Rattle.joint_spec.specs.Scripts.{all_steps};
+ghost use Rattle.session_spec.specs.ScriptText.{steps_of};
+ghost use Rattle.design_file.specs.Files.{IsDesignFile, IsWrong};
+ghost use Rattle.design_file.specs.Reader.{WasFed};
+ghost use Rattle.design_file.specs.Steps.{Says};
+ghost use Rattle.call_words.specs.Command.{spelled};
+ghost use Rattle.call_spec.specs.Counts.{CountsReading};
+ghost use Rattle.call_spec.specs.Refusals.{RefusesDesign, RefusesFile, RefusesScript, RefusesScripts};
+ghost use Rattle.call_spec.specs.Steps.{IsNoDesign, IsNoScript, status_of};
+ghost use Rattle.call_spec.specs.Told.{AreRead, IsFile, IsLastRead, IsRead, IsReadThrough, IsScriptFile};
+
+use call_spec::{MOST_SCRIPT_BYTES, Status};
+use design_file::{DesignReader, NoDesign};
+use netdb_outside::{Contents, Ended, Files, read_file, read_pieces};
+use netlist_schema::limits::MOST_FILE_BYTES;
+use netlist_schema::{Design, Text};
+use script_reader::{ScriptError, parse};
+use session_spec::Script;
+use std::alloc::Global;
+
+/// The position of the design file's name among the words.
+const FILE_WORD: u32 = 1;
+
+/// The position of the first script's name among the words.
+const SCRIPT_WORD: u32 = 2;
+
+/// Reads a file whole, within a limit, or tells the status that refuses it.
+fn read_whole<F: Files>(
+    alloc: Global,
+    files: &mut F,
+    name: &str,
+    word: u32,
+    limit: u64,
+) -> Result<Text, Status>
+    ensures read { IfOk result (λ bytes. (length bytes ≤ limit) × IfSome (F.told files.new) (λ shelf. IsReadWhole shelf name.now bytes)) }
+    ensures refused { IfErr result (RefusesFile (F.told files.new) name.now word limit) }
+    ensures counts { CountsReading (F.faults files.old) (F.faults files.new) (status_of result) }
+    ensures files { SameFiles (F.told files.old) (F.told files.new) }
+{
+    match read_file(alloc, files, name, limit) {
+        Contents::Bytes(text) => Ok(text),
+        Contents::TooLarge => Err(Status::TooLarge { word }),
+        Contents::Missing => Err(Status::Missing { word }),
+        Contents::Failed => Err(Status::ReadFault { word }),
+        Contents::NoMemory => Err(Status::NoMemory),
+    }
+}
+
+/// The status of a file of which this is wrong, or of want of memory.
+fn refused_by(error: NoDesign) -> Status
+    ensures { (bytes : List ℕ) → Says (IsWrong bytes) error → IsNoDesign bytes result }
+{
+    match error {
+        NoDesign::Fault(fault) => Status::BadEdif { fault },
+        NoDesign::NoMemory => Status::NoMemory,
+    }
+}
+
+/// The design of a file whose bytes a reader was fed, or the status that refuses it.
+fn design_of(reader: DesignReader) -> Result<Design, Status>
+    ensures { (fed : List ℕ) → WasFed reader fed → length fed ≤ MOST_DESIGN_BYTES → MatchResult result (IsDesignFile fed) (IsNoDesign fed) }
+{
+    match reader.finish() {
+        Ok(design) => Ok(design),
+        Err(error) => Err(refused_by(error)),
+    }
+}
+
+/// Reads the design of a file piece by piece, or tells the status that refuses it.
+pub fn read_design<F: Files>(alloc: Global, files: &mut F, name: &str) -> Result<Design, Status>
+    ensures read { IfOk result (λ d. IsRead (F.told files.new) name.now d × IsReadThrough (F.told files.new) name.now MOST_DESIGN_BYTES) }
+    ensures refused { IfErr result (RefusesDesign (F.told files.new) name.now) }
+    ensures counts { CountsReading (F.faults files.old) (F.faults files.new) (status_of result) }
+    ensures files { SameFiles (F.told files.old) (F.told files.new) }
+{
+    let word = FILE_WORD;
+    let mut reader = DesignReader::new(alloc);
+    match read_pieces(alloc, files, name, MOST_FILE_BYTES, &mut reader) {
+        Ended::Whole => design_of(reader),
+        Ended::TooLarge => Err(Status::TooLarge { word }),
+        Ended::Missing => Err(Status::Missing { word }),
+        Ended::Failed => Err(Status::ReadFault { word }),
+        Ended::NoMemory => Err(Status::NoMemory),
+    }
+}
+
+/// The script that a text is, or the status that refuses it.
+fn script_of(alloc: Global, bytes: &[u8], word: u32) -> Result<Script, Status>
+    requires { length bytes.now ≤ MOST_SCRIPT_BYTES }
+    ensures { MatchResult result (λ script. IsScriptFile bytes.now (steps_of script.lines)) (IsNoScript bytes.now word) }
+{
+    match parse(alloc, bytes) {
+        Ok(script) => Ok(script),
+        Err(ScriptError::BadLine(line)) => Err(Status::BadScript { word, line }),
+        Err(ScriptError::NoMemory) => Err(Status::NoMemory),
+    }
+}
+
+/// Reads the script of a file, or tells the status that refuses it.
+fn read_script<F: Files>(
+    alloc: Global,
+    files: &mut F,
+    name: &str,
+    word: u32,
+) -> Result<Script, Status>
+    ensures read { IfOk result (λ script. IsFile (F.told files.new) name.now (λ bytes. IsScriptFile bytes (steps_of script.lines)) × IsReadThrough (F.told files.new) name.now MOST_SCRIPT_BYTES) }
+    ensures refused { IfErr result (RefusesScript (F.told files.new) name.now word) }
+    ensures counts { CountsReading (F.faults files.old) (F.faults files.new) (status_of result) }
+    ensures files { SameFiles (F.told files.old) (F.told files.new) }
+{
+    match read_whole(alloc, files, name, word, MOST_SCRIPT_BYTES) {
+        Ok(text) => script_of(alloc, text.as_slice(), word),
+        Err(status) => Err(status),
+    }
+}
+
+/// Reads the scripts of files in their order, or tells the status that refuses the first that is none.
+pub fn read_scripts<F: Files>(
+    alloc: Global,
+    files: &mut F,
+    names: &[String],
+) -> Result<Vec<Script>, Status>
+    requires { length names.now ≤ 64 }
+    ensures read { IfOk result (λ scripts. AreRead (F.told files.new) (spelled names.now) (all_steps scripts.items) × IsLastRead (F.told files.new) (spelled names.now)) }
+    ensures many { IfOk result (λ scripts. vec_len scripts ≡ length names.now) }
+    ensures refused { IfErr result (RefusesScripts (F.told files.new) (spelled names.now) 2) }
+    ensures counts { CountsReading (F.faults files.old) (F.faults files.new) (status_of result) }
+    ensures files { SameFiles (F.told files.old) (F.told files.new) }
+{
+    let mut scripts = Vec::new(alloc);
+    for (place, name) in names.iter().enumerate() {
+        let script = match read_script(alloc, files, name.as_str(), place as u32 + SCRIPT_WORD) {
+            Ok(script) => script,
+            Err(status) => return Err(status),
+        };
+        if scripts.push(script).is_err() {
+            return Err(Status::NoMemory);
+        }
+    }
+    Ok(scripts)
+}

@@ -1,0 +1,6 @@
+//! What a call writes: of a design, of a run and of a generated run.
+#![tactic(auto)]
+
+pub mod outputs;
+
+pub use outputs::{write_output, write_report, write_summary};

@@ -1,0 +1,178 @@
+//! What is written of a design, of a run and of a generated run.
+ghost use Rattle.std.specs.Prelude.{◌≡◌, ◌≤◌, ◌↔◌, IsTrue, length};
+ghost use Rattle.std.specs.List.{list_any};
+ghost use Rattle.edif_spec.specs.Arranged.{canonical_text};
+ghost use Rattle.session_spec.specs.Headline.{CanWalk, SomeWalks};
+ghost use Rattle.joint_spec.specs.Scripts.{all_steps};
+ghost use Rattle.call_words.specs.Command.{IsSize};
+ghost use Rattle.call_output.specs.Gives.{OutputGives, RunGives, SummaryGives, TextGives};
+ghost use Rattle.call_spec.specs.Counts.{CountsWriting};
+ghost use Rattle.call_output.specs.Walks.{is_walk};
+
+use call_spec::Status;
+use call_words::Wanted;
+use edif_writer::write_design;
+use flat_out::{FlatError, write_flat, write_pin_table};
+use gen_run::summary;
+use netdb_outside::{Gate, Put, Sink, WriteError};
+use netlist_schema::{Design, Shown};
+use run_scripts::{RunEnd, write_run};
+use session_spec::{Script, Step};
+use std::alloc::Global;
+use std::sync::Wait;
+use std::thread::Threads;
+
+/// Writes the canonical text of a design.
+fn write_text<K: Sink>(alloc: Global, design: &Design, out: &mut K) -> Status
+    ensures gives { TextGives (canonical_text design.now) (K.written out.old) (K.written out.new) result }
+    ensures counts { CountsWriting (K.faults out.old) (K.faults out.new) result }
+{
+    match write_design(alloc, design, out) {
+        Ok(()) => Status::Ok,
+        Err(WriteError::WriteFault) => Status::WriteFault,
+        Err(WriteError::NoMemory) => Status::NoMemory,
+    }
+}
+
+/// The same limit in 64 bits.
+fn wide(limit: Option<u32>) -> Option<u64>
+    ensures { result ≡ limit }
+{
+    match limit {
+        Some(limit) => Some(u64::from(limit)),
+        None => None,
+    }
+}
+
+/// Writes the items of the flattening of a design, at most so many where there is a limit.
+fn write_items<K: Sink>(alloc: Global, design: &Design, limit: Option<u32>, out: &mut K) -> Status
+    ensures gives { OutputGives (Wanted.Items limit) design.now (K.written out.old) (K.written out.new) result }
+    ensures counts { CountsWriting (K.faults out.old) (K.faults out.new) result }
+{
+    match write_flat(alloc, design, wide(limit), out) {
+        Ok(()) => Status::Ok,
+        Err(FlatError::NoTop) => Status::NoTop,
+        Err(FlatError::WriteFault) => Status::WriteFault,
+        Err(FlatError::NoMemory) => Status::NoMemory,
+    }
+}
+
+/// Writes the pin table of a design.
+fn write_pins<K: Sink>(alloc: Global, design: &Design, out: &mut K) -> Status
+    ensures gives { OutputGives Wanted.Pins design.now (K.written out.old) (K.written out.new) result }
+    ensures counts { CountsWriting (K.faults out.old) (K.faults out.new) result }
+{
+    match write_pin_table(alloc, design, out) {
+        Ok(()) => Status::Ok,
+        Err(FlatError::NoTop) => Status::NoTop,
+        Err(FlatError::WriteFault) => Status::WriteFault,
+        Err(FlatError::NoMemory) => Status::NoMemory,
+    }
+}
+
+/// Writes what is wanted of a design.
+pub fn write_output<K: Sink>(alloc: Global, design: &Design, wanted: Wanted, out: &mut K) -> Status
+    ensures gives { OutputGives wanted design.now (K.written out.old) (K.written out.new) result }
+    ensures counts { CountsWriting (K.faults out.old) (K.faults out.new) result }
+{
+    match wanted {
+        Wanted::Text => write_text(alloc, design, out),
+        Wanted::Items { limit } => write_items(alloc, design, limit, out),
+        Wanted::Pins => write_pins(alloc, design, out),
+    }
+}
+
+/// Whether a step walks.
+fn is_walking(step: &Step) -> bool
+    ensures { result ≡ is_walk step.now }
+{
+    matches!(step, Step::Walk { .. })
+}
+
+/// Whether a script walks.
+fn walks(script: &Script) -> bool
+    ensures { result ≡ list_any (λ line. is_walk line.step) script.now.lines }
+{
+    script.lines().iter().any(|line| is_walking(&line.step))
+}
+
+/// Whether one of scripts walks.
+fn one_walks(scripts: &[Script]) -> bool
+    ensures { result ≡ list_any (λ script. list_any (λ line. is_walk line.step) script.lines) scripts.now }
+{
+    scripts.iter().any(|script| walks(script))
+}
+
+/// Whether some script walks.
+fn some_walks(scripts: &[Script]) -> bool
+    ensures { IsTrue result ↔ SomeWalks (all_steps scripts.now) }
+{
+    one_walks(scripts)
+}
+
+/// Runs scripts on a design, and writes the report.
+fn report<R: Threads + Wait + Sync, K: Sink, G: Gate + Sync>(
+    rt: &R,
+    alloc: Global,
+    design: Design,
+    scripts: &[Script],
+    gate: &G,
+    out: &mut K,
+) -> Status
+    requires many { (1 ≤ length scripts.now) × (length scripts.now ≤ 64) }
+    requires walks { CanWalk design (all_steps scripts.now) }
+    ensures gives { RunGives design (all_steps scripts.now) (K.written out.old) (K.written out.new) result }
+    ensures counts { CountsWriting (K.faults out.old) (K.faults out.new) result }
+{
+    match write_run(rt, alloc, design, scripts, gate, out) {
+        Ok(RunEnd::Whole) => Status::Ok,
+        Ok(RunEnd::LogFull) => Status::LogFull,
+        Err(WriteError::WriteFault) => Status::WriteFault,
+        Err(WriteError::NoMemory) => Status::NoMemory,
+    }
+}
+
+/// Runs scripts on a design and writes the report, unless one of them walks and the design has no top.
+pub fn write_report<R: Threads + Wait + Sync, K: Sink, G: Gate + Sync>(
+    rt: &R,
+    alloc: Global,
+    design: Design,
+    scripts: &[Script],
+    gate: &G,
+    out: &mut K,
+) -> Status
+    requires { (1 ≤ length scripts.now) × (length scripts.now ≤ 64) }
+    ensures gives { RunGives design (all_steps scripts.now) (K.written out.old) (K.written out.new) result }
+    ensures counts { CountsWriting (K.faults out.old) (K.faults out.new) result }
+{
+    if some_walks(scripts) {
+        if design.top().is_none() {
+            return Status::NoTop;
+        }
+    }
+    report(rt, alloc, design, scripts, gate, out)
+}
+
+/// Writes bytes as they are.
+fn put_bytes<K: Sink>(bytes: &[u8], out: &mut K) -> Status
+    ensures gives { TextGives bytes.now (K.written out.old) (K.written out.new) result }
+    ensures counts { CountsWriting (K.faults out.old) (K.faults out.new) result }
+{
+    match out.put(bytes) {
+        Put::Put => Status::Ok,
+        Put::Failed => Status::WriteFault,
+        Put::NoMemory => Status::NoMemory,
+    }
+}
+
+/// Writes the summary of a generated run.
+pub fn write_summary<K: Sink>(alloc: Global, size: u32, out: &mut K) -> Status
+    requires { IsSize size }
+    ensures gives { SummaryGives size (K.written out.old) (K.written out.new) result }
+    ensures counts { CountsWriting (K.faults out.old) (K.faults out.new) result }
+{
+    match summary(alloc, size) {
+        Ok(text) => put_bytes(text.as_slice(), out),
+        Err(_) => Status::NoMemory,
+    }
+}

@@ -1,0 +1,10 @@
+pub mod AddOps
+pub mod EndOps
+pub mod Missing
+pub mod NetOps
+pub mod NoteOps
+pub mod Planned
+pub mod PropOps
+pub mod ShowInst
+pub mod ShowNet
+pub mod Showing

@@ -1,0 +1,4 @@
+pub mod Commits
+pub mod Counted
+pub mod Steps
+pub mod Ends

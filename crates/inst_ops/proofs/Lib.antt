@@ -1,0 +1,2 @@
+pub mod DropOps
+pub mod InstOps

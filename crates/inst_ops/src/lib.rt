@@ -1,0 +1,4 @@
+//! The single operations on instances, over cells that are read and edited one by one.
+#![tactic(auto)]
+
+pub mod insts;

@@ -1,0 +1,141 @@
+//! Instances that are planned, and contents without one.
+ghost use Rattle.std.specs.Prelude.{◌≡◌, ◌++◌, [], ◌∷◌, filter, OnOk, IfOk, IfSome, List, MatchResult, Some, option_map, option_to_list};
+ghost use Rattle.std.specs.Option.{option_copied};
+ghost use Rattle.netlist_schema.specs.Design.{insts_in, nets_in};
+ghost use Rattle.netlist_schema.specs.declared.ids.Object.TheVariants.{Notes};
+ghost use Rattle.edit_core.specs.Edit.{noted};
+ghost use Rattle.edit_core.specs.Reading.{IsForNotes, IsReached, IsReachedBy};
+ghost use Rattle.edit_spec.specs.AddInst.{new_inst};
+ghost use Rattle.edit_spec.specs.DropInst.{end_without_inst, net_without_inst, set_notes, without_inst};
+ghost use Rattle.edit_core.specs.Rule.{first, is_leaf, no_inst, too_many};
+ghost use Rattle.edit_core.specs.Notes.{other_notes};
+ghost use Rattle.edit_spec.specs.Typed.{IsTypedOp};
+ghost use Rattle.cells_model.specs.Parts.{HasLimits};
+ghost use Rattle.cells_model.specs.State.{HasRead, HasReadSome};
+ghost use Rattle.eco_reads.specs.Done.{IsDoneOrFails};
+ghost use Rattle.inst_plans.specs.Insts.{is_other, more_insts, no_new_inst};
+ghost use Rattle.eco_reads.specs.Plan.{IsPlanned};
+
+use eco_reads::Plan;
+use eco_reads::find::{inst_place, is_inst_taken};
+use edit_spec::Reply;
+use netlist_schema::{CellId, Contents, Copied, End, Ident, Inst, Name, Net, NoMemory, Row};
+use std::alloc::Global;
+
+/// An instance of a cell, without properties.
+pub fn new_inst(alloc: Global, name: &Ident, of: CellId) -> Result<Inst, NoMemory>
+    ensures { IfOk result (λ made. made ≡ new_inst name.now of) }
+{
+    Ok(Inst {
+        name: Name {
+            id: name.copy(alloc)?,
+            shown: None,
+        },
+        of,
+        designator: None,
+        properties: Row::of(Vec::new(alloc)),
+    })
+}
+
+/// One more instance in these contents, or why there is none.
+#[tactic(auto, using(crate::proofs::InstsPlanned::too_many_insts, crate::proofs::InstsPlanned::inst_planned))]
+pub fn plan_inst(
+    alloc: Global,
+    contents: Option<&Contents>,
+    inst: &Ident,
+    of: CellId,
+    later: bool,
+    cyclic: bool,
+) -> Result<Result<Plan, Reply>, NoMemory>
+    ensures { let old = option_copied contents.entry in
+        IfOk result (IsPlanned old (first (no_new_inst old inst.now later cyclic)) (more_insts inst.now of old)) }
+{
+    let Some(contents) = contents else {
+        return Ok(Err(Reply::IsLeaf));
+    };
+    if is_inst_taken(&contents.insts, inst) {
+        return Ok(Err(Reply::Taken));
+    }
+    if later {
+        return Ok(Err(Reply::LaterLibrary));
+    }
+    if cyclic {
+        return Ok(Err(Reply::IsCyclic));
+    }
+    let place = contents.insts.as_slice().len();
+    if place >= 1_048_576 {
+        return Ok(Err(Reply::TooMany { limit: 1_048_576 }));
+    }
+    let inst = new_inst(alloc, inst, of)?;
+    Ok(Ok(Plan::Inst {
+        place: place as u32,
+        inst,
+    }))
+}
+
+/// The end as it is where an instance is gone: none at the instance, and one place forward at later ones.
+pub fn moved(place: u32, end: &End) -> Option<End>
+    ensures { option_to_list result ≡ end_without_inst place end.now }
+{
+    match end.inst {
+        None => Some(*end),
+        Some(i) => {
+            if i == place {
+                None
+            } else if place < i {
+                Some(End {
+                    inst: Some(i - 1),
+                    port: end.port,
+                    bit: end.bit,
+                })
+            } else {
+                Some(*end)
+            }
+        }
+    }
+}
+
+/// The net without the ends at an instance.
+pub fn net_without(alloc: Global, place: u32, net: &Net) -> Result<Net, NoMemory>
+    ensures { IfOk result (λ made. made ≡ net_without_inst place net.now) }
+{
+    let mut ends = Vec::new(alloc);
+    for end in net.ends.as_slice() {
+        if let Some(end) = moved(place, end) {
+            ends.push(end)?;
+        }
+    }
+    Ok(Net {
+        name: net.name.copy(alloc)?,
+        ends: Row::of(ends),
+        properties: net.properties.copy(alloc)?,
+    })
+}
+
+/// The contents without an instance, or why there are none.
+pub fn without_inst(
+    alloc: Global,
+    contents: Option<&Contents>,
+    inst: &Ident,
+) -> Result<Result<Plan, Reply>, NoMemory>
+    requires { IfSome contents (λ inside. HasLimits inside.now) }
+    ensures { let old = option_copied contents.entry in
+        IfOk result (IsPlanned old (first (no_inst old inst.now ∷ [])) (without_inst old inst.now)) }
+{
+    let Some(contents) = contents else {
+        return Ok(Err(Reply::NoInst));
+    };
+    let Some(place) = inst_place(&contents.insts, inst) else {
+        return Ok(Err(Reply::NoInst));
+    };
+    let mut insts = contents.insts.copy(alloc)?.into_vec();
+    let _gone = insts.remove(place);
+    let mut nets = Vec::new(alloc);
+    for net in contents.nets.as_slice() {
+        nets.push(net_without(alloc, place as u32, net)?)?;
+    }
+    Ok(Ok(Plan::Whole(Contents {
+        insts: Row::of(insts),
+        nets: Row::of(nets),
+    })))
+}

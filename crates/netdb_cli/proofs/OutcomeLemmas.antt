@@ -1,0 +1,77 @@
+-- What the outcome of a call says of its status and of what was counted.
+use Rattle.std.proofs.Common.{◌≡◌, ◌+◌, ◌∙◌, List, [], ◌∷◌, inl, inr, Option, sym, subst, arith}
+use Prim.Native.Nat.{ℕ}
+use Rattle.netlist_schema.specs.Design.{Design}
+use Rattle.netdb_outside.specs.Outside.{Shelf}
+use Rattle.session_spec.specs.declared.script.Step.{Step}
+use Rattle.call_words.specs.Command.{Request, Show, Run, Generate}
+use Rattle.call_words.specs.declared.command.Wanted.{Wanted}
+use Rattle.call_spec.specs.Counts.{CountsWriting}
+use Rattle.call_spec.specs.Refusals.{RefusesDesign, RefusesScript, RefusesScripts}
+use Rattle.call_spec.specs.declared.status.Status.{Status}
+use Rattle.call_spec.specs.declared.status.Status.TheVariants as status
+use Rattle.call_output.specs.Gives.{OutputGives, RunGives, SummaryGives, TextGives}
+use Rattle.call_output.specs.Output.{output, HasTop}
+use Rattle.netdb_cli.specs.Outcome.{Gives, ReadGives}
+
+-- a text of a design that has all that is wanted
+pub served : (wanted : Wanted) (d : Design) (old new : Option (List ℕ)) (result : Status) → HasTop wanted d → TextGives (output wanted d) old new result → OutputGives wanted d old new result
+served wanted d old new status.Ok top h = (top, h)
+served wanted d old new status.Usage top h = absurd h
+served wanted d old new (status.Missing word) top h = absurd h
+served wanted d old new (status.ReadFault word) top h = absurd h
+served wanted d old new status.WriteFault top h = (top, h)
+served wanted d old new (status.BadEdif fault) top h = absurd h
+served wanted d old new (status.BadScript word line) top h = absurd h
+served wanted d old new (status.TooLarge word) top h = absurd h
+served wanted d old new status.NoTop top h = absurd h
+served wanted d old new status.LogFull top h = absurd h
+served wanted d old new status.NoMemory top h = (top, h)
+
+-- what was written is no fault in reading
+pub text_is_no_fault : (text : List ℕ) (old new : Option (List ℕ)) (word : ℕ) (result : Status) → TextGives text old new result → result ≡ status.ReadFault word → ⊥
+text_is_no_fault text old new word result h is = subst (λ (s : Status). TextGives text old new s) is h
+
+pub output_is_no_fault : (wanted : Wanted) (d : Design) (old new : Option (List ℕ)) (word : ℕ) (result : Status) → OutputGives wanted d old new result → result ≡ status.ReadFault word → ⊥
+output_is_no_fault wanted d old new word result h is = (subst (λ (s : Status). OutputGives wanted d old new s) is h).1
+
+pub run_is_no_fault : (d : Design) (scripts : List (List Step)) (old new : Option (List ℕ)) (word : ℕ) (result : Status) → RunGives d scripts old new result → result ≡ status.ReadFault word → ⊥
+run_is_no_fault d scripts old new word result h is = subst (λ (s : Status). RunGives d scripts old new s) is h
+
+pub summary_is_no_fault : (n : ℕ) (old new : Option (List ℕ)) (word : ℕ) (result : Status) → SummaryGives n old new result → result ≡ status.ReadFault word → ⊥
+summary_is_no_fault n old new word result (inl h) is = absurd (cc (sym h.0 ∙ is))
+summary_is_no_fault n old new word result (inr h) is = text_is_no_fault h.0 old new word result h.2 is
+
+-- a refusal is no fault in writing
+pub design_is_no_fault : (told : Option Shelf) (name : List ℕ) (result : Status) → RefusesDesign told name result → result ≡ status.WriteFault → ⊥
+design_is_no_fault told name result h is = subst (λ (s : Status). RefusesDesign told name s) is h
+
+pub scripts_are_no_fault : (told : Option Shelf) (names : List (List ℕ)) (at : ℕ) (result : Status) → RefusesScripts told names at result → result ≡ status.WriteFault → ⊥
+scripts_are_no_fault told [] at result h is = h
+scripts_are_no_fault told (name ∷ names) at result (inl h) is = subst (λ (s : Status). RefusesScript told name at s) is h
+scripts_are_no_fault told (name ∷ names) at result (inr h) is = scripts_are_no_fault told names (at + 1) result h.2 is
+
+-- what a command gives is not that its words are none
+scripts_are_words : (told : Option Shelf) (names : List (List ℕ)) (at : ℕ) → RefusesScripts told names at status.Usage → ⊥
+scripts_are_words told [] at h = h
+scripts_are_words told (name ∷ names) at (inl h) = h
+scripts_are_words told (name ∷ names) at (inr h) = scripts_are_words told names (at + 1) h.2
+
+read_is_words : (d : Design) (names : List (List ℕ)) (told : Option Shelf) (old new : Option (List ℕ)) → ReadGives d names told old new status.Usage → ⊥
+read_is_words d names told old new (inl h) = scripts_are_words told names 2 h.0
+read_is_words d names told old new (inr h) = h.3
+
+are_words : (request : Request) (told : Option Shelf) (old new : Option (List ℕ)) → Gives request told old new status.Usage → ⊥
+are_words (Show name wanted) told old new (inl h) = h.0
+are_words (Show name wanted) told old new (inr h) = h.3.1
+are_words (Run name names) told old new (inl h) = h.0
+are_words (Run name names) told old new (inr h) = read_is_words h.0 names told old new h.2
+are_words (Generate n) told old new (inl h) = absurd (cc (h.0))
+are_words (Generate n) told old new (inr h) = h.2
+
+pub never_usage : (request : Request) (told : Option Shelf) (old new : Option (List ℕ)) (result : Status) → Gives request told old new result → result ≡ status.Usage → ⊥
+never_usage request told old new result h is = are_words request told old new (subst (λ (s : Status). Gives request told old new s) is h)
+
+-- nothing was written, and no fault counted
+pub nothing_counted : (count : ℕ) (result : Status) → (result ≡ status.WriteFault → ⊥) → CountsWriting count count result
+nothing_counted count result none = record { fault = λ is. absurd (none is); never_falls = omega arith }

@@ -1,0 +1,4 @@
+pub mod Front
+pub mod Pieces
+pub mod Values
+pub mod Verbs

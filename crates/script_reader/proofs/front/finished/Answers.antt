@@ -1,6 +1,0 @@
-use Rattle.std.proofs.Common.{◌∙◌, sym}
-use Rattle.script_reader.proofs.FrontLemmas.{some_words}
-use Rattle.script_reader.proofs.front.finished.Goals as goal
-
-pub returns : goal.returns
-returns c = some_words c.args.words.now (sym c.is_empty.ensures ∙ c.if-is_empty.false)

@@ -1,7 +1,0 @@
-use Rattle.std.proofs.Common.{map, ap, sym, ◌∙◌}
-use Rattle.script_reader.proofs.PieceLemmas.{port_read}
-use Rattle.script_reader.specs.Reading.{lent}
-use Rattle.script_reader.proofs.pieces.port.Goals as goal
-
-pub returns : goal.returns
-returns c = port_read c.args.word.now (lent c.as_slice.result.now) (ap lent c.as_slice.ensures.value ∙ c.in_ok-parts.ensures) c.port_of.result c.port_of.ensures
