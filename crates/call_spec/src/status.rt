@@ -4,7 +4,7 @@ ghost use Rattle.std.specs.Prelude.{◌≡◌};
 use design_file::EdifFault;
 
 /// The status of a call. `word` is the position of a file's name among the words, from 0.
-#[derive(Debug, PartialEq, Eq, Drop)]
+#[derive(Debug, PartialEq, Eq)]
 pub enum Status {
     /// All was read and written.
     Ok,
@@ -28,6 +28,24 @@ pub enum Status {
     LogFull,
     /// An allocation was refused.
     NoMemory,
+}
+
+impl Drop for Status {
+    fn drop(self) {
+        match self {
+            Status::Ok => {}
+            Status::Usage => {}
+            Status::Missing { word: _ } => {}
+            Status::ReadFault { word: _ } => {}
+            Status::WriteFault => {}
+            Status::BadEdif { fault: _ } => {}
+            Status::BadScript { word: _, line: _ } => {}
+            Status::TooLarge { word: _ } => {}
+            Status::NoTop => {}
+            Status::LogFull => {}
+            Status::NoMemory => {}
+        }
+    }
 }
 
 impl Status {

@@ -14,10 +14,15 @@ use netlist_schema::{CellId, NoMemory};
 use std::alloc::Global;
 
 /// Occurrences of blocks below a top, each put behind the one that holds it, and the names of their copies.
-#[derive(Drop)]
 pub struct Draft {
     pub spots: Vec<Spot>,
     pub namer: Namer,
+}
+
+impl Drop for Draft {
+    fn drop(self) {
+        let Draft { spots: _, namer: _ } = self;
+    }
 }
 
 impl Draft {

@@ -49,9 +49,14 @@ pub type Pass = TurnSeat<SharedCore>;
 /// A call with a pass waits for its turn. What the pass has seen is then the whole log, which is legal from the opening design,
 /// and goes on from what it had seen before; its own events there are those of its calls, each once. A call that is an event
 /// adds it to the log as its last one. After each call the pass is at rest: no other caller waits for it.
-#[derive(Drop)]
 pub struct Db {
     turn: Turn<SharedCore>,
+}
+
+impl Drop for Db {
+    fn drop(self) {
+        let Db { turn: _ } = self;
+    }
 }
 
 impl Model for Db {

@@ -4,7 +4,7 @@ use edif_spec::MeaningFault;
 use spelling_spec::TreeKind;
 
 /// What is wrong with a design file. A place counts the bytes before it.
-#[derive(Debug, PartialEq, Eq, Drop)]
+#[derive(Debug, PartialEq, Eq)]
 pub enum EdifFault {
     /// The first lexical fault of the file.
     Lex {
@@ -22,4 +22,14 @@ pub enum EdifFault {
     },
     /// A fault that stands in the tree of the file.
     Meaning(MeaningFault),
+}
+
+impl Drop for EdifFault {
+    fn drop(self) {
+        match self {
+            EdifFault::Lex { kind: _, place: _ } => {}
+            EdifFault::Tree { kind: _, place: _ } => {}
+            EdifFault::Meaning(_) => {}
+        }
+    }
 }

@@ -43,9 +43,14 @@ pub struct NoteParts<'a> {
 }
 
 /// Bytes that tell notes apart, no two equal, each with a place. Contracts see them in order.
-#[derive(Drop)]
 pub struct NoteKeys {
     places: IndexMap<Vec<u8>, u64>,
+}
+
+impl Drop for NoteKeys {
+    fn drop(self) {
+        let NoteKeys { places: _ } = self;
+    }
 }
 
 impl Model for NoteKeys {

@@ -30,9 +30,14 @@ struct Key {
 }
 
 /// The bits that nets have joined so far, each with the place of its end. Contracts see them in order.
-#[derive(Drop)]
 pub struct Joins {
     places: IndexMap<Key, u64>,
+}
+
+impl Drop for Joins {
+    fn drop(self) {
+        let Joins { places: _ } = self;
+    }
 }
 
 impl Model for Joins {

@@ -13,11 +13,20 @@ use std::alloc::Global;
 use std::marker::Model;
 
 /// A cell, with the names of its ports and of its instances. Contracts see the cell.
-#[derive(Drop)]
 pub struct KnownCell {
     body: CellBody,
     ports: Names,
     insts: Names,
+}
+
+impl Drop for KnownCell {
+    fn drop(self) {
+        let KnownCell {
+            body: _,
+            ports: _,
+            insts: _,
+        } = self;
+    }
 }
 
 impl Model for KnownCell {
@@ -61,11 +70,20 @@ impl KnownCell {
 }
 
 /// A library, with its cells so far and their names.
-#[derive(Drop)]
 pub struct KnownLib {
     head: LibHead,
     cells: Vec<KnownCell>,
     names: Names,
+}
+
+impl Drop for KnownLib {
+    fn drop(self) {
+        let KnownLib {
+            head: _,
+            cells: _,
+            names: _,
+        } = self;
+    }
 }
 
 impl Model for KnownLib {
@@ -184,11 +202,20 @@ fn push_within<T: Drop>(items: &mut Vec<T>, item: T)
 }
 
 /// The libraries that a file has defined so far. A cell is among them from the end of its form on, a library from its head on.
-#[derive(Drop)]
 pub struct Libraries {
     alloc: Global,
     libs: Vec<KnownLib>,
     names: Names,
+}
+
+impl Drop for Libraries {
+    fn drop(self) {
+        let Libraries {
+            alloc: _,
+            libs: _,
+            names: _,
+        } = self;
+    }
 }
 
 impl Model for Libraries {

@@ -64,10 +64,15 @@ fn read_rename(alloc: Global, node: Node<'_>) -> Result<NameAt, EdifError>
 }
 
 /// The names that a list of forms defines, no two equal byte for byte. Contracts see them in order, each with its place.
-#[derive(Drop)]
 pub struct Names {
     scope: Scope,
     count: u64,
+}
+
+impl Drop for Names {
+    fn drop(self) {
+        let Names { scope: _, count: _ } = self;
+    }
 }
 
 impl Model for Names {

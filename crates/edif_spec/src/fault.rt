@@ -44,7 +44,7 @@ pub enum ClashKind {
 }
 
 /// A fault of meaning. Places count the bytes before.
-#[derive(Debug, PartialEq, Eq, Drop)]
+#[derive(Debug, PartialEq, Eq)]
 pub enum MeaningFault {
     /// A form whose keyword its parent does not have, at its `(`.
     NotInProfile {
@@ -76,4 +76,22 @@ pub enum MeaningFault {
         /// The number of bytes before the first form beyond the limit.
         place: u64,
     },
+}
+
+impl Drop for MeaningFault {
+    fn drop(self) {
+        match self {
+            MeaningFault::NotInProfile {
+                keyword: _,
+                place: _,
+            } => {}
+            MeaningFault::At { kind: _, place: _ } => {}
+            MeaningFault::Clash {
+                kind: _,
+                place: _,
+                earlier: _,
+            } => {}
+            MeaningFault::OverLimit { limit: _, place: _ } => {}
+        }
+    }
 }

@@ -7,7 +7,7 @@ use netlist_schema::Row;
 use std::marker::Model;
 
 /// What a line of a script asks for. `docs/scripts.md` has the table of lines.
-#[derive(Debug, Drop)]
+#[derive(Debug)]
 pub enum Step {
     /// Pins the last version and begins a transaction. After a conflict it is run again, this often at most.
     Begin { retries: u32 },
@@ -29,21 +29,49 @@ pub enum Step {
     Collect,
 }
 
+impl Drop for Step {
+    fn drop(self) {
+        match self {
+            Step::Begin { retries: _ } => {}
+            Step::Run(_) => {}
+            Step::Commit => {}
+            Step::Abandon => {}
+            Step::Pin => {}
+            Step::PinAt(_) => {}
+            Step::Walk { limit: _ } => {}
+            Step::Release => {}
+            Step::Collect => {}
+        }
+    }
+}
+
 /// A line that is neither blank nor a comment. Lines count from 1.
-#[derive(Debug, Drop)]
+#[derive(Debug)]
 pub struct ScriptLine {
     pub number: u32,
     pub step: Step,
+}
+
+impl Drop for ScriptLine {
+    fn drop(self) {
+        let ScriptLine { number: _, step: _ } = self;
+    }
 }
 
 /// A script: its lines that are neither blank nor comments, in order, and the number of the text's last line, 0 for an empty text.
 ///
 /// The numbers of its lines rise, from at least 1 to at most the last line's; there are at most 262,144 lines; and each step can
 /// be said and may stand in its place.
-#[derive(Debug, Drop)]
+#[derive(Debug)]
 pub struct Script {
     lines: Row<ScriptLine>,
     last: u32,
+}
+
+impl Drop for Script {
+    fn drop(self) {
+        let Script { lines: _, last: _ } = self;
+    }
 }
 
 impl Model for Script {

@@ -9,12 +9,22 @@ use placed_notes::PlacedNotes;
 use std::alloc::Global;
 
 /// A design with a top, what is connected in the trees of its cells, and its notes by their paths.
-#[derive(Drop)]
 pub struct Ground<S: Shown + Drop> {
     pub alloc: Global,
     pub design: S,
     pub classes: Classes,
     pub notes: PlacedNotes,
+}
+
+impl<S: Shown + Drop> Drop for Ground<S> {
+    fn drop(self) {
+        let Ground {
+            alloc: _,
+            design: _,
+            classes: _,
+            notes: _,
+        } = self;
+    }
 }
 
 impl<S: Shown + Drop> Ground<S> {

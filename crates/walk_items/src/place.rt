@@ -60,12 +60,22 @@ pub struct Parent<'a> {
 
 /// Where a walk stands: the occurrences from the top down to the parent of the one whose items it gives, that one, what it gives of
 /// it next, and the steps from the top to it.
-#[derive(Drop)]
 pub struct Place {
     pub above: Vec<Frame>,
     pub here: Frame,
     pub stage: Stage,
     pub path: Steps,
+}
+
+impl Drop for Place {
+    fn drop(self) {
+        let Place {
+            above: _,
+            here: _,
+            stage: _,
+            path: _,
+        } = self;
+    }
 }
 
 impl Place {
