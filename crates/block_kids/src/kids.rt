@@ -3,6 +3,7 @@ ghost use Rattle.std.specs.Prelude.{◌≡◌, ◌≤◌, ◌++◌, [], ◌∷�
 ghost use Rattle.std.specs.Option.{option_copied};
 ghost use Rattle.netlist_schema.specs.Design.{insts_in};
 ghost use Rattle.netlist_schema.specs.Hierarchy.{insts_at};
+ghost use Rattle.netlist_schema.specs.declared.limits.TheConstants.{MOST_INSTS};
 ghost use Rattle.uniquify_spec.specs.Blocks.{is_block};
 ghost use Rattle.cells_model.specs.Parts.{HasLimits};
 ghost use Rattle.cells_model.specs.State.{HasReadSome};
@@ -16,7 +17,7 @@ use std::alloc::Global;
 
 /// The instances of a list, with their places.
 fn steps_of(alloc: Global, insts: &Row<Inst>) -> Result<Vec<Step>, NoMemory>
-    requires { length insts.now ≤ 1048576 }
+    requires { length insts.now ≤ MOST_INSTS }
     ensures { IfOk result (λ steps. steps.items ≡ steps_of insts.now) }
 {
     let mut steps = Vec::new(alloc);

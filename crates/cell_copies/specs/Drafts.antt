@@ -3,6 +3,7 @@ use Rattle.std.specs.Prelude.{◌≡◌, ◌≤◌, ℕ, Bool, true, false, cond
 use Rattle.std.specs.List.{flat_map, list_any}
 use Rattle.netlist_schema.specs.Design.{Design}
 use Rattle.netlist_schema.specs.Types.{CellId}
+use Rattle.netlist_schema.specs.declared.limits.TheConstants.{MOST_CELLS}
 use Rattle.flat_spec.specs.Occurrences.{Occurrence}
 use Rattle.uniquify_spec.specs.Blocks.{root_of}
 use Rattle.uniquify_spec.specs.Copies.{Copy, copies_after, copy_after}
@@ -31,7 +32,7 @@ made_for d done = copies_after d [] (copied_of done)
 
 -- a copy would get a place that a library does not have
 abbrev pub has_no_room : List Copy → Bool
-has_no_room copies = list_any (λ copy. nat_le 65536 copy.id.slot) copies
+has_no_room copies = list_any (λ copy. nat_le MOST_CELLS copy.id.slot) copies
 
 -- each spot names the top or one before it
 abbrev pub NamesEarlier : List Spot → Type 0
@@ -57,7 +58,7 @@ IsMoreDraft d top done at copied draft = IsDraft d top (done ++ record { at = at
 -- it got a copy, or there is no room for that
 abbrev pub IsCopied : Design → CellId → List Marked → Occurrence → Draft → Bool → Type 0
 IsCopied d top done at draft true = IsMoreDraft d top done at true draft
-IsCopied d top done at draft false = 65536 ≤ (copy_after d (made_for d done) at).id.slot
+IsCopied d top done at draft false = MOST_CELLS ≤ (copy_after d (made_for d done) at).id.slot
 
 -- the occurrence with a number, of the top and those so far
 abbrev pub IsNumbered : CellId → List Marked → ℕ → Occurrence → Type 0

@@ -3,6 +3,7 @@ use Rattle.std.specs.Prelude.{◌≡◌, ◌≤◌, Bool, List, Option, is_none,
 use Rattle.std.specs.List.{flat_map}
 use Rattle.netlist_schema.specs.Design.{Design, cell_at}
 use Rattle.netlist_schema.specs.Types.{CellBody, CellId, CellKind, Contents, Name, Object, Port, Property}
+use Rattle.netlist_schema.specs.declared.limits.TheConstants.{MOST_ENDS, MOST_INSTS, MOST_NETS}
 use Rattle.edit_core.specs.Objects.{contents_object, face_object}
 use Rattle.cells_model.specs.declared.face.Face.{Face}
 
@@ -33,6 +34,6 @@ shown_by face = record { name = face.name.now; kind = face.kind; properties = fa
 
 -- the limits of what is inside a cell
 pub record HasLimits (contents : Contents) : Type 0 where
-  pub insts : length contents.insts ≤ 1048576
-  pub nets : length contents.nets ≤ 1048576
-  pub ends : length (flat_map (λ net. net.ends) contents.nets) ≤ 4194304
+  pub insts : length contents.insts ≤ MOST_INSTS
+  pub nets : length contents.nets ≤ MOST_NETS
+  pub ends : length (flat_map (λ net. net.ends) contents.nets) ≤ MOST_ENDS

@@ -8,6 +8,7 @@ ghost use Rattle.netlist_schema.specs.Design.{cell_at, cells_in, lib_at};
 ghost use Rattle.netlist_schema.specs.Names.{cell_names};
 ghost use Rattle.netlist_schema.specs.Valid.{IsValid, IsValidCell};
 ghost use Rattle.netlist_schema.specs.declared.ids.Object.TheVariants.{Directory, Notes};
+ghost use Rattle.netlist_schema.specs.declared.limits.TheConstants.{MOST_CELLS, MOST_PORTS};
 ghost use Rattle.edit_core.specs.Edit.{edited};
 ghost use Rattle.edit_core.specs.Find.{cell_in, is_same, lib_named};
 ghost use Rattle.edit_core.specs.Reading.{IsFor};
@@ -52,7 +53,7 @@ pub trait Cells {
     /// The number of cells of a library, 0 where there is none. It reads the directory.
     fn count(&mut self, lib: LibId) -> Result<u32, NoMemory>
         ensures value { IfOk result (λ n. n ≡ length (cells_in (state self.old).design lib)) }
-        ensures limit { IfOk result (λ n. n ≤ 65536) }
+        ensures limit { IfOk result (λ n. n ≤ MOST_CELLS) }
         ensures reads { ReadsOrFails result (state self.old) (state self.new) (λ o. o ≡ Directory lib) };
 
     /// Whether no cell of the library has this name, where the case of ASCII letters is ignored. It reads the directory.
@@ -63,7 +64,7 @@ pub trait Cells {
     /// What is seen of a cell from outside: `None` exactly where there is no such cell.
     fn face(&mut self, id: CellId) -> Result<Option<Face<'_>>, NoMemory>
         ensures found { IfOk result (λ found. option_map shown_by found ≡ seen_at (state self.old).design id) }
-        ensures limit { IfOk result (λ found. IfSome found (λ face. length face.ports.now ≤ 65536)) }
+        ensures limit { IfOk result (λ found. IfSome found (λ face. length face.ports.now ≤ MOST_PORTS)) }
         ensures* reads { sem 𝓛 (Rests Self.row self.entry (λ new. ReadsOrFails result (state self.old) (state new) (IsFace id))) };
 
     /// What is inside a cell: `None` exactly where there is no such cell, or it is a leaf.

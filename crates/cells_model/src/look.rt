@@ -3,6 +3,7 @@ ghost use Rattle.std.specs.Prelude.{◌≡◌, ◌≤◌, ◌↔◌, IfSome, len
 ghost use Rattle.std.specs.Option.{option_copied, option_map};
 ghost use Rattle.netlist_schema.specs.Limits.{IsCellWithinLimits};
 ghost use Rattle.netlist_schema.specs.Types.{Object};
+ghost use Rattle.netlist_schema.specs.declared.limits.TheConstants.{MOST_PORTS};
 ghost use Rattle.edit_core.specs.Reading.{IsFor};
 ghost use Rattle.edit_core.specs.Seen.{contents_at};
 ghost use Rattle.cells_model.specs.Parts.{HasLimits, seen_at, seen_of, shown_by};
@@ -28,7 +29,7 @@ pub fn seen(body: &CellBody) -> Face<'_>
 #[tactic(auto, using(crate::proofs::Looks::found_face, crate::proofs::Looks::no_face))]
 pub fn face_of(design: &Design, id: CellId) -> Option<Face<'_>>
     ensures found { option_map shown_by result ≡ seen_at design.now id }
-    ensures limit { IfSome result (λ face. length face.ports.now ≤ 65536) }
+    ensures limit { IfSome result (λ face. length face.ports.now ≤ MOST_PORTS) }
 {
     match design.cell(id) {
         Some(body) => Some(seen(body)),

@@ -5,6 +5,7 @@ ghost use Rattle.std.specs.Option.{option_copied};
 ghost use Rattle.netlist_schema.specs.Design.{cells_in, lib_at};
 ghost use Rattle.netlist_schema.specs.Names.{cell_names};
 ghost use Rattle.netlist_schema.specs.Valid.{IsValid};
+ghost use Rattle.netlist_schema.specs.declared.limits.TheConstants.{MOST_CELLS};
 ghost use Rattle.edit_core.specs.Find.{cell_in, is_name, is_same, lib_named, place_of};
 
 use netlist_schema::{CellBody, CellId, Design, Ident, Lib, LibId, Row};
@@ -32,7 +33,7 @@ fn cell_position(cells: &Row<CellBody>, name: &Ident) -> Option<usize>
 #[tactic(auto, using(crate::proofs::Places::few_cells))]
 fn lib_at(design: &Design, lib: LibId) -> Option<&Lib>
     ensures value { option_copied result ≡ lib_at design.now lib }
-    ensures few { IfSome result (λ found. length found.now.cells ≤ 65536) }
+    ensures few { IfSome result (λ found. length found.now.cells ≤ MOST_CELLS) }
 {
     design.libs().as_slice().get(lib.0 as usize)
 }

@@ -8,6 +8,7 @@ use Rattle.std.specs.Ordering.{nat_cmp, ordering_then}
 use Rattle.std.specs.declared.cmp.Ordering.{Ordering}
 use Rattle.netlist_schema.specs.Design.{Design, cells_in}
 use Rattle.netlist_schema.specs.Types.{CellId, LibId}
+use Rattle.netlist_schema.specs.declared.limits.TheConstants.{MOST_CELLS}
 use Rattle.edit_core.specs.Find.{is_same}
 use Rattle.uniquify_spec.specs.Copies.{Copy, copies_in, copy_name, is_free, names_with, name_at, numbered}
 use Rattle.copy_names.specs.declared.namer.Namer.{Namer}
@@ -54,13 +55,13 @@ copy_at path of twin = record { path = path; of = of; id = twin.id; name = twin.
 pub record IsNextTwin (d : Design) (made : List Copy) (of : CellId) (new : Namer) (twin : Twin) : Type 0 where
   pub id : twin.id ≡ record { lib = of.lib; slot = length (names_with d made of.lib) }
   pub name : twin.name ≡ copy_name (names_with d made of.lib) (name_at d of)
-  pub room : twin.id.slot < 65536
+  pub room : twin.id.slot < MOST_CELLS
   pub known : (path : List ℕ) → AreKnown d (made ++ copy_at path of twin ∷ []) new
 
 -- the next copy, or none where the library has no room
 abbrev pub IsNext : Design → List Copy → CellId → Namer → Option Twin → Type 0
 IsNext d made of new (Some twin) = IsNextTwin d made of new twin
-IsNext d made of new None = 65536 ≤ length (names_with d made of.lib)
+IsNext d made of new None = MOST_CELLS ≤ length (names_with d made of.lib)
 
 -- the number is the first from another on with which an identifier is free in a directory
 pub record IsFirstFree (names : List (List ℕ)) (id : List ℕ) (from n : ℕ) : Type 0 where

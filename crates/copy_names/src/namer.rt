@@ -12,6 +12,7 @@ ghost use Rattle.copy_names.specs.Known.{AreKnown, IsNext, count_of, next_of, st
 use crate::numbers::{Stem, numbered_text, stem_of};
 use crate::seek::{count_of, first_free, name_of};
 use cells_model::Cells;
+use netlist_schema::limits::MOST_CELLS;
 use netlist_schema::{CellId, LibId, Name, NoMemory};
 use std::alloc::Global;
 use std::collections::BTreeMap;
@@ -24,12 +25,20 @@ pub struct Twin {
 }
 
 /// What is kept of the copies that got places and names so far.
-#[derive(Drop)]
 pub struct Namer {
     /// The number of names of each library that has a copy, by the place of the library.
     slots: BTreeMap<u32, u32>,
     /// The next number of each identifier in lower case that was copied.
     numbers: BTreeMap<Stem, u64>,
+}
+
+impl Drop for Namer {
+    fn drop(self) {
+        let Namer {
+            slots: _,
+            numbers: _,
+        } = self;
+    }
 }
 
 impl Namer {
@@ -89,7 +98,7 @@ impl Namer {
         ensures some { HasReadSome (C.state cells.old) (C.state cells.new) }
     {
         let slot = self.next_slot(cells, of.lib)?;
-        if slot >= 65536 {
+        if slot as usize >= MOST_CELLS {
             return Ok(None);
         }
         let name = name_of(alloc, cells, of)?;

@@ -2,6 +2,7 @@
 use Rattle.std.specs.Prelude.{◌==◌, ◌&&◌, ◌++◌, ℕ, Bool, not, nat_le, is_none, List, [], ◌∷◌, Option, slice_set, remove, length}
 use Rattle.std.specs.Option.{option_map_or}
 use Rattle.netlist_schema.specs.Types.{Note, Property}
+use Rattle.netlist_schema.specs.declared.limits.TheConstants.{MOST_NOTES}
 use Rattle.edit_core.specs.Notes.{note_place}
 use Rattle.edit_core.specs.Rule.{refuse}
 use Rattle.edit_core.specs.declared.reply.Reply.{Reply}
@@ -16,7 +17,7 @@ note_set notes path property =
 -- the refusals to set it, where there is a top from which the path leads or not
 abbrev pub no_note_set : Bool → List Note → List (List ℕ) → Property → List (Option Reply)
 no_note_set leads notes path property =
-    refuse (not (not (length path == 0) && leads)) NoPath ∷ refuse (is_none (note_place path property.key.id notes) && nat_le 1048576 (length notes)) (TooMany 1048576) ∷ []
+    refuse (not (not (length path == 0) && leads)) NoPath ∷ refuse (is_none (note_place path property.key.id notes) && nat_le MOST_NOTES (length notes)) (TooMany MOST_NOTES) ∷ []
 
 -- the note of this path and key is gone, and the refusal where there is none
 abbrev pub note_dropped : List Note → List (List ℕ) → List ℕ → List Note

@@ -2,6 +2,7 @@
 ghost use Rattle.std.specs.Prelude.{◌≡◌, ◌≤◌, ◌<◌, ◌+◌, drop, IfOk, codes, length, map, not, sum_by};
 ghost use Rattle.std.specs.List.{list_any};
 ghost use Rattle.netlist_schema.specs.Design.{port_width};
+ghost use Rattle.netlist_schema.specs.declared.limits.TheConstants.{MOST_PORTS, MOST_WIDTH};
 ghost use Rattle.edit_core.specs.Find.{is_same};
 ghost use Rattle.edit_core.specs.Rule.{first};
 ghost use Rattle.edit_spec.specs.AddCell.{has_twice, new_cell, new_port};
@@ -11,6 +12,7 @@ ghost use Rattle.eco_plans.specs.Add.{IsCellPlanned, no_new_cell};
 
 use eco_reads::find::is_same;
 use edit_spec::{PortDecl, Reply};
+use netlist_schema::limits::{MOST_BITS, MOST_CELLS, MOST_PORTS};
 use netlist_schema::{CellBody, CellKind, Contents, Copied, Ident, Name, NoMemory, Port, Row};
 use std::alloc::Global;
 
@@ -46,7 +48,7 @@ pub fn has_twice(ports: &[PortDecl]) -> bool
 /// The number of bits of a new port.
 pub fn port_bits(port: &PortDecl) -> u64
     ensures value { result ≡ port_width (new_port port.now) }
-    ensures limit { result ≤ 65536 }
+    ensures limit { result ≤ MOST_WIDTH }
 {
     match &port.array {
         Some(width) => u64::from(width.get()),
@@ -56,7 +58,7 @@ pub fn port_bits(port: &PortDecl) -> u64
 
 /// The number of bits of these ports.
 pub fn bit_count(ports: &[PortDecl]) -> u64
-    requires { length ports.now ≤ 65536 }
+    requires { length ports.now ≤ MOST_PORTS }
     ensures { result ≡ sum_by port_width (map new_port ports.now) }
 {
     let mut bits = 0u64;
@@ -154,14 +156,18 @@ pub fn plan_cell(
     if has_twice(ports) {
         return Ok(Err(Reply::Taken));
     }
-    if count >= 65_536 {
-        return Ok(Err(Reply::TooMany { limit: 65_536 }));
+    if count as usize >= MOST_CELLS {
+        return Ok(Err(Reply::TooMany {
+            limit: MOST_CELLS as u64,
+        }));
     }
-    if ports.len() > 65_536 {
-        return Ok(Err(Reply::TooMany { limit: 65_536 }));
+    if ports.len() > MOST_PORTS {
+        return Ok(Err(Reply::TooMany {
+            limit: MOST_PORTS as u64,
+        }));
     }
-    if bit_count(ports) > 1_048_576 {
-        return Ok(Err(Reply::TooMany { limit: 1_048_576 }));
+    if bit_count(ports) > MOST_BITS {
+        return Ok(Err(Reply::TooMany { limit: MOST_BITS }));
     }
     Ok(Ok(new_cell(alloc, name, leaf, ports)?))
 }

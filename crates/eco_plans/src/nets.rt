@@ -13,6 +13,7 @@ ghost use Rattle.eco_reads.specs.Plan.{IsPlanned};
 use eco_reads::Plan;
 use eco_reads::find::{is_net_taken, net_place};
 use edit_spec::Reply;
+use netlist_schema::limits::MOST_NETS;
 use netlist_schema::{Contents, Copied, Ident, Name, Net, NoMemory, Row};
 use std::alloc::Global;
 
@@ -47,8 +48,10 @@ pub fn plan_net(
         return Ok(Err(Reply::Taken));
     }
     let place = contents.nets.as_slice().len();
-    if place >= 1_048_576 {
-        return Ok(Err(Reply::TooMany { limit: 1_048_576 }));
+    if place >= MOST_NETS {
+        return Ok(Err(Reply::TooMany {
+            limit: MOST_NETS as u64,
+        }));
     }
     let net = new_net(alloc, net)?;
     Ok(Ok(Plan::Net {

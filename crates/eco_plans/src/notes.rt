@@ -10,6 +10,7 @@ ghost use Rattle.eco_reads.specs.Plan.{AreNotesPlanned};
 ghost use Rattle.eco_plans.specs.Notes.{no_note_dropped, no_note_set, note_dropped, note_set};
 
 use edit_spec::Reply;
+use netlist_schema::limits::MOST_NOTES;
 use netlist_schema::{Copied, Ident, NoMemory, Note, Property, Row};
 use std::alloc::Global;
 
@@ -69,8 +70,10 @@ pub fn with_note(
             Ok(Ok(made))
         }
         None => {
-            if notes.as_slice().len() >= 1_048_576 {
-                return Ok(Err(Reply::TooMany { limit: 1_048_576 }));
+            if notes.as_slice().len() >= MOST_NOTES {
+                return Ok(Err(Reply::TooMany {
+                    limit: MOST_NOTES as u64,
+                }));
             }
             let mut made = notes.copy(alloc)?;
             made.push(note)?;

@@ -3,6 +3,7 @@ ghost use Rattle.std.specs.Prelude.{◌≡◌, ◌≤◌, ◌++◌, [], ◌∷�
 ghost use Rattle.std.specs.List.{flat_map};
 ghost use Rattle.std.specs.Option.{option_copied, option_map_or};
 ghost use Rattle.netlist_schema.specs.Design.{insts_in, nets_in};
+ghost use Rattle.netlist_schema.specs.declared.limits.TheConstants.{MOST_PORTS};
 ghost use Rattle.edit_core.specs.Find.{inst_named};
 ghost use Rattle.edit_core.specs.Objects.{cell_name_at};
 ghost use Rattle.edit_core.specs.Rule.{first};
@@ -22,7 +23,7 @@ use std::alloc::Global;
 
 /// The number of ports of a cell, 0 where there is no cell.
 pub fn port_count(face: Option<Face<'_>>) -> u32
-    requires { IfSome face (λ seen. length seen.ports.now ≤ 65536) }
+    requires { IfSome face (λ seen. length seen.ports.now ≤ MOST_PORTS) }
     ensures { result ≡ option_map_or (λ seen. length seen.ports.now) face.entry 0 }
 {
     match face {

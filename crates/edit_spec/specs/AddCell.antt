@@ -5,6 +5,7 @@ use Rattle.netlist_schema.specs.Design.{Design, cells_in, port_width}
 use Rattle.netlist_schema.specs.Names.{cell_names}
 use Rattle.netlist_schema.specs.Types.{CellBody, LibId, Port, Object}
 use Rattle.netlist_schema.specs.declared.cell.CellKind.TheVariants.{Generic}
+use Rattle.netlist_schema.specs.declared.limits.TheConstants.{MOST_BITS, MOST_CELLS, MOST_PORTS}
 use Rattle.edit_core.specs.Edit.{fresh}
 use Rattle.edit_core.specs.Find.{is_same, lib_named}
 use Rattle.edit_core.specs.Reading.{IsForLib}
@@ -41,7 +42,7 @@ has_twice (name ∷ names) = list_any (is_same name) names || has_twice names
 
 abbrev pub add_cell : Option LibId → List (List ℕ) → List ℕ → Bool → List PortDecl → Rule
 add_cell lib names name leaf ports = record {
-  refusals = refuse (is_none lib) NoLib ∷ refuse (list_any (λ other. is_same other name) names || has_twice (map (λ port. port.name) ports)) Taken ∷ too_many (length names) 65536 ∷ refuse (nat_lt 65536 (length ports)) (TooMany 65536) ∷ refuse (nat_lt 1048576 (sum_by port_width (map new_port ports))) (TooMany 1048576) ∷ [];
+  refusals = refuse (is_none lib) NoLib ∷ refuse (list_any (λ other. is_same other name) names || has_twice (map (λ port. port.name) ports)) Taken ∷ too_many (length names) MOST_CELLS ∷ refuse (nat_lt MOST_PORTS (length ports)) (TooMany MOST_PORTS) ∷ refuse (nat_lt MOST_BITS (sum_by port_width (map new_port ports))) (TooMany MOST_BITS) ∷ [];
   reply = Done;
   edits = option_to_list (option_map (λ l. fresh (record { lib = l; slot = length names }) (new_cell name leaf ports)) lib);
 }

@@ -4,6 +4,7 @@ use Rattle.std.specs.Option.{option_map_or}
 use Rattle.std.specs.Prelude.{◌++◌, ℕ, Bool, nat_lt, List, [], ◌∷◌, Option, None, length, ◌⊎◌}
 use Rattle.netlist_schema.specs.Design.{Design, insts_in}
 use Rattle.netlist_schema.specs.Types.{CellId, Contents, Inst, LibId, Object}
+use Rattle.netlist_schema.specs.declared.limits.TheConstants.{MOST_INSTS}
 use Rattle.edit_core.specs.Find.{is_same, cell_named}
 use Rattle.edit_core.specs.Paths.{is_cyclic}
 use Rattle.edit_core.specs.Reading.{IsForName, IsForPlacing}
@@ -28,7 +29,7 @@ with_inst name of insts = insts ++ new_inst name of ∷ []
 
 abbrev pub add_inst : Named → Option Contents → Named → Bool → List ℕ → Rule
 add_inst at contents of cyclic inst = record {
-  refusals = no_lib at ∷ no_cell at ∷ no_lib of ∷ no_cell of ∷ is_leaf contents ∷ taken_inst contents inst ∷ refuse (is_later at.lib of.lib) LaterLibrary ∷ refuse cyclic IsCyclic ∷ too_many (length (insts_in contents)) 1048576 ∷ [];
+  refusals = no_lib at ∷ no_cell at ∷ no_lib of ∷ no_cell of ∷ is_leaf contents ∷ taken_inst contents inst ∷ refuse (is_later at.lib of.lib) LaterLibrary ∷ refuse cyclic IsCyclic ∷ too_many (length (insts_in contents)) MOST_INSTS ∷ [];
   reply = Done;
   edits = option_map_or (λ c. set_insts at contents (with_inst inst c)) of.cell [];
 }

@@ -3,6 +3,7 @@ use Rattle.std.specs.List.{list_any}
 use Rattle.std.specs.Prelude.{◌++◌, ℕ, List, [], ◌∷◌, Option, None, length}
 use Rattle.netlist_schema.specs.Design.{Design, nets_in}
 use Rattle.netlist_schema.specs.Types.{Contents, Net, Object}
+use Rattle.netlist_schema.specs.declared.limits.TheConstants.{MOST_NETS}
 use Rattle.edit_core.specs.Find.{is_same}
 use Rattle.edit_core.specs.Reading.{IsForCell}
 use Rattle.edit_core.specs.Rule.{too_many, Rule, refuse, no_lib, no_cell, is_leaf}
@@ -26,7 +27,7 @@ with_net name nets = nets ++ new_net name ∷ []
 
 -- the refusals to add a net to contents
 abbrev pub no_new_net : Option Contents → List ℕ → List (Option Reply)
-no_new_net contents net = is_leaf contents ∷ taken_net contents net ∷ too_many (length (nets_in contents)) 1048576 ∷ []
+no_new_net contents net = is_leaf contents ∷ taken_net contents net ∷ too_many (length (nets_in contents)) MOST_NETS ∷ []
 
 abbrev pub add_net : Named → Option Contents → List ℕ → Rule
 add_net at contents net = record {

@@ -3,6 +3,7 @@ use Rattle.std.specs.Option.{option_map_or}
 use Rattle.std.specs.Prelude.{◌++◌, ℕ, List, [], ◌∷◌, Option, length, option_map, option_to_list, ◌⊎◌}
 use Rattle.netlist_schema.specs.Design.{Design}
 use Rattle.netlist_schema.specs.Types.{Contents, End, Net, Port, Object}
+use Rattle.netlist_schema.specs.declared.limits.TheConstants.{MOST_ENDS}
 use Rattle.edit_core.specs.Edit.{changed_at}
 use Rattle.edit_core.specs.Find.{net_place}
 use Rattle.edit_core.specs.Reading.{IsForCell, IsForEnd}
@@ -28,7 +29,7 @@ with_end name end nets = option_map_or (λ place. changed_at (net_with_end end) 
 -- the refusals to join an end in contents
 abbrev pub no_join : Option Contents → Option (List Port) → List ℕ → EndName → List (Option Reply)
 no_join contents ports net name =
-    no_end_inst contents name.inst ∷ no_net contents net ∷ no_port ports name.port ∷ bad_bit ports name.port name.bit ∷ already_joined contents (end_named contents ports name) ∷ too_many (length (ends_in contents)) 4194304 ∷ []
+    no_end_inst contents name.inst ∷ no_net contents net ∷ no_port ports name.port ∷ bad_bit ports name.port name.bit ∷ already_joined contents (end_named contents ports name) ∷ too_many (length (ends_in contents)) MOST_ENDS ∷ []
 
 abbrev pub join : Named → Option Contents → Option (List Port) → List ℕ → EndName → Rule
 join at contents ports net name = record {

@@ -3,6 +3,7 @@ use Rattle.std.specs.Prelude.{◌&&◌, ◌++◌, ℕ, Bool, not, nat_le, List, 
 use Rattle.std.specs.Option.{option_map_or}
 use Rattle.netlist_schema.specs.Design.{Design}
 use Rattle.netlist_schema.specs.Types.{Note, Object, Property, TopHead}
+use Rattle.netlist_schema.specs.declared.limits.TheConstants.{MOST_NOTES}
 use Rattle.edit_core.specs.Notes.{note_place, notes_seen, put_notes}
 use Rattle.edit_core.specs.Paths.{is_path}
 use Rattle.edit_core.specs.Reading.{IsForPath}
@@ -15,7 +16,7 @@ set_note top leads notes path property =
     let place = note_place path property.key.id notes in
     let note : Note = record { path = path; property = property } in
     record {
-      refusals = refuse (is_none top) NoTop ∷ refuse (not leads) NoPath ∷ refuse (is_none place && nat_le 1048576 (length notes)) (TooMany 1048576) ∷ [];
+      refusals = refuse (is_none top) NoTop ∷ refuse (not leads) NoPath ∷ refuse (is_none place && nat_le MOST_NOTES (length notes)) (TooMany MOST_NOTES) ∷ [];
       reply = Done;
       edits = put_notes top (option_map_or (λ i. slice_set notes i note) place (notes ++ note ∷ []));
     }

@@ -5,6 +5,7 @@ ghost use Rattle.std.specs.Option.{option_copied, option_map};
 ghost use Rattle.netlist_schema.specs.Design.{Design, cell_at, cells_in};
 ghost use Rattle.netlist_schema.specs.Names.{cell_names};
 ghost use Rattle.netlist_schema.specs.Valid.{IsValidCell};
+ghost use Rattle.netlist_schema.specs.declared.limits.TheConstants.{MOST_CELLS, MOST_PORTS};
 ghost use Rattle.edit_core.specs.Seen.{contents_at};
 ghost use Rattle.cells_model.specs.Parts.{HasLimits, seen_at, shown_by};
 ghost use Rattle.edit_core.specs.Find.{cell_in, is_same};
@@ -104,7 +105,7 @@ impl Work {
     /// The number of cells of a library, 0 where there is none.
     pub fn cell_count(&self, lib: LibId) -> u32
         ensures value { result ≡ length (cells_in self.now.design lib) }
-        ensures limit { result ≤ 65536 }
+        ensures limit { result ≤ MOST_CELLS }
     {
         self.draft.count(lib) as u32
     }
@@ -122,7 +123,7 @@ impl Work {
     #[tactic(auto, using(cells_model::proofs::Looks::found_face, cells_model::proofs::Looks::no_face))]
     fn face_of(&self, id: CellId) -> Option<Face<'_>>
         ensures found { option_map shown_by result ≡ seen_at self.now.design id }
-        ensures limit { IfSome result (λ face. length face.ports.now ≤ 65536) }
+        ensures limit { IfSome result (λ face. length face.ports.now ≤ MOST_PORTS) }
     {
         match self.valid_body(id) {
             Some(body) => Some(seen(body)),

@@ -2,6 +2,7 @@
 use Rattle.std.specs.Prelude.{◌≡◌, [], ◌∷◌, ℕ, List, Option, Some, None, length, option_map, option_and_then}
 use Rattle.netlist_schema.specs.Design.{Design, insts_in, port_width}
 use Rattle.netlist_schema.specs.Types.{CellId, Contents, End, Object, Port}
+use Rattle.netlist_schema.specs.declared.limits.TheConstants.{MOST_ENDS}
 use Rattle.edit_core.specs.Find.{inst_named, port_place, port_named}
 use Rattle.edit_spec.specs.Cut.{not_joined}
 use Rattle.edit_spec.specs.Ends.{bad_bit, end_named, ends_in, no_end_inst, no_port}
@@ -46,4 +47,4 @@ no_cut contents ports name =
 
 -- the refusals to join an end whose place is found
 abbrev pub no_more_end : Contents → End → List (Option Reply)
-no_more_end contents end = already_joined (Some contents) (Some end) ∷ too_many (length (ends_in (Some contents))) 4194304 ∷ []
+no_more_end contents end = already_joined (Some contents) (Some end) ∷ too_many (length (ends_in (Some contents))) MOST_ENDS ∷ []

@@ -5,6 +5,7 @@ ghost use Rattle.std.specs.Option.{option_copied};
 ghost use Rattle.netlist_schema.specs.Design.{insts_in, nets_in};
 ghost use Rattle.netlist_schema.specs.Names.{AreDistinct};
 ghost use Rattle.netlist_schema.specs.Types.{Port};
+ghost use Rattle.netlist_schema.specs.declared.limits.TheConstants.{MOST_ENDS, MOST_PORTS};
 ghost use Rattle.edit_spec.specs.Cut.{is_end, net_without_end, not_joined, without_end};
 ghost use Rattle.edit_spec.specs.Ends.{bad_bit, end_inst, end_named, joins_end, no_end_inst, no_port};
 ghost use Rattle.flat_spec.specs.ConnectionTest.{same_end};
@@ -24,6 +25,7 @@ use cells_model::Face;
 use eco_reads::Plan;
 use eco_reads::find::{inst_place, net_place, port_place};
 use edit_spec::{EndName, Reply};
+use netlist_schema::limits::MOST_ENDS;
 use netlist_schema::{CellId, Contents, Copied, End, Ident, Net, NoMemory, Row};
 use std::alloc::Global;
 
@@ -48,7 +50,7 @@ pub fn cell_of_end(contents: Option<&Contents>, id: CellId, inst: &Option<Ident>
 
 /// The port with this name.
 pub fn port_of(face: Option<Face<'_>>, name: &Ident) -> Option<PortAt>
-    requires { IfSome face (λ seen. length seen.ports.now ≤ 65536) }
+    requires { IfSome face (λ seen. length seen.ports.now ≤ MOST_PORTS) }
     ensures { option_map seen_port result ≡ option_and_then (port_in name.now) (option_map (λ seen. seen.ports.now) face.entry) }
 {
     let face = face?;
@@ -96,7 +98,7 @@ pub fn net_of_end(nets: &Row<Net>, end: &End) -> Option<usize>
 /// The number of ends of all nets.
 #[tactic(auto, using(crate::proofs::Counts::ends_more, crate::proofs::Counts::ends_within))]
 pub fn end_count(nets: &Row<Net>) -> usize
-    requires { length (flat_map (λ net. net.ends) nets.now) ≤ 4194304 }
+    requires { length (flat_map (λ net. net.ends) nets.now) ≤ MOST_ENDS }
     ensures { result ≡ length (flat_map (λ net. net.ends) nets.now) }
 {
     let mut count = 0usize;
@@ -199,8 +201,10 @@ pub fn plan_end(
             net: contents.nets.as_slice()[joined].name.id.copy(alloc)?,
         }));
     }
-    if end_count(&contents.nets) >= 4_194_304 {
-        return Ok(Err(Reply::TooMany { limit: 4_194_304 }));
+    if end_count(&contents.nets) >= MOST_ENDS {
+        return Ok(Err(Reply::TooMany {
+            limit: MOST_ENDS as u64,
+        }));
     }
     let net = net_joined(alloc, &contents.nets.as_slice()[place], at)?;
     Ok(Ok(Plan::Net {

@@ -1,5 +1,6 @@
 //! What is counted: the items of a walk, and the events of a history.
 ghost use Rattle.std.specs.Prelude.{◌≡◌, ◌≢◌, ◌+◌, ◌≤◌, None, IfOk, count_by, length, sum_by};
+ghost use Rattle.netlist_schema.specs.declared.limits.TheConstants.{MOST_EVENTS};
 ghost use Rattle.gen_spec.specs.Summary.{counts_of, dropped_by, is_accepted, walked};
 ghost use Rattle.gen_rounds.specs.Counting.{with_item};
 
@@ -104,7 +105,7 @@ fn dropped_by(event: &Event) -> u32
 
 /// The number of accepted commits.
 pub fn commits_in(log: &[Event]) -> u64
-    requires { length log.now ≤ 4194304 }
+    requires { length log.now ≤ MOST_EVENTS }
     ensures { result ≡ count_by (λ event. is_accepted event.answer) log.now }
 {
     let mut commits = 0;
@@ -118,7 +119,7 @@ pub fn commits_in(log: &[Event]) -> u64
 
 /// The number of versions that were dropped together.
 pub fn dropped_in(log: &[Event]) -> u64
-    requires { length log.now ≤ 4194304 }
+    requires { length log.now ≤ MOST_EVENTS }
     ensures { result ≡ sum_by (λ event. dropped_by event.answer) log.now }
 {
     let mut dropped = 0;

@@ -8,6 +8,7 @@ use Rattle.netlist_schema.specs.Ident.{is_identifier_byte}
 use Rattle.netlist_schema.specs.Names.{cell_names, lib_names}
 use Rattle.netlist_schema.specs.Types.{CellBody, CellId, End, Inst, Lib, Name, Net, Note, Port, Property, TopHead, Value}
 use Rattle.netlist_schema.specs.declared.property.Value.TheVariants.{Boolean, Integer, Number, Text}
+use Rattle.netlist_schema.specs.declared.limits.TheConstants.{MOST_BITS, MOST_CELLS, MOST_ENDS, MOST_INSTS, MOST_LIBS, MOST_NETS, MOST_PORTS, MOST_WIDTH}
 
 -- what is there passes
 abbrev pub if_some : {A : Type 0} → (A → Bool) → Option A → Bool
@@ -56,7 +57,7 @@ fine_properties ps = list_all fine_property ps && names_differ (map (λ (p : Pro
 
 -- ports, instances, nets
 abbrev pub fine_width : ℕ → Bool
-fine_width n = nat_le 1 n && nat_le n 65536
+fine_width n = nat_le 1 n && nat_le n MOST_WIDTH
 
 abbrev pub fine_port : Port → Bool
 fine_port p = fine_name p.name && (if_some fine_width p.array && (if_some are_bytes p.designator && fine_properties p.properties))
@@ -88,7 +89,7 @@ cell_tests rank d id c = fine_name c.name ∷ fine_name c.view ∷ fine_properti
     ∷ list_all fine_port c.ports ∷ list_all (fine_inst rank d id) (insts_of c) ∷ list_all fine_net (nets_of c)
     ∷ list_all (λ (e : End). end_there d c e.inst e.port e.bit) (ends_of c) ∷ differ end_code (ends_of c)
     ∷ names_differ (map (λ (p : Port). p.name.id) c.ports) ∷ names_differ (map (λ (i : Inst). i.name.id) (insts_of c)) ∷ names_differ (map (λ (n : Net). n.name.id) (nets_of c))
-    ∷ nat_le (length c.ports) 65536 ∷ nat_le (bit_count c) 1048576 ∷ nat_le (length (insts_of c)) 1048576 ∷ nat_le (length (nets_of c)) 1048576 ∷ nat_le (length (ends_of c)) 4194304 ∷ []
+    ∷ nat_le (length c.ports) MOST_PORTS ∷ nat_le (bit_count c) MOST_BITS ∷ nat_le (length (insts_of c)) MOST_INSTS ∷ nat_le (length (nets_of c)) MOST_NETS ∷ nat_le (length (ends_of c)) MOST_ENDS ∷ []
 
 -- all cells of all libraries, by their places
 abbrev pub id_at : ℕ → ℕ → CellId
@@ -124,7 +125,7 @@ no_notes (Some t) ns = true
 -- a whole design, by a rank of its cells
 abbrev pub tests : (CellId → ℕ) → Design → List Bool
 tests rank d = fine_name d.title ∷ list_all (λ (l : Lib). fine_name l.head.name) d.libs ∷ libs_fine rank d 0 d.libs ∷ if_some (fine_top d) d.top ∷ list_all fine_note d.notes ∷ no_notes d.top d.notes ∷ nat_le (length d.notes) 1
-    ∷ nat_le (length d.libs) 1024 ∷ list_all (λ (l : Lib). nat_le (length l.cells) 65536) d.libs ∷ names_differ (lib_names d.libs) ∷ list_all (λ (l : Lib). names_differ (cell_names l.cells)) d.libs ∷ []
+    ∷ nat_le (length d.libs) MOST_LIBS ∷ list_all (λ (l : Lib). nat_le (length l.cells) MOST_CELLS) d.libs ∷ names_differ (lib_names d.libs) ∷ list_all (λ (l : Lib). names_differ (cell_names l.cells)) d.libs ∷ []
 
 -- the greatest of some numbers
 abbrev pub greatest : List ℕ → ℕ

@@ -3,6 +3,7 @@ use Rattle.std.specs.Prelude.{◌≡◌, ℕ, ◌+◌, ◌<◌, ◌≤◌, List,
 use Rattle.std.specs.Ordering.{is_le}
 use Rattle.netlist_schema.specs.Order.{object_cmp}
 use Rattle.netlist_schema.specs.Types.{Object}
+use Rattle.netlist_schema.specs.declared.limits.TheConstants.{MOST_EVENTS}
 use Rattle.edit_spec.specs.Needs.{Reads}
 use Rattle.edit_spec.specs.Step.{run}
 use Rattle.edit_spec.specs.declared.ops.Op.{Op}
@@ -15,7 +16,7 @@ use Rattle.history_spec.specs.State.{State, head, design, IsWritten, IsLive, sta
 
 -- the greatest number of events
 abbrev pub most_events : ℕ
-most_events = 4194304
+most_events = MOST_EVENTS
 
 -- the places of the history that are taken: one by each event, and one for the release of each live pin
 abbrev pub places : State → ℕ

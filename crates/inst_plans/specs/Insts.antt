@@ -2,6 +2,7 @@
 use Rattle.std.specs.Prelude.{ℕ, Bool, not, List, [], ◌∷◌, Option, length}
 use Rattle.netlist_schema.specs.Design.{Design, insts_in, nets_in}
 use Rattle.netlist_schema.specs.Types.{CellId, Contents, Note}
+use Rattle.netlist_schema.specs.declared.limits.TheConstants.{MOST_INSTS}
 use Rattle.edit_core.specs.Paths.{goes_through}
 use Rattle.edit_core.specs.Rule.{is_leaf, refuse, too_many}
 use Rattle.edit_spec.specs.AddInst.{taken_inst, with_inst}
@@ -11,7 +12,7 @@ use Rattle.edit_core.specs.declared.reply.Reply.TheVariants.{IsCyclic, LaterLibr
 -- the refusals to add an instance to contents, where both cells are found
 abbrev pub no_new_inst : Option Contents → List ℕ → Bool → Bool → List (Option Reply)
 no_new_inst contents inst later cyclic =
-    is_leaf contents ∷ taken_inst contents inst ∷ refuse later LaterLibrary ∷ refuse cyclic IsCyclic ∷ too_many (length (insts_in contents)) 1048576 ∷ []
+    is_leaf contents ∷ taken_inst contents inst ∷ refuse later LaterLibrary ∷ refuse cyclic IsCyclic ∷ too_many (length (insts_in contents)) MOST_INSTS ∷ []
 
 -- the contents with one more
 abbrev pub more_insts : List ℕ → CellId → Option Contents → Contents

@@ -19,6 +19,7 @@ ghost use Rattle.eco_reads.specs.Plan.{IsPlanned};
 use eco_reads::Plan;
 use eco_reads::find::{inst_place, is_inst_taken};
 use edit_spec::Reply;
+use netlist_schema::limits::MOST_INSTS;
 use netlist_schema::{CellId, Contents, Copied, End, Ident, Inst, Name, Net, NoMemory, Row};
 use std::alloc::Global;
 
@@ -63,8 +64,10 @@ pub fn plan_inst(
         return Ok(Err(Reply::IsCyclic));
     }
     let place = contents.insts.as_slice().len();
-    if place >= 1_048_576 {
-        return Ok(Err(Reply::TooMany { limit: 1_048_576 }));
+    if place >= MOST_INSTS {
+        return Ok(Err(Reply::TooMany {
+            limit: MOST_INSTS as u64,
+        }));
     }
     let inst = new_inst(alloc, inst, of)?;
     Ok(Ok(Plan::Inst {

@@ -1,6 +1,7 @@
 //! The own bits of a cell, counted over all its ports.
 ghost use Rattle.std.specs.Prelude.{◌≡◌, ◌≤◌, IfOk};
 ghost use Rattle.netlist_schema.specs.Design.{bit_count};
+ghost use Rattle.netlist_schema.specs.declared.limits.TheConstants.{MOST_BITS};
 ghost use Rattle.net_classes.specs.Bits.{AreStarts};
 ghost use Rattle.net_classes.specs.Facts.{number_of};
 
@@ -10,7 +11,7 @@ use std::alloc::Global;
 
 /// For each port the number of bits of the ports before it.
 pub fn port_starts(alloc: Global, body: &CellBody) -> Result<Vec<u32>, NoMemory>
-    requires { bit_count body.now ≤ 1048576 }
+    requires { bit_count body.now ≤ MOST_BITS }
     ensures { IfOk result (λ starts. AreStarts body.now.ports starts.items) }
 {
     let mut starts = Vec::new(alloc);

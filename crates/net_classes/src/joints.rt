@@ -1,6 +1,7 @@
 //! The ends of a cell's nets: those at its own bits, and those on its instances.
 ghost use Rattle.std.specs.Prelude.{◌≡◌, ◌≤◌, ◌++◌, ◌↔◌, length, Contains, IfOk, OnOk, None, Some, ℕ, ◌<◌, slice_index_or};
 ghost use Rattle.std.specs.List.{All, AllPairs, flat_map};
+ghost use Rattle.netlist_schema.specs.declared.limits.TheConstants.{MOST_NETS};
 ghost use Rattle.net_classes.specs.Joints.{IsJointIn, IsNotBehind, joint_of, joints_from};
 ghost use Rattle.net_classes.specs.Own.{AreOwn, AreSet, end_number};
 ghost use Rattle.net_classes.specs.declared.joints.Joint.{Joint as Place};
@@ -20,7 +21,7 @@ pub struct Joint {
 
 /// The ends of the nets on instances, net by net.
 fn all_joints(alloc: Global, nets: &[Net]) -> Result<Vec<Joint>, NoMemory>
-    requires few { length nets.now ≤ 1048576 }
+    requires few { length nets.now ≤ MOST_NETS }
     ensures { IfOk result (λ joints. joints.items ≡ joints_from 0 nets.now) }
 {
     let mut joints = Vec::new(alloc);
@@ -32,7 +33,7 @@ fn all_joints(alloc: Global, nets: &[Net]) -> Result<Vec<Joint>, NoMemory>
 
 /// The ends of the nets on instances, by instance, port and bit.
 pub fn list_joints(alloc: Global, nets: &[Net]) -> Result<Vec<Joint>, NoMemory>
-    requires few { length nets.now ≤ 1048576 }
+    requires few { length nets.now ≤ MOST_NETS }
     ensures each { IfOk result (λ joints. (j : Place) → Contains joints.items j ↔ IsJointIn nets.now j) }
     ensures in_order { IfOk result (λ joints. AllPairs IsNotBehind joints.items) }
 {
@@ -74,7 +75,7 @@ pub fn list_own(
     count: u32,
     nets: &[Net],
 ) -> Result<Vec<Option<u32>>, NoMemory>
-    requires few { length nets.now ≤ 1048576 }
+    requires few { length nets.now ≤ MOST_NETS }
     ensures long { IfOk result (λ own. length own.items ≡ count) }
     ensures own { IfOk result (λ own. AreOwn starts.now nets.now (length nets.now) own.items) }
 {
@@ -85,7 +86,7 @@ pub fn list_own(
 
 /// Sets the net of each own bit, where none is set yet.
 fn set_all(starts: &[u32], nets: &[Net], own: &mut [Option<u32>])
-    requires few { length nets.now ≤ 1048576 }
+    requires few { length nets.now ≤ MOST_NETS }
     requires none { All (λ net. net ≡ None) own.old }
     ensures long { length own.new ≡ length own.old }
     ensures own { AreOwn starts.now nets.now (length nets.now) own.new }

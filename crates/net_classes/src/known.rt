@@ -4,6 +4,7 @@ ghost use Rattle.std.specs.List.{All};
 ghost use Rattle.netlist_schema.specs.Design.{Design, bit_count, cell_at};
 ghost use Rattle.netlist_schema.specs.Types.{CellId as Id};
 ghost use Rattle.netlist_schema.specs.Valid.{IsValid};
+ghost use Rattle.netlist_schema.specs.declared.limits.TheConstants.{MOST_BITS, MOST_NETS, MOST_PORTS};
 ghost use Rattle.flat_spec.specs.HandedDown.{IsFirstInside};
 ghost use Rattle.flat_spec.specs.Paths.{nets_at};
 ghost use Rattle.net_classes.specs.Facts.{facts_of, no_facts};
@@ -57,7 +58,7 @@ fn list_firsts(
     nets: &[Net],
     joints: &[Joint],
 ) -> Result<Vec<u32>, NoMemory>
-    requires few { length nets.now ≤ 1048576 }
+    requires few { length nets.now ≤ MOST_NETS }
     requires joints { (j : Place) → Contains joints.now j ↔ IsJointIn nets.now j }
     ensures long { IfOk result (λ firsts. length firsts.items ≡ length nets.now) }
     ensures within { IfOk result (λ firsts. All (λ first. first < length firsts.items) firsts.items) }
@@ -78,8 +79,8 @@ fn body_nets<S: Shown>(
     body: &CellBody,
 ) -> Result<CellNets, NoMemory>
     requires is { cell_at (S.design design.now) cell ≡ Some body.now }
-    requires few { length body.now.ports ≤ 65536 }
-    requires narrow { bit_count body.now ≤ 1048576 }
+    requires few { length body.now.ports ≤ MOST_PORTS }
+    requires narrow { bit_count body.now ≤ MOST_BITS }
     ensures { IfOk result (λ nets. (done : List Id) → IsValid (S.design design.now) → AreKnown (S.design design.now) done (map (λ row. map facts_of row.items) cells.now)
         → HasChildrenIn (S.design design.now) cell done → AreTold (S.design design.now) cell (facts_of nets)) }
 {

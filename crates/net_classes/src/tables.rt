@@ -2,6 +2,7 @@
 ghost use Rattle.std.specs.Prelude.{◌≡◌, ◌<◌, ◌≤◌, ◌+◌, ℕ, Option, None, IfOk, IfSome, length, option_and_then, slice_get, slice_index_or};
 ghost use Rattle.std.specs.List.{All};
 ghost use Rattle.std.specs.Option.{option_copied};
+ghost use Rattle.netlist_schema.specs.declared.limits.TheConstants.{MOST_BITS};
 ghost use Rattle.net_classes.specs.Facts.{facts_of, first_in, no_facts};
 ghost use Rattle.net_classes.specs.LeastBits.{AreSeen, IsLeastAnswer, first_of_bit};
 
@@ -91,7 +92,7 @@ pub fn least_bits(
     own: &[Option<u32>],
     firsts: &[u32],
 ) -> Result<Vec<Option<u32>>, NoMemory>
-    requires few { length own.now ≤ 1048576 }
+    requires few { length own.now ≤ MOST_BITS }
     requires within { All (λ first. first < length firsts.now) firsts.now }
     ensures long { IfOk result (λ least. length least.items ≡ length own.now) }
     ensures least { IfOk result (λ least. (bit : ℕ) → bit < length own.now → IsLeastAnswer (first_of_bit own.now firsts.now) (first_of_bit own.now firsts.now bit) (slice_index_or least.items bit None)) }
@@ -107,7 +108,7 @@ fn list_least(
     own: &[Option<u32>],
     firsts: &[u32],
 ) -> Result<Vec<Option<u32>>, NoMemory>
-    requires few { length own.now ≤ 1048576 }
+    requires few { length own.now ≤ MOST_BITS }
     requires wide { length seen.old ≡ length firsts.now }
     requires none { All (λ bit. bit ≡ None) seen.old }
     requires within { All (λ first. first < length firsts.now) firsts.now }

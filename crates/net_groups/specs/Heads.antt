@@ -2,6 +2,7 @@
 use Rattle.std.specs.Prelude.{◌≡◌, ◌<◌, ◌≤◌, ◌+◌, ℕ, List, length, slice_index, IfSome}
 use Rattle.std.specs.List.{All, Contains}
 use Rattle.netlist_schema.specs.Types.{Contents, End, Inst}
+use Rattle.netlist_schema.specs.declared.limits.TheConstants.{MOST_INSTS, MOST_NETS}
 use Rattle.ungroup_spec.specs.Groups.{Site, Part, outer, inner, IsPart, ends_of_net, head_of}
 
 -- an instance at a place of contents, with the contents of its cell
@@ -10,12 +11,12 @@ site around place inst within = record { around = around; place = place; inst = 
 
 -- the instance of an end, where it has one, has a place that an instance can have
 abbrev pub IsLow : End → Type 0
-IsLow end = IfSome end.inst (λ i. i < 1048576)
+IsLow end = IfSome end.inst (λ i. i < MOST_INSTS)
 
 -- contents as they are in a valid design: within the limits, each end at an instance, and at most one net with an end
 pub record AreSound (contents : Contents) : Type 0 where
-  pub few_insts : length contents.insts ≤ 1048576
-  pub few_nets : length contents.nets ≤ 1048576
+  pub few_insts : length contents.insts ≤ MOST_INSTS
+  pub few_nets : length contents.nets ≤ MOST_NETS
   pub low : All (λ net. All IsLow net.ends) contents.nets
   pub once : (m n : ℕ) (end : End) → Contains (ends_of_net contents.nets m) end → Contains (ends_of_net contents.nets n) end → m ≡ n
 

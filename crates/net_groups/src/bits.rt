@@ -1,6 +1,7 @@
 //! The bits that nets join at one place.
 ghost use Rattle.std.specs.Prelude.{◌≡◌, ◌≤◌, ◌++◌, IfOk, OnOk, length};
 ghost use Rattle.std.specs.List.{flat_map};
+ghost use Rattle.netlist_schema.specs.declared.limits.TheConstants.{MOST_NETS};
 ghost use Rattle.net_groups.specs.Bits.{bits_from, bits_of, is_there};
 
 use netlist_schema::{End, Net, NoMemory};
@@ -75,7 +76,7 @@ pub fn joined_bits(
     nets: &[Net],
     inst: Option<u32>,
 ) -> Result<Vec<JoinedBit>, NoMemory>
-    requires few { length nets.now ≤ 1048576 }
+    requires few { length nets.now ≤ MOST_NETS }
     ensures { IfOk result (λ bits. bits.items ≡ bits_from inst 0 nets.now) }
 {
     let mut bits = Vec::new(alloc);

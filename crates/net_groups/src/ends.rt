@@ -2,6 +2,7 @@
 ghost use Rattle.std.specs.Prelude.{◌≡◌, ◌<◌, ◌≤◌, ◌+◌, ◌++◌, IfOk, OnOk, length, map, option_to_list};
 ghost use Rattle.std.specs.List.{All, flat_map};
 ghost use Rattle.netlist_schema.specs.Types.{Inst};
+ghost use Rattle.netlist_schema.specs.declared.limits.TheConstants.{MOST_INSTS};
 ghost use Rattle.ungroup_spec.specs.Dissolved.{ends_up};
 ghost use Rattle.ungroup_spec.specs.Groups.{parts};
 ghost use Rattle.net_groups.specs.Ends.{inner_ends, inner_up, outer_ends, outer_up};
@@ -13,7 +14,7 @@ use std::alloc::Global;
 /// The end of an outer net afterwards: none at the instance itself; behind it, as many places on as there are children, less one.
 fn outer_end(end: &End, place: u32, children: u32) -> Option<End>
     requires low { IsLow end.now }
-    requires few { children ≤ 1048576 }
+    requires few { children ≤ MOST_INSTS }
     ensures { option_to_list result ≡ outer_up place children end.now end.now.inst }
 {
     match end.inst {
@@ -37,7 +38,7 @@ fn outer_end(end: &End, place: u32, children: u32) -> Option<End>
 /// The end of an inner net afterwards: none where it is the cell's own.
 fn inner_end(end: &End, place: u32) -> Option<End>
     requires low { IsLow end.now }
-    requires place { place < 1048576 }
+    requires place { place < MOST_INSTS }
     ensures { option_to_list result ≡ inner_up place end.now end.now.inst }
 {
     match end.inst {
@@ -52,7 +53,7 @@ fn inner_end(end: &End, place: u32) -> Option<End>
 
 fn outer_ends(alloc: Global, ends: &[End], place: u32, children: u32) -> Result<Row<End>, NoMemory>
     requires low { All IsLow ends.now }
-    requires few { children ≤ 1048576 }
+    requires few { children ≤ MOST_INSTS }
     ensures { IfOk result (λ made. made ≡ flat_map (λ end. outer_up place children end end.inst) ends.now) }
 {
     let mut made = Vec::new(alloc);
@@ -66,7 +67,7 @@ fn outer_ends(alloc: Global, ends: &[End], place: u32, children: u32) -> Result<
 
 fn inner_ends(alloc: Global, ends: &[End], place: u32) -> Result<Row<End>, NoMemory>
     requires low { All IsLow ends.now }
-    requires place { place < 1048576 }
+    requires place { place < MOST_INSTS }
     ensures { IfOk result (λ made. made ≡ flat_map (λ end. inner_up place end end.inst) ends.now) }
 {
     let mut made = Vec::new(alloc);
@@ -86,7 +87,7 @@ fn add_outer(
     lists: &mut Vec<Row<End>>,
 ) -> Result<(), NoMemory>
     requires low { All (λ net. All IsLow net.ends) nets.now }
-    requires few { children ≤ 1048576 }
+    requires few { children ≤ MOST_INSTS }
     ensures { OnOk result (lists.new.items ≡ lists.old.items ++ map (outer_ends place children) nets.now) }
 {
     for net in nets {
@@ -102,7 +103,7 @@ fn add_inner(
     lists: &mut Vec<Row<End>>,
 ) -> Result<(), NoMemory>
     requires low { All (λ net. All IsLow net.ends) nets.now }
-    requires place { place < 1048576 }
+    requires place { place < MOST_INSTS }
     ensures { OnOk result (lists.new.items ≡ lists.old.items ++ map (inner_ends place) nets.now) }
 {
     for net in nets {

@@ -2,6 +2,7 @@
 ghost use Rattle.std.specs.Prelude.{◌≡◌, ◌<◌, ◌≤◌, ◌+◌, IfOk, length};
 ghost use Rattle.std.specs.List.{All};
 ghost use Rattle.netlist_schema.specs.Types.{Inst};
+ghost use Rattle.netlist_schema.specs.declared.limits.TheConstants.{MOST_NETS};
 ghost use Rattle.net_groups.specs.Heads.{AreHeads, AreSound, site};
 
 use crate::bits::joined_bits;
@@ -19,7 +20,7 @@ pub fn list_heads(
     within: &Contents,
 ) -> Result<Vec<u32>, NoMemory>
     requires around { AreSound around.now }
-    requires within { length within.now.nets ≤ 1048576 }
+    requires within { length within.now.nets ≤ MOST_NETS }
     ensures heads { IfOk result (λ heads. (inst : Inst) → AreHeads (site around.now place inst within.now) heads.items) }
     ensures long { IfOk result (λ heads. length heads.items ≡ length around.now.nets + length within.now.nets) }
     ensures low { IfOk result (λ heads. All (λ head. head < length heads.items) heads.items) }

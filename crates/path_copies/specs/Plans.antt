@@ -2,6 +2,7 @@
 use Rattle.std.specs.Prelude.{◌≡◌, true, List, [], Option, Some, None, map, length}
 use Rattle.netlist_schema.specs.Design.{Design}
 use Rattle.netlist_schema.specs.Types.{CellId}
+use Rattle.netlist_schema.specs.declared.limits.TheConstants.{MOST_CELLS}
 use Rattle.edit_core.specs.declared.reply.Reply.{Reply}
 use Rattle.edit_core.specs.declared.reply.Reply.TheVariants.{Copies, TooMany}
 use Rattle.flat_spec.specs.Occurrences.{Occurrence}
@@ -35,9 +36,9 @@ pub record IsPlan (d : Design) (s : Split) (plan : Plan) : Type 0 where
 -- the same, or none where a library would be too large
 abbrev pub IsPlanned : Design → Split → Option Plan → Type 0
 IsPlanned d s (Some plan) = IsPlan d s plan
-IsPlanned d s None = too_many_cells s.copies ≡ Some (TooMany 65536)
+IsPlanned d s None = too_many_cells s.copies ≡ Some (TooMany MOST_CELLS)
 
 -- a plan was put in place, or the want of room is replied
 abbrev pub IsPut : State → State → Option Plan → Reply → Type 0
 IsPut old new (Some plan) reply = (reply ≡ Copies plan.copies) × HasMade old new (edits_of old.design plan.change)
-IsPut old new None reply = (reply ≡ TooMany 65536) × (new ≡ old)
+IsPut old new None reply = (reply ≡ TooMany MOST_CELLS) × (new ≡ old)

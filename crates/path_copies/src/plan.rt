@@ -12,6 +12,7 @@ ghost use Rattle.path_copies.specs.Plans.{IsPlan, IsPut};
 use cell_copies::{Spot, split_change};
 use cells_model::{Cells, Change};
 use edit_spec::Reply;
+use netlist_schema::limits::MOST_CELLS;
 use netlist_schema::{CellId, NoMemory};
 use std::alloc::Global;
 
@@ -66,6 +67,8 @@ pub fn put_plan<C: Cells>(cells: &mut C, planned: Option<Plan>) -> Result<Reply,
             cells.write(plan.change)?;
             Ok(Reply::Copies(plan.copies))
         }
-        None => Ok(Reply::TooMany { limit: 65536 }),
+        None => Ok(Reply::TooMany {
+            limit: MOST_CELLS as u64,
+        }),
     }
 }

@@ -4,6 +4,7 @@ ghost use Rattle.std.specs.Cmp.Lexicographic.{pointwise};
 ghost use Rattle.indexmap.specs.IndexMap.{get};
 ghost use Rattle.netlist_schema.specs.Design.{Design};
 ghost use Rattle.netlist_schema.specs.Hierarchy.{insts_at};
+ghost use Rattle.netlist_schema.specs.declared.limits.TheConstants.{MOST_INSTS};
 ghost use Rattle.placed_notes.specs.Named.{AreNamed, ArePlaces};
 ghost use Rattle.placed_notes.specs.Ways.{IsNameFound};
 
@@ -26,7 +27,7 @@ impl Drop for NamedPlaces {
 
 /// The places of instances by their identifiers.
 fn places_of(alloc: Global, insts: &[Inst]) -> Result<IndexMap<Ident, u32>, NoMemory>
-    requires { length insts.now ≤ 1048576 }
+    requires { length insts.now ≤ MOST_INSTS }
     ensures { IfOk result (λ places. ArePlaces insts.now (get (pointwise nat_eq) places)) }
 {
     let mut places = IndexMap::new(alloc);

@@ -1,6 +1,7 @@
 //! What a word of several parts stands for, or one of a few words.
 ghost use Rattle.std.specs.Prelude.{◌≡◌, ◌==◌, ◌≤◌, ◌∷◌, [], IfOk, MatchOption, MatchResult, map};
 ghost use Rattle.std.specs.List.{slice_split};
+ghost use Rattle.netlist_schema.specs.declared.limits.TheConstants.{MOST_WIDTH};
 ghost use Rattle.session_spec.specs.Lines.{direction_word, inst_piece, leaf_word, path_piece, port_piece, width_atoms};
 ghost use Rattle.session_spec.specs.Pieces.{SpellAtoms, SpellPieces, SpellsPiece};
 ghost use Rattle.script_ops.specs.Pieces.{AreNames, port_atoms};
@@ -9,6 +10,7 @@ ghost use Rattle.script_words.specs.declared.unread.Unread.TheVariants.{Bad};
 
 use crate::front::first;
 use edit_spec::PortDecl;
+use netlist_schema::limits::MOST_WIDTH;
 use netlist_schema::{Direction, Ident, Row, Width};
 use script_words::atoms::{name, number};
 use script_words::unread::Unread;
@@ -99,7 +101,7 @@ fn width(parts: &[&[u8]]) -> Result<Option<Width>, Unread>
     if !others.is_empty() {
         return Err(Unread::Bad);
     }
-    let n = number(word, 1, 65536)?;
+    let n = number(word, 1, u64::from(MOST_WIDTH))?;
     match width_of(n) {
         Some(width) => Ok(Some(width)),
         None => Err(Unread::Bad),
@@ -108,7 +110,7 @@ fn width(parts: &[&[u8]]) -> Result<Option<Width>, Unread>
 
 /// The width of so many bits.
 fn width_of(n: u64) -> Option<Width>
-    ensures { MatchOption result (¬ ((1 ≤ n) × (n ≤ 65536))) (λ width. width ≡ n) }
+    ensures { MatchOption result (¬ ((1 ≤ n) × (n ≤ MOST_WIDTH))) (λ width. width ≡ n) }
 {
     match u32::try_from(n) {
         Ok(n) => Width::of(n),

@@ -5,6 +5,7 @@ use Rattle.netlist_schema.specs.Types.{Direction, Property, Value}
 use Rattle.netlist_schema.specs.declared.cell.Direction.TheVariants as directions
 use Rattle.netlist_schema.specs.declared.property.Num.TheVariants as numbers
 use Rattle.netlist_schema.specs.declared.property.Value.TheVariants as values
+use Rattle.netlist_schema.specs.declared.limits.TheConstants.{MOST_WIDTH}
 use Rattle.edit_core.specs.declared.reply.CellName.{CellName}
 use Rattle.edit_core.specs.declared.reply.EndName.{EndName}
 use Rattle.edit_spec.specs.declared.ops.Op.{Op}
@@ -45,7 +46,7 @@ direction_word (Some directions.Inout) = codes "inout"
 -- N, where the port is an array
 abbrev pub width_atoms : Option ℕ → List Atom
 width_atoms None = []
-width_atoms (Some width) = Number 1 65536 width ∷ []
+width_atoms (Some width) = Number 1 MOST_WIDTH width ∷ []
 
 -- PORT: NAME:DIR, or NAME:DIR:N
 abbrev pub port_piece : PortDecl → Piece

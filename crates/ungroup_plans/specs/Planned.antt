@@ -1,6 +1,7 @@
 -- What is planned for the contents around an instance that is dissolved.
 use Rattle.std.specs.Prelude.{◌≡◌, ◌<◌, List, [], ◌∷◌, Option, Some, None, Result, Ok, Err, ℕ, slice_get}
 use Rattle.netlist_schema.specs.Types.{Contents, Inst, Note}
+use Rattle.netlist_schema.specs.declared.limits.TheConstants.{MOST_ENDS, MOST_INSTS, MOST_NETS}
 use Rattle.edit_core.specs.Rule.{first, is_leaf, no_inst}
 use Rattle.edit_core.specs.declared.reply.Reply.{Reply}
 use Rattle.ungroup_spec.specs.Dissolved.{children, contents_after}
@@ -11,7 +12,7 @@ use Rattle.ungroup_plans.specs.declared.plan.Ungrouped.{Ungrouped}
 
 -- the limits that the contents would pass, in order
 abbrev pub limits_of : Option Site → List (Option Reply)
-limits_of site = over 1048576 count_insts site ∷ over 1048576 count_nets site ∷ over 4194304 count_ends site ∷ []
+limits_of site = over MOST_INSTS count_insts site ∷ over MOST_NETS count_nets site ∷ over MOST_ENDS count_ends site ∷ []
 
 -- the contents afterwards, where they are within the limits, or else the first limit that they pass
 abbrev pub IsDissolved : Site → Result Contents Reply → Type 0

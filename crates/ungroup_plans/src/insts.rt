@@ -2,6 +2,7 @@
 ghost use Rattle.std.specs.Prelude.{◌≡◌, ◌<◌, ◌≤◌, ◌+◌, ◌++◌, ◌^◌, List, ℕ, IfOk, OnOk, Some, drop, length, map, slice_get, take};
 ghost use Rattle.free_names.specs.Taken.{IsOf};
 ghost use Rattle.netlist_schema.specs.Types.{Inst as InstType};
+ghost use Rattle.netlist_schema.specs.declared.limits.TheConstants.{MOST_INSTS};
 ghost use Rattle.net_groups.specs.Heads.{site};
 ghost use Rattle.ungroup_spec.specs.Dissolved.{insts_after, inst_name, with_inst_name};
 ghost use Rattle.ungroup_spec.specs.Names.{named_up};
@@ -61,8 +62,8 @@ pub fn insts_after(
     place: u32,
     within: &Contents,
 ) -> Result<Row<Inst>, NoMemory>
-    requires around { length around.now.insts ≤ 1048576 }
-    requires within { length within.now.insts ≤ 1048576 }
+    requires around { length around.now.insts ≤ MOST_INSTS }
+    requires within { length within.now.insts ≤ MOST_INSTS }
     requires place { place < length around.now.insts }
     ensures { IfOk result (λ made. (inst : InstType) → slice_get around.now.insts place ≡ Some inst → made ≡ insts_after (site around.now place inst within.now)) }
 {

@@ -1,11 +1,13 @@
 //! Limits of contents.
 ghost use Rattle.std.specs.Prelude.{◌≡◌, ◌<◌, ◌+◌, ◌-◌, ◌^◌, [], ◌∷◌, length, min, nat_lt};
 ghost use Rattle.std.specs.List.{flat_map};
+ghost use Rattle.netlist_schema.specs.declared.limits.TheConstants.{MOST_ENDS, MOST_INSTS, MOST_NETS};
 ghost use Rattle.edit_core.specs.Rule.{first, refuse};
 
 use edit_spec::Reply;
 use net_groups::Grouped;
 use netlist_schema::Net;
+use netlist_schema::limits::{MOST_ENDS, MOST_INSTS, MOST_NETS};
 
 /// The ends of nets, added to a count; the greatest number of 64 bits stands for more.
 fn count_ends(nets: &[Net], count: u64) -> u64
@@ -21,10 +23,12 @@ fn count_ends(nets: &[Net], count: u64) -> u64
 /// The refusal of so many instances.
 pub fn over_insts(around: usize, within: usize) -> Option<Reply>
     requires { 0 < around }
-    ensures { result ≡ refuse (nat_lt 1048576 (around - 1 + within)) (Reply.TooMany 1048576) }
+    ensures { result ≡ refuse (nat_lt MOST_INSTS (around - 1 + within)) (Reply.TooMany MOST_INSTS) }
 {
-    if (around - 1).saturating_add(within) > 1_048_576 {
-        Some(Reply::TooMany { limit: 1_048_576 })
+    if (around - 1).saturating_add(within) > MOST_INSTS {
+        Some(Reply::TooMany {
+            limit: MOST_INSTS as u64,
+        })
     } else {
         None
     }
@@ -32,16 +36,20 @@ pub fn over_insts(around: usize, within: usize) -> Option<Reply>
 
 /// The refusal of so many nets, or of so many ends.
 pub fn over_nets(grouped: &Grouped) -> Option<Reply>
-    ensures { result ≡ first (refuse (nat_lt 1048576 (length grouped.now.kept + length grouped.now.loose)) (Reply.TooMany 1048576)
-        ∷ refuse (nat_lt 4194304 (length (flat_map (λ net. net.ends) grouped.now.kept) + length (flat_map (λ net. net.ends) grouped.now.loose))) (Reply.TooMany 4194304) ∷ []) }
+    ensures { result ≡ first (refuse (nat_lt MOST_NETS (length grouped.now.kept + length grouped.now.loose)) (Reply.TooMany MOST_NETS)
+        ∷ refuse (nat_lt MOST_ENDS (length (flat_map (λ net. net.ends) grouped.now.kept) + length (flat_map (λ net. net.ends) grouped.now.loose))) (Reply.TooMany MOST_ENDS) ∷ []) }
 {
     let kept = grouped.kept.as_slice();
     let loose = grouped.loose.as_slice();
-    if kept.len().saturating_add(loose.len()) > 1_048_576 {
-        return Some(Reply::TooMany { limit: 1_048_576 });
+    if kept.len().saturating_add(loose.len()) > MOST_NETS {
+        return Some(Reply::TooMany {
+            limit: MOST_NETS as u64,
+        });
     }
-    if count_ends(loose, count_ends(kept, 0)) > 4_194_304 {
-        return Some(Reply::TooMany { limit: 4_194_304 });
+    if count_ends(loose, count_ends(kept, 0)) > MOST_ENDS as u64 {
+        return Some(Reply::TooMany {
+            limit: MOST_ENDS as u64,
+        });
     }
     None
 }

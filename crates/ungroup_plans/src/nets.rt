@@ -1,5 +1,6 @@
 //! The nets afterwards.
 ghost use Rattle.std.specs.Prelude.{◌≡◌, ◌<◌, ◌≤◌, ◌+◌, ◌++◌, ◌^◌, List, ℕ, IfOk, OnOk, length, map};
+ghost use Rattle.netlist_schema.specs.declared.limits.TheConstants.{MOST_NETS};
 ghost use Rattle.free_names.specs.Taken.{IsOf};
 ghost use Rattle.net_groups.specs.Grouped.{AreGrouped};
 ghost use Rattle.ungroup_spec.specs.Dissolved.{net_name, nets_after, with_net_name};
@@ -51,8 +52,8 @@ pub fn nets_after(
     inst: &Name,
     grouped: Grouped,
 ) -> Result<Row<Net>, NoMemory>
-    requires around { length around.now ≤ 1048576 }
-    requires loose { length grouped.loose ≤ 1048576 }
+    requires around { length around.now ≤ MOST_NETS }
+    requires loose { length grouped.loose ≤ MOST_NETS }
     ensures { IfOk result (λ made. (s : Site) → s.around.nets ≡ around.now → s.inst.name ≡ inst.now → AreGrouped s grouped → made ≡ nets_after s) }
 {
     let Grouped { kept, loose } = grouped;

@@ -5,6 +5,7 @@ ghost use Rattle.std.specs.List.{list_any};
 ghost use Rattle.edit_core.specs.Find.{inst_place};
 ghost use Rattle.indexmap.specs.IndexMap.{get};
 ghost use Rattle.netlist_schema.specs.Types.{Inst as InstType};
+ghost use Rattle.netlist_schema.specs.declared.limits.TheConstants.{MOST_INSTS};
 ghost use Rattle.ungroup_plans.specs.Moved.{new_id, note_moved, notes_moved, path_moved};
 
 use crate::places::places_by_name;
@@ -120,7 +121,7 @@ pub fn moved_notes(
     within: &[Inst],
     children: &[Inst],
 ) -> Result<Option<Row<Note>>, NoMemory>
-    requires few { length within.now ≤ 1048576 }
+    requires few { length within.now ≤ MOST_INSTS }
     requires long { length places.now ≡ length notes.now }
     ensures { IfOk result (λ made. made ≡ notes_moved within.now children.now notes.now places.now) }
 {

@@ -1,6 +1,7 @@
 //! The places of instances, by their names.
 ghost use Rattle.std.specs.Prelude.{◌≡◌, ◌≤◌, List, ℕ, IfOk, OnOk, length, nat_eq};
 ghost use Rattle.std.specs.Cmp.Lexicographic.{pointwise};
+ghost use Rattle.netlist_schema.specs.declared.limits.TheConstants.{MOST_INSTS};
 ghost use Rattle.edit_core.specs.Find.{inst_place};
 ghost use Rattle.indexmap.specs.IndexMap.{get};
 ghost use Rattle.ungroup_plans.specs.Places.{place_added};
@@ -27,7 +28,7 @@ fn add_place(
 
 /// For each name the place of the first instance with it.
 pub fn places_by_name(alloc: Global, insts: &[Inst]) -> Result<IndexMap<Ident, u32>, NoMemory>
-    requires { length insts.now ≤ 1048576 }
+    requires { length insts.now ≤ MOST_INSTS }
     ensures { IfOk result (λ places. (name : List ℕ) → get (pointwise nat_eq) places name ≡ inst_place name insts.now) }
 {
     let mut places = IndexMap::new(alloc);

@@ -4,6 +4,7 @@ use Rattle.std.specs.List.{last_or}
 use Rattle.netlist_schema.specs.Design.{Design}
 use Rattle.netlist_schema.specs.Types.{CellId, Inst, Property, TopHead}
 use Rattle.netlist_schema.specs.Valid.{IsValid}
+use Rattle.netlist_schema.specs.declared.limits.TheConstants.{MOST_ENDS, MOST_INSTS, MOST_NETS}
 use Rattle.flat_spec.specs.Connection.{Connected}
 use Rattle.flat_spec.specs.Effective.{effective, insts_along, names_along}
 use Rattle.flat_spec.specs.Occurrences.{occurrences}
@@ -23,9 +24,9 @@ use Rattle.ungroup_spec.specs.Ungroup.{ungroup, IsSite, ungrouped, count_insts, 
 pub record IsUngroup (d : Design) (q : Dissolving) : Type 0 where
   pub valid : IsValid d
   pub stands : IsSite d q.cell q.site
-  pub insts_fit : count_insts q.site ≤ 1048576
-  pub nets_fit : count_nets q.site ≤ 1048576
-  pub ends_fit : count_ends q.site ≤ 4194304
+  pub insts_fit : count_insts q.site ≤ MOST_INSTS
+  pub nets_fit : count_nets q.site ≤ MOST_NETS
+  pub ends_fit : count_ends q.site ≤ MOST_ENDS
 
 abbrev pub after : Design → Dissolving → Design
 after d q = ungrouped d q.cell q.site

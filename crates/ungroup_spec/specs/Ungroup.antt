@@ -4,6 +4,7 @@ use Rattle.std.specs.List.{flat_map}
 use Rattle.std.specs.Option.{option_map_or}
 use Rattle.netlist_schema.specs.Design.{Design}
 use Rattle.netlist_schema.specs.Types.{CellId, Contents, Note}
+use Rattle.netlist_schema.specs.declared.limits.TheConstants.{MOST_ENDS, MOST_INSTS, MOST_NETS}
 use Rattle.edit_core.specs.Edit.{Edit, inner, noted, edited}
 use Rattle.edit_core.specs.Find.{cell_named, inst_place}
 use Rattle.edit_core.specs.Rule.{Rule, refuse, no_lib, no_cell, no_inst, is_leaf, first}
@@ -54,7 +55,7 @@ abbrev pub rule_seen : Named → Option Contents → List ℕ → Option Content
 rule_seen at around name within notes =
     let site = site_of around name within in
     record {
-      refusals = no_lib at ∷ no_cell at ∷ no_inst around name ∷ is_leaf within ∷ over 1048576 count_insts site ∷ over 1048576 count_nets site ∷ over 4194304 count_ends site ∷ [];
+      refusals = no_lib at ∷ no_cell at ∷ no_inst around name ∷ is_leaf within ∷ over MOST_INSTS count_insts site ∷ over MOST_NETS count_nets site ∷ over MOST_ENDS count_ends site ∷ [];
       reply = Done;
       edits = edits_if at.cell site notes;
     }
@@ -85,9 +86,9 @@ pub record HasDissolved (d : Design) (cell : CellName) (name : List ℕ) : Type 
   pub found : inst_place name site.around.insts ≡ Some site.place
   pub stands : IsSite d id site
   pub edits : edited d (ungroup d cell name).edits ≡ ungrouped d id site
-  pub insts_fit : count_insts site ≤ 1048576
-  pub nets_fit : count_nets site ≤ 1048576
-  pub ends_fit : count_ends site ≤ 4194304
+  pub insts_fit : count_insts site ≤ MOST_INSTS
+  pub nets_fit : count_nets site ≤ MOST_NETS
+  pub ends_fit : count_ends site ≤ MOST_ENDS
 
 -- an operation that nothing refuses dissolves the instance
 abbrev pub DoneDissolves : Type 0

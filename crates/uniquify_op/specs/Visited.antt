@@ -4,6 +4,7 @@ use Rattle.std.specs.BTreeMap.{get}
 use Rattle.netlist_schema.specs.Design.{Design}
 use Rattle.netlist_schema.specs.Order.{cell_cmp}
 use Rattle.netlist_schema.specs.Types.{CellId}
+use Rattle.netlist_schema.specs.declared.limits.TheConstants.{MOST_CELLS}
 use Rattle.flat_spec.specs.Occurrences.{Occurrence}
 use Rattle.uniquify_spec.specs.Blocks.{is_block}
 use Rattle.uniquify_spec.specs.Copies.{copy_after}
@@ -38,4 +39,4 @@ pub record IsPutAt (d : Design) (top : CellId) (seen : List Occurrence) (at : Oc
 -- or there is no room for its copy
 abbrev pub IsPut : Design → CellId → List Occurrence → Occurrence → Visits → Visits → Option ℕ → Type 0
 IsPut d top seen at old new (Some row) = IsPutAt d top seen at old new row
-IsPut d top seen at old new None = (came_before seen at.cell ≡ true) × (65536 ≤ (copy_after d (made_for d (marks_after [] seen)) at).id.slot)
+IsPut d top seen at old new None = (came_before seen at.cell ≡ true) × (MOST_CELLS ≤ (copy_after d (made_for d (marks_after [] seen)) at).id.slot)

@@ -5,6 +5,7 @@ use Rattle.netlist_schema.specs.Design.{Design, cell_at, cells_in}
 use Rattle.netlist_schema.specs.Hierarchy.{IsCell}
 use Rattle.netlist_schema.specs.Types.{CellId, LibId, TopHead}
 use Rattle.netlist_schema.specs.Valid.{IsValid}
+use Rattle.netlist_schema.specs.declared.limits.TheConstants.{MOST_CELLS}
 use Rattle.edit_core.specs.Frame.{Stepped}
 use Rattle.edit_core.specs.Objects.{Grown}
 use Rattle.edit_core.specs.Rule.{IsRefusal}
@@ -86,7 +87,7 @@ FirstsKeepTheirCells = (d : Design) (top : TopHead) → IsDoneBelow d top (uniqu
 
 -- a library would have more cells than it may
 abbrev pub IsTooFull : Design → List Copy → Type 0
-IsTooFull d copies = (lib : LibId) × (65536 < length (cells_in d lib) + length (copies_in lib copies))
+IsTooFull d copies = (lib : LibId) × (MOST_CELLS < length (cells_in d lib) + length (copies_in lib copies))
 
 -- what is refused as too many is that
 abbrev pub TooManyIsTooFull : Type 0

@@ -4,6 +4,7 @@ use Rattle.std.specs.List.{list_any}
 use Rattle.std.specs.Option.{option_map_or}
 use Rattle.netlist_schema.specs.Design.{Design}
 use Rattle.netlist_schema.specs.Types.{CellId}
+use Rattle.netlist_schema.specs.declared.limits.TheConstants.{MOST_CELLS}
 use Rattle.edit_core.specs.Frame.{Stepped, stepped}
 use Rattle.edit_core.specs.Rule.{Rule, refuse}
 use Rattle.edit_core.specs.Paths.{is_path}
@@ -15,7 +16,7 @@ use Rattle.uniquify_spec.specs.Split.{Split, split_edits}
 
 -- a copy would get a place that a library does not have
 abbrev pub too_many_cells : List Copy → Option Reply
-too_many_cells copies = refuse (list_any (λ copy. nat_le 65536 copy.id.slot) copies) (TooMany 65536)
+too_many_cells copies = refuse (list_any (λ copy. nat_le MOST_CELLS copy.id.slot) copies) (TooMany MOST_CELLS)
 
 -- cells of their own for the occurrences of a split, where neither these refusals apply nor a library would be too large
 abbrev pub split_row : Design → List (Option Reply) → Split → Rule

@@ -4,6 +4,7 @@ ghost use Rattle.std.specs.Arc.{arc_value};
 ghost use Rattle.std.specs.List.{list_any};
 ghost use Rattle.edit_core.specs.Find.{is_same, place_of};
 ghost use Rattle.netlist_schema.specs.Names.{AreDistinct, cell_names};
+ghost use Rattle.netlist_schema.specs.declared.limits.TheConstants.{MOST_CELLS};
 
 use indexmap::IndexSet;
 use netlist_schema::{CellBody, Ident, NoMemory};
@@ -25,18 +26,19 @@ impl Drop for Directory {
 
 impl Model for Directory {
     ghost use Rattle.std.specs.Prelude.{◌≤◌, List, ℕ, length};
+    ghost use Rattle.netlist_schema.specs.declared.limits.TheConstants.{MOST_CELLS};
 
     ghost Value = { List (List ℕ) };
 
     ghost view = { λ d. d.names.keys };
 
-    ghost invariant = { λ d. length d.names.keys ≤ 65536 };
+    ghost invariant = { λ d. length d.names.keys ≤ MOST_CELLS };
 }
 
 impl Directory {
     /// The directory of these cells, whose names differ.
     pub fn of(alloc: Global, cells: &[CellBody]) -> Result<Directory, NoMemory>
-        requires few { length cells.now ≤ 65536 }
+        requires few { length cells.now ≤ MOST_CELLS }
         requires distinct { AreDistinct (cell_names cells.now) }
         ensures { IfOk result (λ d. d ≡ cell_names cells.now) }
     {
@@ -49,7 +51,7 @@ impl Directory {
 
     /// This directory with the names of more cells behind its last, which differ from each other and from those here.
     pub fn with(&self, alloc: Global, more: &[Arc<CellBody>]) -> Result<Directory, NoMemory>
-        requires few { length (self.now ++ cell_names (map arc_value more.now)) ≤ 65536 }
+        requires few { length (self.now ++ cell_names (map arc_value more.now)) ≤ MOST_CELLS }
         requires distinct { AreDistinct (self.now ++ cell_names (map arc_value more.now)) }
         ensures { IfOk result (λ made. made ≡ self.now ++ cell_names (map arc_value more.now)) }
     {
@@ -61,7 +63,7 @@ impl Directory {
     /// The number of names.
     pub fn len(&self) -> u32
         ensures value { result ≡ length self.now }
-        ensures limit { result ≤ 65536 }
+        ensures limit { result ≤ MOST_CELLS }
     {
         self.names.len() as u32
     }

@@ -3,6 +3,7 @@ ghost use Rattle.std.specs.Prelude.{◌≡◌, ◌≤◌, ◌+◌, ◌++◌, len
 ghost use Rattle.std.specs.Arc.{arc_value};
 ghost use Rattle.std.specs.Option.{option_copied};
 ghost use Rattle.netlist_schema.specs.Names.{AreDistinct, cell_names};
+ghost use Rattle.netlist_schema.specs.declared.limits.TheConstants.{MOST_CELLS};
 ghost use Rattle.ver_table.specs.Entries.{pairs_of, IsInOrder};
 ghost use Rattle.ver_table.specs.Rows.{numbered, set_all};
 ghost use Rattle.version_data.specs.Changes.{cells_set, KeepNames};
@@ -48,7 +49,7 @@ impl Shelf {
     /// The library of these parts, whose cells have names that differ.
     pub fn of(alloc: Global, lib: Lib) -> Result<Shelf, NoMemory>
         requires distinct { AreDistinct (cell_names lib.cells) }
-        requires few { length lib.cells ≤ 65536 }
+        requires few { length lib.cells ≤ MOST_CELLS }
         ensures { IfOk result (λ shelf. shelf ≡ lib) }
     {
         let Lib { head, cells } = lib;
@@ -84,7 +85,7 @@ impl Shelf {
     /// This library with more cells behind its last, whose names differ from each other and from those here. What is not
     /// changed is shared.
     pub fn with_more(&self, alloc: Global, bodies: &[Arc<CellBody>]) -> Result<Shelf, NoMemory>
-        requires few { length (self.now.cells ++ map arc_value bodies.now) ≤ 65536 }
+        requires few { length (self.now.cells ++ map arc_value bodies.now) ≤ MOST_CELLS }
         requires distinct { AreDistinct (cell_names (self.now.cells ++ map arc_value bodies.now)) }
         ensures { IfOk result (λ made. made ≡ record self.now { cells = self.now.cells ++ map arc_value bodies.now }) }
     {
@@ -115,7 +116,7 @@ impl Shelf {
     /// The number of cells.
     pub fn cell_count(&self) -> u32
         ensures value { result ≡ length self.now.cells }
-        ensures limit { result ≤ 65536 }
+        ensures limit { result ≤ MOST_CELLS }
     {
         self.directory().len()
     }
@@ -135,7 +136,7 @@ fn with_behind(
     first: u32,
     bodies: &[Arc<CellBody>],
 ) -> Result<Table<CellBody, 64>, NoMemory>
-    requires { first + length bodies.now ≤ 65536 }
+    requires { first + length bodies.now ≤ MOST_CELLS }
     ensures { IfOk result (λ made. made ≡ set_all cells.now (numbered first (map arc_value bodies.now))) }
 {
     let entries = entries_from(alloc, first, bodies)?;
@@ -148,7 +149,7 @@ fn entries_from(
     first: u32,
     bodies: &[Arc<CellBody>],
 ) -> Result<Vec<Entry<CellBody>>, NoMemory>
-    requires { first + length bodies.now ≤ 65536 }
+    requires { first + length bodies.now ≤ MOST_CELLS }
     ensures { IfOk result (λ entries. pairs_of entries.items ≡ numbered first (map arc_value bodies.now)) }
 {
     let mut entries = Vec::with_capacity(alloc, bodies.len())?;

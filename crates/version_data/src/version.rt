@@ -7,6 +7,7 @@ ghost use Rattle.version_data.specs.Shelves.{shelf_name};
 ghost use Rattle.std.specs.Option.{option_copied, option_map, option_map_or};
 ghost use Rattle.netlist_schema.specs.Design.{lib_at, cells_in, cell_at};
 ghost use Rattle.netlist_schema.specs.Valid.{IsValid};
+ghost use Rattle.netlist_schema.specs.declared.limits.TheConstants.{MOST_CELLS};
 ghost use Rattle.edit_core.specs.Find.{is_name, lib_named, cell_in};
 
 use crate::shelf::Shelf;
@@ -154,7 +155,7 @@ impl Version {
 /// The libraries, each shared.
 fn shelved(alloc: Global, libs: Vec<Lib>) -> Result<Vec<Arc<Shelf>>, NoMemory>
     requires distinct { All (λ lib. AreDistinct (cell_names lib.cells)) libs.items }
-    requires few { All (λ lib. length lib.cells ≤ 65536) libs.items }
+    requires few { All (λ lib. length lib.cells ≤ MOST_CELLS) libs.items }
     ensures { IfOk result (λ shelves. map arc_value shelves.items ≡ libs.items) }
 {
     let mut shelves = Vec::with_capacity(alloc, libs.len())?;

@@ -5,6 +5,7 @@ use Rattle.std.specs.Arc.{arc_value}
 use Rattle.netlist_schema.specs.Design.{Design, cells_in}
 use Rattle.netlist_schema.specs.Names.{AreDistinct, cell_names}
 use Rattle.netlist_schema.specs.Types.{Lib, LibId, Note}
+use Rattle.netlist_schema.specs.declared.limits.TheConstants.{MOST_CELLS}
 use Rattle.version_draft.specs.Laid.{Fits, cells_laid, laid}
 use Rattle.version_draft.specs.Layers.{over_of, IsNamed, IsSameLayer}
 use Rattle.version_draft.specs.declared.layer.Layer.{Layer}
@@ -61,5 +62,5 @@ AreSameLayers (old ∷ olds) (new ∷ news) = IsSameLayer old new × AreSameLaye
 
 -- few cells in each library, whose names differ
 pub record AreSound (libs : List Lib) : Type 0 where
-  pub few : All (λ lib. length lib.cells ≤ 65536) libs
+  pub few : All (λ lib. length lib.cells ≤ MOST_CELLS) libs
   pub distinct : All (λ lib. AreDistinct (cell_names lib.cells)) libs

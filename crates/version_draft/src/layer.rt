@@ -10,6 +10,7 @@ ghost use Rattle.edit_core.specs.Find.{is_name, is_same, place_of};
 ghost use Rattle.std.specs.List.{list_any};
 ghost use Rattle.version_draft.specs.Laid.{Fits, cells_laid};
 ghost use Rattle.netlist_schema.specs.Types.{CellBody as CellBody'};
+ghost use Rattle.netlist_schema.specs.declared.limits.TheConstants.{MOST_CELLS};
 ghost use Rattle.version_draft.specs.Make.{CanFit};
 ghost use Rattle.version_draft.specs.Place.{HasBody, IsTriedIn};
 ghost use Rattle.version_draft.specs.Layers.{changes_of, over_of, HasAdded, HasChanged, IsBlank, IsEmpty, IsNamed, IsPut, IsSameLayer};
@@ -26,13 +27,22 @@ use version_data::Shelf;
 use version_data::directory::{any_same, copied};
 
 /// A layer over a library: other bodies of its cells, and cells that go after its last. The library itself stays as it is.
-#[derive(Drop)]
 pub struct Layer {
     /// The other body of a cell, by its place.
     changed: BTreeMap<u32, Arc<CellBody>>,
     /// The names of the cells added, for look-ups.
     names: IndexSet<Ident>,
     cells: Vec<Arc<CellBody>>,
+}
+
+impl Drop for Layer {
+    fn drop(self) {
+        let Layer {
+            changed: _,
+            names: _,
+            cells: _,
+        } = self;
+    }
 }
 
 impl Layer {
@@ -251,7 +261,7 @@ impl Layer {
     /// The library with this layer over it. What the layer leaves is shared.
     pub fn laid(&self, alloc: Global, shelf: Arc<Shelf>) -> Result<Arc<Shelf>, NoMemory>
         requires fits { Fits (arc_value shelf).cells (over_of self.now) }
-        requires few { length (cells_laid (over_of self.now) (arc_value shelf).cells) ≤ 65536 }
+        requires few { length (cells_laid (over_of self.now) (arc_value shelf).cells) ≤ MOST_CELLS }
         requires distinct { AreDistinct (cell_names (cells_laid (over_of self.now) (arc_value shelf).cells)) }
         ensures { IfOk result (λ made. arc_value made ≡ record (arc_value shelf) { cells = cells_laid (over_of self.now) (arc_value shelf).cells }) }
     {

@@ -1,4 +1,5 @@
 use Rattle.std.proofs.Common.{◌<◌, arith}
+use Rattle.netlist_schema.specs.declared.limits.TheConstants.{MOST_CELLS}
 use Rattle.copy_names.proofs.Naming.{next_is}
 use Rattle.copy_names.proofs.SomeReads.{some_then}
 use Rattle.copy_names.proofs.namer.Namer.next_copy.Goals as goal
@@ -7,7 +8,7 @@ pub returns-clause-next : goal.returns-clause-next
 returns-clause-next g c = λ made known.
     let s = g.C.Cells.state c.args.cells.now in
     let named = some_then s (g.C.Cells.state c.next_slot.new.cells) (g.C.Cells.state c.name_of.new.cells) c.in_ok-slot.ensures.some c.in_ok-name.ensures.some in
-    let room : c.in_ok-slot.slot < 65536 = omega (arith, c.if-slot-ge65536.false) in
+    let room : c.in_ok-slot.slot < MOST_CELLS = omega (arith, c.if-slot-ge-MOST_CELLS.false) in
     next_is s.design (g.C.Cells.state c.next_slot.new.cells).design (g.C.Cells.state c.name_of.new.cells).design made c.args.self.now c.keep.new.self c.args.of c.in_ok-stem.stem
     c.in_ok-slot.slot c.in_ok-found.found.number c.next_number-from.result c.in_ok-name.name c.in_ok-found.found.id c.in_ok-shown.shown known
     c.in_ok-slot.ensures.value room c.in_ok-slot.ensures.some.design c.in_ok-name.ensures.value c.in_ok-stem.ensures c.next_number-from.ensures named.design
