@@ -132,7 +132,8 @@ pub fn lacks_inst(contents: Option<&Contents>, inst: &Option<Ident>) -> bool
 /// The place of the instance of an end, or the refusal where it is not there.
 pub fn end_inst(contents: Option<&Contents>, inst: &Option<Ident>) -> Result<Option<u32>, Reply>
     requires { IfSome contents (λ inside. HasLimits inside.now) }
-    ensures { MatchResult result (λ place. place ≡ end_inst (option_copied contents.entry) inst.now) (λ _. no_end_inst (option_copied contents.entry) inst.now ≡ Some NoInst) }
+    ensures { let old = option_copied contents.entry in
+        MatchResult result (λ place. (no_end_inst old inst.now ≡ None) × (place ≡ end_inst old inst.now)) (λ refusal. (refusal ≡ NoInst) × (no_end_inst old inst.now ≡ Some NoInst)) }
 {
     match inst {
         Some(name) => match inst_at(contents, name) {
