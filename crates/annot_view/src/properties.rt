@@ -6,7 +6,7 @@ ghost use Rattle.std.specs.Option.{option_map_or};
 ghost use Rattle.flat_spec.specs.Effective.{effective as properties_at, insts_along, merged, notes_for, replaced, same_key};
 ghost use Rattle.annot_view.specs.Lent.{lent, lent_names};
 
-use cell_lookup::inst_at;
+use flat_lookup::inst_at;
 use flat_spec::Path;
 use netlist_schema::{CellId, Copied, Ident, Inst, NoMemory, Note, Property, Row, Shown, TopHead};
 use std::alloc::Global;

@@ -8,11 +8,11 @@ use Rattle.netlist_schema.specs.Design.{Design, cell_at, insts_in}
 use Rattle.netlist_schema.specs.Hierarchy.{IsBelow, placed, deeper, insts_at}
 use Rattle.netlist_schema.specs.Types.{CellId, Contents, Inst, Object}
 use Rattle.netlist_schema.proofs.Ranks.{below_trans}
-use Rattle.edit_core.specs.Seen.{contents_at}
+use Rattle.edit_rules_spec.specs.Seen.{contents_at}
 use Rattle.uniquify_spec.proofs.Agreed.{insts_inside}
-use Rattle.cells_model.specs.Parts.{IsInside}
-use Rattle.cells_model.specs.State.{State, HasRead, HasReadSome}
-use Rattle.cells_model.proofs.Growing.{grows_by_same, prefix_twice}
+use Rattle.edit_cells.specs.Parts.{IsInside}
+use Rattle.edit_cells.specs.State.{State, HasRead, HasReadSome}
+use Rattle.edit_cells.proofs.Growing.{grows_by_same, prefix_twice}
 use Rattle.eco_reads.specs.Walk.{GoesOn, IsPlaced}
 use Rattle.eco_reads.proofs.Below.{placed_of, take_whole, only_one, placed_inst}
 use Rattle.eco_reads.proofs.Reading.{read_some, read_then}

@@ -7,7 +7,7 @@ use Rattle.std.proofs.lemmas.List.Elements.{filter-append}
 use Rattle.netlist_schema.specs.Design.{Design, cell_at, insts_in}
 use Rattle.netlist_schema.specs.Hierarchy.{insts_at}
 use Rattle.netlist_schema.specs.Types.{CellId, Contents, Inst}
-use Rattle.edit_core.specs.Seen.{contents_at}
+use Rattle.edit_rules_spec.specs.Seen.{contents_at}
 use Rattle.uniquify_spec.proofs.Agreed.{insts_inside}
 use Rattle.eco_reads.proofs.Below.{take_whole}
 use Rattle.uniquify_spec.specs.Blocks.{is_block}

@@ -3,7 +3,7 @@ use Rattle.std.specs.Prelude.{◌⊎◌}
 use Rattle.netlist_schema.specs.Design.{Design}
 use Rattle.netlist_schema.specs.Hierarchy.{IsBelow}
 use Rattle.netlist_schema.specs.Types.{CellId, Object}
-use Rattle.cells_model.specs.Parts.{IsInside}
+use Rattle.edit_cells.specs.Parts.{IsInside}
 use Rattle.block_reads.specs.ForBlocks.{IsForBlock}
 
 -- what is inside the top; of each cell below it both parts, and the directory of its library where it is a block

@@ -3,15 +3,15 @@ ghost use Rattle.std.specs.Prelude.{◌≡◌, MatchResult, OnOk};
 ghost use Rattle.std.specs.Option.{option_copied};
 ghost use Rattle.netlist_schema.specs.Design.{insts_in};
 ghost use Rattle.netlist_schema.specs.Hierarchy.{insts_at};
-ghost use Rattle.cells_model.specs.Parts.{IsInside};
-ghost use Rattle.cells_model.specs.State.{HasRead, HasReadSome};
+ghost use Rattle.edit_cells.specs.Parts.{IsInside};
+ghost use Rattle.edit_cells.specs.State.{HasRead, HasReadSome};
 ghost use Rattle.eco_reads.specs.Walk.{GoesOn, IsListed, IsPlaced};
 ghost use Rattle.block_reads.specs.ForBlocks.{IsForBlock};
 ghost use Rattle.block_kids.specs.Below.{IsForAllBelow};
 
 use block_reads::read_block;
-use cells_model::Cells;
 use eco_reads::walk::add_inside;
+use edit_cells::Cells;
 use netlist_schema::{CellId, NoMemory};
 use std::alloc::Global;
 use std::collections::BTreeSet;
@@ -57,15 +57,12 @@ pub fn read_below<C: Cells>(alloc: Global, cells: &mut C, top: CellId) -> Result
     let mut order = Vec::new(alloc);
     look(cells, &mut seen, &mut order, top)?;
     let mut next = 0usize;
-    for _ in 0..u64::MAX {
-        if next >= order.len() {
-            return Ok(());
-        }
+    while next < order.len() {
         let id = order[next];
         let Ok(()) = enter(cells, &mut seen, &mut order, id) else {
             return Err(NoMemory);
         };
         next += 1;
     }
-    Err(NoMemory)
+    Ok(())
 }

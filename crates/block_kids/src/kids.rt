@@ -5,18 +5,18 @@ ghost use Rattle.netlist_schema.specs.Design.{insts_in};
 ghost use Rattle.netlist_schema.specs.Hierarchy.{insts_at};
 ghost use Rattle.netlist_schema.specs.declared.limits.TheConstants.{MOST_INSTS};
 ghost use Rattle.uniquify_spec.specs.Blocks.{is_block};
-ghost use Rattle.cells_model.specs.Parts.{HasLimits};
-ghost use Rattle.cells_model.specs.State.{HasReadSome};
+ghost use Rattle.edit_cells.specs.Parts.{HasLimits};
+ghost use Rattle.edit_cells.specs.State.{HasReadSome};
 ghost use Rattle.block_kids.specs.Kids.{kids_of, steps_of};
 
 use block_reads::{read_cell, step_at};
 use cell_copies::Step;
-use cells_model::Cells;
-use netlist_schema::{CellId, Contents, Inst, NoMemory, Row};
+use edit_cells::Cells;
+use netlist_schema::{CellId, Contents, Inst, NoMemory, Row, Shared};
 use std::alloc::Global;
 
 /// The instances of a list, with their places.
-fn steps_of(alloc: Global, insts: &Row<Inst>) -> Result<Vec<Step>, NoMemory>
+fn steps_of(alloc: Global, insts: &Row<Shared<Inst>>) -> Result<Vec<Step>, NoMemory>
     requires { length insts.now ≤ MOST_INSTS }
     ensures { IfOk result (λ steps. steps.items ≡ steps_of insts.now) }
 {

@@ -6,8 +6,8 @@ use Rattle.netlist_schema.specs.Types.{CellId}
 use Rattle.netlist_schema.specs.declared.ids.Object.TheVariants.{Directory}
 use Rattle.uniquify_spec.specs.Blocks.{is_block}
 use Rattle.uniquify_spec.specs.Parts.{IsPartOf}
-use Rattle.cells_model.specs.State.{State, HasRead}
-use Rattle.cells_model.proofs.Growing.{grows_by_same}
+use Rattle.edit_cells.specs.State.{State, HasRead}
+use Rattle.edit_cells.proofs.Growing.{grows_by_same}
 use Rattle.eco_reads.proofs.Reading.{read_then}
 use Rattle.block_reads.specs.ForBlocks.{IsForBlock}
 

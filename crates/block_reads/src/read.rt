@@ -4,10 +4,10 @@ ghost use Rattle.std.specs.Option.{option_copied};
 ghost use Rattle.netlist_schema.specs.declared.ids.Object.TheVariants.{Directory};
 ghost use Rattle.uniquify_spec.specs.Blocks.{is_block};
 ghost use Rattle.uniquify_spec.specs.Parts.{IsPartOf};
-ghost use Rattle.cells_model.specs.State.{HasRead, HasReadSome};
+ghost use Rattle.edit_cells.specs.State.{HasRead, HasReadSome};
 ghost use Rattle.block_reads.specs.ForBlocks.{IsForBlock};
 
-use cells_model::Cells;
+use edit_cells::Cells;
 use netlist_schema::{CellBody, CellId, LibId, NoMemory};
 
 /// Whether the cell is a block.

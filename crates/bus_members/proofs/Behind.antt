@@ -2,7 +2,7 @@
 use Rattle.std.proofs.Common.{◌≡◌, ℕ, ◌≤◌, ◌<◌, Bool, false, nat_eq, List, [], ◌∷◌, ◌++◌, length, get_or, ap, sym, ◌∙◌, arith, eqb-true}
 use Rattle.std.specs.Bool.{Decides}
 use Rattle.std.proofs.lemmas.Bool.Decides.{Decides-eqb}
-use Rattle.bus_spec.proofs.Numbers.{left_same}
+use Rattle.netlist_bus_spec.proofs.Numbers.{left_same}
 
 -- a text is its front with a tail where that tail stands behind the front
 pub behind : (text front rest tail : List ℕ) (b : Bool) → text ≡ front ++ rest → Decides b (rest ≡ tail) → Decides b (text ≡ front ++ tail)

@@ -4,8 +4,8 @@ use Rattle.std.specs.Prelude.{slice_get}
 use Rattle.std.proofs.lemmas.Bool.{cases_lt, and_parts, and_from}
 use Rattle.std.proofs.lemmas.Option.{slice_get_read}
 use Rattle.netlist_schema.specs.Types.{Net, Port}
-use Rattle.bus_spec.specs.Runs.{are_members, is_member}
-use Rattle.bus_spec.proofs.Rows.{some_same}
+use Rattle.netlist_bus_spec.specs.Runs.{are_members, is_member}
+use Rattle.netlist_bus_spec.proofs.Rows.{some_same}
 
 -- the members and the one behind them
 members_more : (ports : Option ℕ → List Port) (width : ℕ) (first : Net) (k i j : ℕ) (nets : List Net) (n : Net) → j ≡ k + i → slice_get nets i ≡ Some n → are_members ports width first k (take i nets) ≡ true → is_member ports width first j n ≡ true

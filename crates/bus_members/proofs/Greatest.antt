@@ -5,11 +5,11 @@ use Rattle.std.specs.Cmp.Lexicographic.{pointwise}
 use Rattle.std.proofs.lemmas.Bool.{cases_lt}
 use Rattle.std.proofs.lemmas.List.{length-take-le}
 use Rattle.netlist_schema.specs.Types.{End, Net, Port}
-use Rattle.bus_spec.specs.Members.{member_name}
-use Rattle.bus_spec.specs.Runs.{BeginsRun, are_members, is_bit, is_member, run_name, run_width, stem}
-use Rattle.bus_spec.specs.Same.{same_name, same_properties}
-use Rattle.bus_spec.proofs.Rows.{passed, run_passes, run_there, some_same, tested}
-use Rattle.bus_spec.proofs.Told.{one_greatest, width_is_greatest}
+use Rattle.netlist_bus_spec.specs.Members.{member_name}
+use Rattle.netlist_bus_spec.specs.Runs.{BeginsRun, are_members, is_bit, is_member, run_name, run_width, stem}
+use Rattle.netlist_bus_spec.specs.Same.{same_name, same_properties}
+use Rattle.netlist_bus_spec.proofs.Rows.{passed, run_passes, run_there, some_same, tested}
+use Rattle.netlist_bus_spec.proofs.Told.{one_greatest, width_is_greatest}
 
 -- a front of a list of nets that is a run, by its first net
 record Front (ports : Option ℕ → List Port) (n : Net) (nets : List Net) (v : ℕ) : Type 0 where

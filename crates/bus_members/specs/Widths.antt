@@ -2,7 +2,7 @@
 use Rattle.std.specs.Prelude.{◌≡◌, ◌<◌, ℕ, List, [], Option, Some, None, drop, length, option_map, slice_get, unwrap_or}
 use Rattle.netlist_schema.specs.Design.{Design, cell_at, insts_of, nets_of}
 use Rattle.netlist_schema.specs.Types.{CellBody, CellId, Inst, Port}
-use Rattle.bus_spec.specs.Runs.{run_width}
+use Rattle.netlist_bus_spec.specs.Runs.{run_width}
 
 -- the ports of a cell, none where there is no such cell
 abbrev pub ports_at : Design → CellId → List Port

@@ -6,20 +6,20 @@ ghost use Rattle.netlist_schema.specs.Design.{insts_of, nets_of};
 ghost use Rattle.netlist_schema.specs.Types.{Port};
 ghost use Rattle.netlist_schema.specs.Width.{IsWidth};
 ghost use Rattle.bus_members.specs.Widths.{HasNet, ports_among, width_at};
-ghost use Rattle.bus_spec.specs.Members.{member_name};
-ghost use Rattle.bus_spec.specs.Runs.{are_members, is_bit, is_member, run_name, run_width, stem};
-ghost use Rattle.bus_spec.specs.Same.{same_name};
+ghost use Rattle.netlist_bus_spec.specs.Members.{member_name};
+ghost use Rattle.netlist_bus_spec.specs.Runs.{are_members, is_bit, is_member, run_name, run_width, stem};
+ghost use Rattle.netlist_bus_spec.specs.Same.{same_name};
 
 use crate::members::is_numbered;
 use netlist_schema::limits::MOST_WIDTH;
-use netlist_schema::{CellBody, CellId, End, Inst, Net, Port, Shown, Text};
+use netlist_schema::{CellBody, CellId, End, Inst, Net, Port, Shared, Shown, Text};
 
 /// What the ends of the nets of a cell are judged by: the design, the cell's ports and its instances.
 #[derive(Clone, Copy)]
 struct Inside<'a, S> {
     design: &'a S,
     own: &'a [Port],
-    insts: &'a [Inst],
+    insts: &'a [Shared<Inst>],
 }
 
 /// The port of an end: of the cell itself, or of the cell of an instance. Takes no memory.
@@ -127,7 +127,7 @@ fn is_member<S: Shown>(inside: &Inside<S>, width: u32, first: &Net, k: u32, net:
 }
 
 /// How many of the first nets, at most `width`, are in the run of this width that begins with the first of them. Takes no memory.
-fn members<S: Shown>(inside: &Inside<S>, width: u32, first: &Net, nets: &[Net]) -> u32
+fn members<S: Shown>(inside: &Inside<S>, width: u32, first: &Net, nets: &[Shared<Net>]) -> u32
     ensures most { result ≤ width }
     ensures within { result ≤ length nets.now }
     ensures members { are_members (ports_among (S.design inside.now.design.now) inside.now.own.now inside.now.insts.now) width first.now 0 (take result nets.now) ≡ true }
@@ -143,13 +143,28 @@ fn members<S: Shown>(inside: &Inside<S>, width: u32, first: &Net, nets: &[Net]) 
     count
 }
 
+/// The first of these nets.
+fn first_of(nets: &[Shared<Net>]) -> Option<&Net>
+    ensures value { option_copied result ≡ slice_get nets.now 0 }
+{
+    match nets.first() {
+        Some(net) => Some(net.get()),
+        None => None,
+    }
+}
+
 /// The greatest width of the runs that begin with the first of these nets, in a cell with these ports and instances; 1 where none
 /// does. Takes no memory.
-pub fn run_from<S: Shown>(design: &S, own: &[Port], insts: &[Inst], nets: &[Net]) -> u32
+pub fn run_from<S: Shown>(
+    design: &S,
+    own: &[Port],
+    insts: &[Shared<Inst>],
+    nets: &[Shared<Net>],
+) -> u32
     ensures { result ≡ run_width (ports_among (S.design design.now) own.now insts.now) nets.now }
 {
     let inside = Inside { design, own, insts };
-    let Some(first) = nets.first() else {
+    let Some(first) = first_of(nets) else {
         return 1;
     };
     if stem(first.name.id.as_slice()).is_empty() {
@@ -169,7 +184,7 @@ pub fn run_from<S: Shown>(design: &S, own: &[Port], insts: &[Inst], nets: &[Net]
 }
 
 /// The nets of a cell: none of a leaf.
-fn nets_of(body: &CellBody) -> &[Net]
+fn nets_of(body: &CellBody) -> &[Shared<Net>]
     ensures { result.now ≡ nets_of body.now }
 {
     match &body.contents {
@@ -179,7 +194,7 @@ fn nets_of(body: &CellBody) -> &[Net]
 }
 
 /// The instances of a cell: none of a leaf.
-fn insts_of(body: &CellBody) -> &[Inst]
+fn insts_of(body: &CellBody) -> &[Shared<Inst>]
     ensures { result.now ≡ insts_of body.now }
 {
     match &body.contents {

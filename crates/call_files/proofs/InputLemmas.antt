@@ -9,18 +9,18 @@ use Rattle.netdb_outside.specs.Contents.{IsReadWhole}
 use Rattle.netdb_outside.specs.Outside.{Shelf, SameFiles, file_named}
 use Rattle.edif_spec.specs.Design.{Design}
 use Rattle.joint_spec.specs.Scripts.{all_steps}
-use Rattle.session_spec.specs.ScriptText.{Parts, steps_of}
-use Rattle.session_spec.specs.declared.script.Step.{Step}
-use Rattle.design_file.specs.Files.{IsDesignFile}
-use Rattle.design_file.proofs.BytesLemmas.{reads_back}
+use Rattle.script_spec.specs.ScriptText.{Parts, steps_of}
+use Rattle.script_spec.specs.declared.script.Step.{Step}
+use Rattle.edif_file.specs.Files.{IsDesignFile}
+use Rattle.edif_file.proofs.BytesLemmas.{reads_back}
 use Rattle.call_words.specs.Command.{spelled}
-use Rattle.call_spec.specs.Counts.{CountsReading}
-use Rattle.call_spec.specs.Refusals.{IsBad, RefusesDesign, RefusesScript, RefusesScripts}
-use Rattle.call_spec.specs.Steps.{IsNoDesign, IsNoScript, status_of}
-use Rattle.call_spec.specs.Told.{AreRead, IsBadScript, IsFile, IsLastRead, IsRead, IsReadThrough, IsScriptFile}
-use Rattle.call_spec.specs.declared.limits.TheConstants.{MOST_SCRIPT_BYTES}
-use Rattle.call_spec.specs.declared.status.Status.{Status}
-use Rattle.call_spec.specs.declared.status.Status.TheVariants as status
+use Rattle.netdb_spec.specs.Counts.{CountsReading}
+use Rattle.netdb_spec.specs.Refusals.{IsBad, RefusesDesign, RefusesScript, RefusesScripts}
+use Rattle.netdb_spec.specs.Steps.{IsNoDesign, IsNoScript, status_of}
+use Rattle.netdb_spec.specs.Told.{AreRead, IsBadScript, IsFile, IsLastRead, IsRead, IsReadThrough, IsScriptFile}
+use Rattle.netdb_spec.specs.declared.limits.TheConstants.{MOST_SCRIPT_BYTES}
+use Rattle.netdb_spec.specs.declared.status.Status.{Status}
+use Rattle.netdb_spec.specs.declared.status.Status.TheVariants as status
 
 -- ---- one file
 
@@ -168,18 +168,18 @@ parted (other ∷ names) zero name less = refl
 parted (other ∷ names) (suc i) name less = ap (λ (rest : List (String Global)). other ∷ rest) (parted names i name (omega (arith, less)))
 
 -- the script at a place is refused
-pub refused_at : (old new : Option Shelf) (names : List (String Global)) (i : ℕ) (name : String Global) (scripts : List Parts) (result : Status) → i < length names → name ≡ get_or names i name
-    → SameFiles old new → AreRead old (spelled (take i names)) (all_steps scripts) → RefusesScript new (string_bytes name) (i + 2) result → RefusesScripts new (spelled names) 2 result
-refused_at old new names i name scripts result less is same read refused =
+pub refused_at : (old new : Option Shelf) (names : List (String Global)) (i : ℕ) (name : String Global) (scripts : List Parts) (first : ℕ) (result : Status) → i < length names → name ≡ get_or names i name
+    → SameFiles old new → AreRead old (spelled (take i names)) (all_steps scripts) → RefusesScript new (string_bytes name) (i + first) result → RefusesScripts new (spelled names) first result
+refused_at old new names i name scripts first result less is same read refused =
     let front = spelled (take i names) in
     let rest = spelled (drop (suc i) names) in
     let count : length front ≡ i = length-map (take i names) string_bytes ∙ length-take-le i names (omega (arith, less)) in
-    let at : i + 2 ≡ 2 + length front = omega (arith, count) in
+    let at : i + first ≡ first + length front = omega (arith, count) in
     let parts : spelled names ≡ front ++ string_bytes name ∷ rest =
     ap spelled (parted names i name less)
     ∙ (map-append string_bytes (take i names) (get_or names i name ∷ drop (suc i) names) ∙ ap (λ n. front ++ string_bytes n ∷ rest) (sym is)) in
-    subst (λ (ns : List (List ℕ)). RefusesScripts new ns 2 result) (sym parts)
-    (refused_behind new front (all_steps scripts) (string_bytes name) rest 2 result (all_stay old new front (all_steps scripts) same read)
+    subst (λ (ns : List (List ℕ)). RefusesScripts new ns first result) (sym parts)
+    (refused_behind new front (all_steps scripts) (string_bytes name) rest first result (all_stay old new front (all_steps scripts) same read)
     (subst (λ (n : ℕ). RefusesScript new (string_bytes name) n result) at refused))
 
 -- a push that was not refused

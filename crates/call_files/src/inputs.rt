@@ -4,30 +4,30 @@ ghost use Rattle.netlist_schema.specs.declared.limits.TheConstants.{MOST_FILE_BY
 ghost use Rattle.netdb_outside.specs.Contents.{IsReadWhole};
 ghost use Rattle.netdb_outside.specs.Outside.{SameFiles};
 ghost use Rattle.joint_spec.specs.Scripts.{all_steps};
-ghost use Rattle.session_spec.specs.ScriptText.{steps_of};
-ghost use Rattle.design_file.specs.Files.{IsDesignFile, IsWrong};
-ghost use Rattle.design_file.specs.Reader.{WasFed};
-ghost use Rattle.design_file.specs.Steps.{Says};
+ghost use Rattle.script_spec.specs.ScriptText.{steps_of};
+ghost use Rattle.edif_file.specs.Files.{IsDesignFile, IsWrong};
+ghost use Rattle.edif_file.specs.Reader.{WasFed};
+ghost use Rattle.edif_file.specs.Steps.{Says};
 ghost use Rattle.call_words.specs.Command.{spelled};
-ghost use Rattle.call_spec.specs.Counts.{CountsReading};
-ghost use Rattle.call_spec.specs.Refusals.{RefusesDesign, RefusesFile, RefusesScript, RefusesScripts};
-ghost use Rattle.call_spec.specs.Steps.{IsNoDesign, IsNoScript, status_of};
-ghost use Rattle.call_spec.specs.Told.{AreRead, IsFile, IsLastRead, IsRead, IsReadThrough, IsScriptFile};
+ghost use Rattle.netdb_spec.specs.Counts.{CountsReading};
+ghost use Rattle.netdb_spec.specs.Refusals.{RefusesDesign, RefusesFile, RefusesReport, RefusesScript, RefusesScripts};
+ghost use Rattle.netdb_spec.specs.Steps.{IsNoDesign, IsNoScript, status_of};
+ghost use Rattle.netdb_spec.specs.Told.{AreRead, IsFile, IsLastRead, IsRead, IsReadThrough, IsReportFile, IsScriptFile};
 
-use call_spec::{MOST_SCRIPT_BYTES, Status};
-use design_file::{DesignReader, NoDesign};
+use edif_file::{DesignReader, NoDesign};
 use netdb_outside::{Contents, Ended, Files, read_file, read_pieces};
+use netdb_spec::{MOST_REPORT_BYTES, MOST_SCRIPT_BYTES, Status};
 use netlist_schema::limits::MOST_FILE_BYTES;
 use netlist_schema::{Design, Text};
 use script_reader::{ScriptError, parse};
-use session_spec::Script;
+use script_spec::Script;
 use std::alloc::Global;
 
 /// The position of the design file's name among the words.
 const FILE_WORD: u32 = 1;
 
-/// The position of the first script's name among the words.
-const SCRIPT_WORD: u32 = 2;
+/// The position of a report's name among the words.
+const REPORT_WORD: u32 = 2;
 
 /// Reads a file whole, within a limit, or tells the status that refuses it.
 fn read_whole<F: Files>(
@@ -119,22 +119,34 @@ fn read_script<F: Files>(
     }
 }
 
-/// Reads the scripts of files in their order, or tells the status that refuses the first that is none.
+/// Reads the bytes of a report, or tells the status that refuses it.
+pub fn read_report<F: Files>(alloc: Global, files: &mut F, name: &str) -> Result<Text, Status>
+    ensures read { IfOk result (λ bytes. IsReportFile (F.told files.new) name.now bytes) }
+    ensures refused { IfErr result (RefusesReport (F.told files.new) name.now) }
+    ensures counts { CountsReading (F.faults files.old) (F.faults files.new) (status_of result) }
+    ensures files { SameFiles (F.told files.old) (F.told files.new) }
+{
+    read_whole(alloc, files, name, REPORT_WORD, MOST_REPORT_BYTES)
+}
+
+/// Reads the scripts of files in their order, the first of which is this word, or tells the status that refuses the first that is none.
 pub fn read_scripts<F: Files>(
     alloc: Global,
     files: &mut F,
     names: &[String],
+    first: u32,
 ) -> Result<Vec<Script>, Status>
-    requires { length names.now ≤ 64 }
+    requires few { length names.now ≤ 64 }
+    requires near { first ≤ 3 }
     ensures read { IfOk result (λ scripts. AreRead (F.told files.new) (spelled names.now) (all_steps scripts.items) × IsLastRead (F.told files.new) (spelled names.now)) }
     ensures many { IfOk result (λ scripts. vec_len scripts ≡ length names.now) }
-    ensures refused { IfErr result (RefusesScripts (F.told files.new) (spelled names.now) 2) }
+    ensures refused { IfErr result (RefusesScripts (F.told files.new) (spelled names.now) first) }
     ensures counts { CountsReading (F.faults files.old) (F.faults files.new) (status_of result) }
     ensures files { SameFiles (F.told files.old) (F.told files.new) }
 {
     let mut scripts = Vec::new(alloc);
     for (place, name) in names.iter().enumerate() {
-        let script = match read_script(alloc, files, name.as_str(), place as u32 + SCRIPT_WORD) {
+        let script = match read_script(alloc, files, name.as_str(), place as u32 + first) {
             Ok(script) => script,
             Err(status) => return Err(status),
         };

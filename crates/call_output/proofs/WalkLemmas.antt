@@ -3,11 +3,11 @@ use Rattle.std.proofs.Common.{◌≡◌, Bool, true, ◌||◌, List, [], ◌∷�
 use Rattle.std.specs.Prelude.{◌↔◌, IsTrue}
 use Rattle.std.specs.List.{list_any}
 use Rattle.std.proofs.lemmas.Bool.{or_cases, or_right}
-use Rattle.session_spec.specs.Headline.{HasWalk, SomeWalks}
-use Rattle.session_spec.specs.ScriptText.{Parts, steps_of}
-use Rattle.session_spec.specs.declared.script.ScriptLine.{ScriptLine}
-use Rattle.session_spec.specs.declared.script.Step.{Step}
-use Rattle.session_spec.specs.declared.script.Step.TheVariants.{Walk}
+use Rattle.script_spec.specs.Headline.{HasWalk, SomeWalks}
+use Rattle.script_spec.specs.ScriptText.{Parts, steps_of}
+use Rattle.script_spec.specs.declared.script.ScriptLine.{ScriptLine}
+use Rattle.script_spec.specs.declared.script.Step.{Step}
+use Rattle.script_spec.specs.declared.script.Step.TheVariants.{Walk}
 use Rattle.joint_spec.specs.Scripts.{all_steps}
 use Rattle.call_output.specs.Walks.{is_walk}
 

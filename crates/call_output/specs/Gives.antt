@@ -2,14 +2,15 @@
 use Rattle.std.specs.Prelude.{◌≡◌, ◌⊎◌, ℕ, List, None, Option}
 use Rattle.netlist_schema.specs.Design.{Design}
 use Rattle.netdb_outside.specs.Outside.{Appends, AppendsFront}
-use Rattle.session_spec.specs.Headline.{CanWalk, SomeWalks, WritesReportFront}
-use Rattle.session_spec.specs.declared.script.Step.{Step}
+use Rattle.script_spec.specs.Headline.{CanWalk, SomeWalks, WritesReportFront}
+use Rattle.script_spec.specs.declared.script.Step.{Step}
 use Rattle.gen_spec.specs.Summary.{IsSummaryOf}
-use Rattle.run_scripts.specs.Written.{IsFullReport, IsReport, WritesSome}
+use Rattle.script_run_all.specs.Written.{IsFullReport, IsReport, WritesSome}
+use Rattle.run_uses.specs.Written.{IsFullUses, IsUses, IsUsesFront}
 use Rattle.call_words.specs.declared.command.Wanted.{Wanted}
 use Rattle.call_output.specs.Output.{output, HasTop, LacksTop}
-use Rattle.call_spec.specs.declared.status.Status.{Status}
-use Rattle.call_spec.specs.declared.status.Status.TheVariants as status
+use Rattle.netdb_spec.specs.declared.status.Status.{Status}
+use Rattle.netdb_spec.specs.declared.status.Status.TheVariants as status
 
 -- a text was written, as far as the status says: whole; after a fault or want of memory a front of it
 abbrev pub TextGives : List ℕ → Option (List ℕ) → Option (List ℕ) → Status → Type 0
@@ -32,6 +33,15 @@ RunGives d scripts old new status.WriteFault = CanWalk d scripts × WritesSome (
 RunGives d scripts old new status.NoMemory = CanWalk d scripts × ((new ≡ old) ⊎ WritesSome (WritesReportFront d scripts) old new)
 RunGives d scripts old new status.NoTop = SomeWalks scripts × (d.top ≡ None) × (new ≡ old)
 RunGives d scripts old new _ = ⊥
+
+-- The same of a run whose report has the uses of the last version behind it.
+abbrev pub UsesGive : Design → List (List Step) → Option (List ℕ) → Option (List ℕ) → Status → Type 0
+UsesGive d scripts old new status.Ok = CanWalk d scripts × WritesSome (IsUses d scripts) old new
+UsesGive d scripts old new status.LogFull = CanWalk d scripts × WritesSome (IsFullUses d scripts) old new
+UsesGive d scripts old new status.WriteFault = CanWalk d scripts × WritesSome (IsUsesFront d scripts) old new
+UsesGive d scripts old new status.NoMemory = CanWalk d scripts × ((new ≡ old) ⊎ WritesSome (IsUsesFront d scripts) old new)
+UsesGive d scripts old new status.NoTop = SomeWalks scripts × (d.top ≡ None) × (new ≡ old)
+UsesGive d scripts old new _ = ⊥
 
 -- the summary of a generated run was written; or there was no memory for it, and nothing was
 abbrev pub SummaryGives : ℕ → Option (List ℕ) → Option (List ℕ) → Status → Type 0

@@ -3,4 +3,4 @@
 
 pub mod outputs;
 
-pub use outputs::{write_output, write_report, write_summary};
+pub use outputs::{put_bytes, write_output, write_report, write_summary, write_with_uses};

@@ -2,25 +2,29 @@
 ghost use Rattle.std.specs.Prelude.{◌≡◌, ◌≤◌, ◌↔◌, IsTrue, length};
 ghost use Rattle.std.specs.List.{list_any};
 ghost use Rattle.edif_spec.specs.Arranged.{canonical_text};
-ghost use Rattle.session_spec.specs.Headline.{CanWalk, SomeWalks};
+ghost use Rattle.script_spec.specs.Headline.{CanWalk, SomeWalks};
 ghost use Rattle.joint_spec.specs.Scripts.{all_steps};
-ghost use Rattle.call_words.specs.Command.{IsSize};
-ghost use Rattle.call_output.specs.Gives.{OutputGives, RunGives, SummaryGives, TextGives};
-ghost use Rattle.call_spec.specs.Counts.{CountsWriting};
+ghost use Rattle.call_words.specs.Command.{AreWorkers, IsGoodWanted, IsSize};
+ghost use Rattle.call_output.specs.Gives.{OutputGives, RunGives, SummaryGives, TextGives, UsesGive};
+ghost use Rattle.netdb_spec.specs.Counts.{CountsWriting};
 ghost use Rattle.call_output.specs.Walks.{is_walk};
 
-use call_spec::Status;
 use call_words::Wanted;
 use edif_writer::write_design;
-use flat_out::{FlatError, write_flat, write_pin_table};
+use erc_report::write_findings;
+use flat_writer::{FlatError, write_flat, write_pin_table};
 use gen_run::summary;
 use netdb_outside::{Gate, Put, Sink, WriteError};
+use netdb_spec::Status;
 use netlist_schema::{Design, Shown};
-use run_scripts::{RunEnd, write_run};
-use session_spec::{Script, Step};
+use par_writer::write_par_flat;
+use run_uses::write_run_uses;
+use script_run_all::{RunEnd, write_run};
+use script_spec::{Script, Step};
 use std::alloc::Global;
 use std::sync::Wait;
 use std::thread::Threads;
+use used_keep::{KeepError, keep_used};
 
 /// Writes the canonical text of a design.
 fn write_text<K: Sink>(alloc: Global, design: &Design, out: &mut K) -> Status
@@ -70,8 +74,60 @@ fn write_pins<K: Sink>(alloc: Global, design: &Design, out: &mut K) -> Status
     }
 }
 
+/// Writes the canonical text of what is left of a design without the cells that its top does not use.
+fn write_used<K: Sink>(alloc: Global, design: &Design, out: &mut K) -> Status
+    ensures gives { OutputGives Wanted.Used design.now (K.written out.old) (K.written out.new) result }
+    ensures counts { CountsWriting (K.faults out.old) (K.faults out.new) result }
+{
+    match keep_used(alloc, design) {
+        Ok(kept) => write_text(alloc, &kept, out),
+        Err(KeepError::NoTop) => Status::NoTop,
+        Err(KeepError::NoMemory) => Status::NoMemory,
+    }
+}
+
+/// Writes the items of the flattening of a design, which so many workers make.
+fn write_spread<R: Threads + Sync, K: Sink>(
+    rt: &R,
+    alloc: Global,
+    design: &Design,
+    workers: u32,
+    out: &mut K,
+) -> Status
+    requires { AreWorkers workers }
+    ensures gives { OutputGives (Wanted.Spread workers) design.now (K.written out.old) (K.written out.new) result }
+    ensures counts { CountsWriting (K.faults out.old) (K.faults out.new) result }
+{
+    match write_par_flat(rt, alloc, design, workers, out) {
+        Ok(()) => Status::Ok,
+        Err(FlatError::NoTop) => Status::NoTop,
+        Err(FlatError::WriteFault) => Status::WriteFault,
+        Err(FlatError::NoMemory) => Status::NoMemory,
+    }
+}
+
+/// Writes what an electrical check finds in a design.
+fn write_check<K: Sink>(alloc: Global, design: &Design, out: &mut K) -> Status
+    ensures gives { OutputGives Wanted.Findings design.now (K.written out.old) (K.written out.new) result }
+    ensures counts { CountsWriting (K.faults out.old) (K.faults out.new) result }
+{
+    match write_findings(alloc, design, out) {
+        Ok(()) => Status::Ok,
+        Err(FlatError::NoTop) => Status::NoTop,
+        Err(FlatError::WriteFault) => Status::WriteFault,
+        Err(FlatError::NoMemory) => Status::NoMemory,
+    }
+}
+
 /// Writes what is wanted of a design.
-pub fn write_output<K: Sink>(alloc: Global, design: &Design, wanted: Wanted, out: &mut K) -> Status
+pub fn write_output<R: Threads + Sync, K: Sink>(
+    rt: &R,
+    alloc: Global,
+    design: &Design,
+    wanted: Wanted,
+    out: &mut K,
+) -> Status
+    requires { IsGoodWanted wanted }
     ensures gives { OutputGives wanted design.now (K.written out.old) (K.written out.new) result }
     ensures counts { CountsWriting (K.faults out.old) (K.faults out.new) result }
 {
@@ -79,6 +135,9 @@ pub fn write_output<K: Sink>(alloc: Global, design: &Design, wanted: Wanted, out
         Wanted::Text => write_text(alloc, design, out),
         Wanted::Items { limit } => write_items(alloc, design, limit, out),
         Wanted::Pins => write_pins(alloc, design, out),
+        Wanted::Used => write_used(alloc, design, out),
+        Wanted::Spread { workers } => write_spread(rt, alloc, design, workers, out),
+        Wanted::Findings => write_check(alloc, design, out),
     }
 }
 
@@ -153,8 +212,51 @@ pub fn write_report<R: Threads + Wait + Sync, K: Sink, G: Gate + Sync>(
     report(rt, alloc, design, scripts, gate, out)
 }
 
+/// Runs scripts on a design, and writes the report and the uses of the last version.
+fn report_uses<R: Threads + Wait + Sync, K: Sink, G: Gate + Sync>(
+    rt: &R,
+    alloc: Global,
+    design: Design,
+    scripts: &[Script],
+    gate: &G,
+    out: &mut K,
+) -> Status
+    requires many { (1 ≤ length scripts.now) × (length scripts.now ≤ 64) }
+    requires walks { CanWalk design (all_steps scripts.now) }
+    ensures gives { UsesGive design (all_steps scripts.now) (K.written out.old) (K.written out.new) result }
+    ensures counts { CountsWriting (K.faults out.old) (K.faults out.new) result }
+{
+    match write_run_uses(rt, alloc, design, scripts, gate, out) {
+        Ok(RunEnd::Whole) => Status::Ok,
+        Ok(RunEnd::LogFull) => Status::LogFull,
+        Err(WriteError::WriteFault) => Status::WriteFault,
+        Err(WriteError::NoMemory) => Status::NoMemory,
+    }
+}
+
+/// Runs scripts on a design and writes the report and the uses of the last version, unless one of them walks and the design has no top.
+pub fn write_with_uses<R: Threads + Wait + Sync, K: Sink, G: Gate + Sync>(
+    rt: &R,
+    alloc: Global,
+    design: Design,
+    scripts: &[Script],
+    gate: &G,
+    out: &mut K,
+) -> Status
+    requires { (1 ≤ length scripts.now) × (length scripts.now ≤ 64) }
+    ensures gives { UsesGive design (all_steps scripts.now) (K.written out.old) (K.written out.new) result }
+    ensures counts { CountsWriting (K.faults out.old) (K.faults out.new) result }
+{
+    if some_walks(scripts) {
+        if design.top().is_none() {
+            return Status::NoTop;
+        }
+    }
+    report_uses(rt, alloc, design, scripts, gate, out)
+}
+
 /// Writes bytes as they are.
-fn put_bytes<K: Sink>(bytes: &[u8], out: &mut K) -> Status
+pub fn put_bytes<K: Sink>(bytes: &[u8], out: &mut K) -> Status
     ensures gives { TextGives bytes.now (K.written out.old) (K.written out.new) result }
     ensures counts { CountsWriting (K.faults out.old) (K.faults out.new) result }
 {

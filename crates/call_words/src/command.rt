@@ -1,12 +1,15 @@
 //! Which command the words are.
-ghost use Rattle.std.specs.Prelude.{◌≡◌, ◌∷◌, [], ◌<◌, ◌^◌, ℕ, MatchOption, codes};
+ghost use Rattle.std.specs.Prelude.{◌≡◌, ◌∷◌, [], ◌<◌, ◌^◌, ◌↔◌, ℕ, IsTrue, MatchOption, codes};
 ghost use Rattle.std.specs.Fmt.{decimal};
-ghost use Rattle.call_words.specs.Command.{Asks, IsCommand, IsLimit, IsSize, request_of, spelled};
+ghost use Rattle.call_words.specs.Command.{AreWorkers, Asks, IsCommand, IsCrew, IsLimit, IsSize, request_of, spelled};
 
 use itoa::Buffer;
 
 /// The most scripts of a run.
 const MOST_SCRIPTS: usize = 64;
+
+/// The most workers of a flattening.
+const MOST_WORKERS: u32 = 64;
 
 /// The largest size of a generated design.
 const MOST_SIZE: u32 = 4_096;
@@ -20,6 +23,12 @@ pub enum Wanted {
     Items { limit: Option<u32> },
     /// The pins of its flattening, as a table.
     Pins,
+    /// The canonical text of what is left of it without the cells that its top does not use.
+    Used,
+    /// The items of its flattening, made by so many workers.
+    Spread { workers: u32 },
+    /// What an electrical check finds in it.
+    Findings,
 }
 
 /// A command.
@@ -38,6 +47,17 @@ pub enum Command<'a> {
     /// The generated design and run of this size.
     Generate {
         size: u32,
+    },
+    /// Such a run, and the uses of its last version.
+    Uses {
+        name: &'a str,
+        scripts: &'a [String],
+    },
+    /// Whether the file of the second name is the report of a run of the scripts of the files behind it on the design of the first.
+    Check {
+        name: &'a str,
+        report: &'a str,
+        scripts: &'a [String],
     },
 }
 
@@ -58,11 +78,20 @@ pub fn command_of(words: &[String]) -> Option<Command<'_>>
 fn command_with<'a>(first: &str, second: &'a str, rest: &'a [String]) -> Option<Command<'a>>
     ensures { MatchOption result (IsCommand (first.now ∷ second.now ∷ spelled rest.now) → ⊥) (λ command. Asks (first.now ∷ second.now ∷ spelled rest.now) (request_of command)) }
 {
-    if first == "run" {
-        return run_of(second, rest);
+    if first == "write" {
+        return write_of(second, rest);
     }
     if first == "flat" {
         return flat_of(second, rest);
+    }
+    if first == "run" {
+        return run_of(second, rest);
+    }
+    if first == "uses" {
+        return uses_of(second, rest);
+    }
+    if first == "check" {
+        return check_of(second, rest);
     }
     if rest.is_empty() {
         return short_command(first, second);
@@ -70,17 +99,76 @@ fn command_with<'a>(first: &str, second: &'a str, rest: &'a [String]) -> Option<
     None
 }
 
+/// Whether there are as many scripts as a run may have.
+fn is_crew(scripts: &[String]) -> bool
+    ensures { IsTrue result ↔ IsCrew (spelled scripts.now) }
+{
+    1 <= scripts.len() && scripts.len() <= MOST_SCRIPTS
+}
+
 /// The command that `run`, a word and others are.
 fn run_of<'a>(name: &'a str, scripts: &'a [String]) -> Option<Command<'a>>
     ensures { MatchOption result (IsCommand (codes "run" ∷ name.now ∷ spelled scripts.now) → ⊥) (λ command. Asks (codes "run" ∷ name.now ∷ spelled scripts.now) (request_of command)) }
 {
-    if scripts.is_empty() {
+    if is_crew(scripts) {
+        return Some(Command::Run { name, scripts });
+    }
+    None
+}
+
+/// The command that `uses`, a word and others are.
+fn uses_of<'a>(name: &'a str, scripts: &'a [String]) -> Option<Command<'a>>
+    ensures { MatchOption result (IsCommand (codes "uses" ∷ name.now ∷ spelled scripts.now) → ⊥) (λ command. Asks (codes "uses" ∷ name.now ∷ spelled scripts.now) (request_of command)) }
+{
+    if is_crew(scripts) {
+        return Some(Command::Uses { name, scripts });
+    }
+    None
+}
+
+/// The command that `check`, a word and others are.
+fn check_of<'a>(name: &'a str, rest: &'a [String]) -> Option<Command<'a>>
+    ensures { MatchOption result (IsCommand (codes "check" ∷ name.now ∷ spelled rest.now) → ⊥) (λ command. Asks (codes "check" ∷ name.now ∷ spelled rest.now) (request_of command)) }
+{
+    let Some((report, scripts)) = rest.split_first() else {
+        return None;
+    };
+    let report = report.as_str();
+    if is_crew(scripts) {
+        return Some(Command::Check {
+            name,
+            report,
+            scripts,
+        });
+    }
+    None
+}
+
+/// The command that `write`, a word and others are.
+fn write_of<'a>(name: &'a str, rest: &[String]) -> Option<Command<'a>>
+    ensures { MatchOption result (IsCommand (codes "write" ∷ name.now ∷ spelled rest.now) → ⊥) (λ command. Asks (codes "write" ∷ name.now ∷ spelled rest.now) (request_of command)) }
+{
+    match rest {
+        [] => Some(Command::Show {
+            name,
+            wanted: Wanted::Text,
+        }),
+        [third] => used(name, third.as_str()),
+        _ => None,
+    }
+}
+
+/// The command that `write` and two words are.
+fn used<'a>(name: &'a str, third: &str) -> Option<Command<'a>>
+    ensures { MatchOption result (IsCommand (codes "write" ∷ name.now ∷ third.now ∷ []) → ⊥) (λ command. Asks (codes "write" ∷ name.now ∷ third.now ∷ []) (request_of command)) }
+{
+    if third != "used" {
         return None;
     }
-    if scripts.len() > MOST_SCRIPTS {
-        return None;
-    }
-    Some(Command::Run { name, scripts })
+    Some(Command::Show {
+        name,
+        wanted: Wanted::Used,
+    })
 }
 
 /// The command that `flat`, a word and others are.
@@ -92,18 +180,28 @@ fn flat_of<'a>(name: &'a str, rest: &[String]) -> Option<Command<'a>>
             name,
             wanted: Wanted::Items { limit: None },
         }),
-        [third, limit] => limited(name, third.as_str(), limit.as_str()),
+        [third, number] => numbered(name, third.as_str(), number.as_str()),
         _ => None,
     }
 }
 
 /// The command that `flat` and three words are.
-fn limited<'a>(name: &'a str, third: &str, limit: &str) -> Option<Command<'a>>
-    ensures { MatchOption result (IsCommand (codes "flat" ∷ name.now ∷ third.now ∷ limit.now ∷ []) → ⊥) (λ command. Asks (codes "flat" ∷ name.now ∷ third.now ∷ limit.now ∷ []) (request_of command)) }
+fn numbered<'a>(name: &'a str, third: &str, number: &str) -> Option<Command<'a>>
+    ensures { MatchOption result (IsCommand (codes "flat" ∷ name.now ∷ third.now ∷ number.now ∷ []) → ⊥) (λ command. Asks (codes "flat" ∷ name.now ∷ third.now ∷ number.now ∷ []) (request_of command)) }
 {
-    if third != "limit" {
-        return None;
+    if third == "limit" {
+        return limited(name, number);
     }
+    if third == "workers" {
+        return spread(name, number);
+    }
+    None
+}
+
+/// The command that `flat`, a word, `limit` and a last one are.
+fn limited<'a>(name: &'a str, limit: &str) -> Option<Command<'a>>
+    ensures { MatchOption result (IsCommand (codes "flat" ∷ name.now ∷ codes "limit" ∷ limit.now ∷ []) → ⊥) (λ command. Asks (codes "flat" ∷ name.now ∷ codes "limit" ∷ limit.now ∷ []) (request_of command)) }
+{
     let limit = limit_in(limit)?;
     Some(Command::Show {
         name,
@@ -111,22 +209,33 @@ fn limited<'a>(name: &'a str, third: &str, limit: &str) -> Option<Command<'a>>
     })
 }
 
-/// The command that two words are, the first of which is neither `run` nor `flat`.
+/// The command that `flat`, a word, `workers` and a last one are.
+fn spread<'a>(name: &'a str, workers: &str) -> Option<Command<'a>>
+    ensures { MatchOption result (IsCommand (codes "flat" ∷ name.now ∷ codes "workers" ∷ workers.now ∷ []) → ⊥) (λ command. Asks (codes "flat" ∷ name.now ∷ codes "workers" ∷ workers.now ∷ []) (request_of command)) }
+{
+    let workers = workers_in(workers)?;
+    Some(Command::Show {
+        name,
+        wanted: Wanted::Spread { workers },
+    })
+}
+
+/// The command that two words are, the first of which is none that may have others behind.
 fn short_command<'a>(first: &str, second: &'a str) -> Option<Command<'a>>
-    requires run { first.now ≡ codes "run" → ⊥ }
+    requires write { first.now ≡ codes "write" → ⊥ }
     requires flat { first.now ≡ codes "flat" → ⊥ }
     ensures { MatchOption result (IsCommand (first.now ∷ second.now ∷ []) → ⊥) (λ command. Asks (first.now ∷ second.now ∷ []) (request_of command)) }
 {
-    if first == "write" {
-        return Some(Command::Show {
-            name: second,
-            wanted: Wanted::Text,
-        });
-    }
     if first == "csv" {
         return Some(Command::Show {
             name: second,
             wanted: Wanted::Pins,
+        });
+    }
+    if first == "erc" {
+        return Some(Command::Show {
+            name: second,
+            wanted: Wanted::Findings,
         });
     }
     if first != "gen" {
@@ -134,6 +243,20 @@ fn short_command<'a>(first: &str, second: &'a str) -> Option<Command<'a>>
     }
     let size = size_in(second)?;
     Some(Command::Generate { size })
+}
+
+/// The number of workers that a word is: from 1 to 64.
+fn workers_in(word: &str) -> Option<u32>
+    ensures { MatchOption result ((n : ℕ) → AreWorkers n → word.now ≡ decimal n → ⊥) (λ n. AreWorkers n × (word.now ≡ decimal n)) }
+{
+    let workers = number_in(word)?;
+    if workers == 0 {
+        return None;
+    }
+    if workers > MOST_WORKERS {
+        return None;
+    }
+    Some(workers)
 }
 
 /// The limit that a word is: a number from 1 to 4,294,967,295.

@@ -6,10 +6,10 @@ use Rattle.std.specs.Option.{option_map, option_to_list}
 use Rattle.netlist_schema.specs.Design.{Design, cell_at}
 use Rattle.netlist_schema.specs.Types.{CellBody, CellId, Contents}
 use Rattle.netlist_schema.proofs.Lists.{all_append}
-use Rattle.edit_core.specs.Edit.{edited, edited_once, fresh, inner, with_contents, with_more_cell}
-use Rattle.edit_core.specs.Seen.{contents_at}
+use Rattle.edit_rules_spec.specs.Edit.{edited, edited_once, fresh, inner, with_contents, with_more_cell}
+use Rattle.edit_rules_spec.specs.Seen.{contents_at}
 use Rattle.netlist_schema.proofs.WithCell.{cases_cell}
-use Rattle.edit_core.proofs.Edits.{cell_at-changed_same, cell_at-changed_other}
+use Rattle.edit_rules_spec.proofs.Edits.{cell_at-changed_same, cell_at-changed_other}
 use Rattle.flat_spec.proofs.ListLemmas.{Member, Member-append_left, Member-append_right}
 use Rattle.uniquify_spec.specs.Blocks.{is_block}
 use Rattle.uniquify_spec.specs.Copies.{Copy}
@@ -17,9 +17,9 @@ use Rattle.uniquify_spec.specs.Split.{is_turned, renamed, turned}
 use Rattle.uniquify_spec.proofs.CopyLists.{AreNew, new_apart}
 use Rattle.uniquify_spec.proofs.NewCells.{IsOnTheWay, at_the_start, body_of, is_next, lib_of_new, new_cells, new_is_there, new_stays, one_more}
 use Rattle.uniquify_spec.proofs.SplitEdits.{block_is_cell}
-use Rattle.cells_model.specs.Change.{CanAllBeMade, cell_edits, edit_of}
-use Rattle.cells_model.specs.declared.change.CellChange.{CellChange}
-use Rattle.cells_model.specs.declared.change.CellChange.TheVariants.{Face, Fresh, Inner, Inst, Net}
+use Rattle.edit_cells.specs.Change.{CanAllBeMade, cell_edits, edit_of}
+use Rattle.edit_cells.specs.declared.change.CellChange.{CellChange}
+use Rattle.edit_cells.specs.declared.change.CellChange.TheVariants.{Face, Fresh, Inner, Inst, Net}
 use Rattle.copy_names.specs.declared.namer.Twin.{Twin}
 use Rattle.cell_copies.specs.Changes.{changes_of, copied_inner, fresh_of, inner_to, inners, kept_inner, turned_at}
 use Rattle.cell_copies.specs.Seats.{Seat, copies_at, copies_of}

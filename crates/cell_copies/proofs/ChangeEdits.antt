@@ -7,13 +7,13 @@ use Rattle.std.proofs.lemmas.List.Concat.{flat_map-append}
 use Rattle.netlist_schema.specs.Design.{Design, cell_at}
 use Rattle.netlist_schema.specs.Types.{CellBody, CellId, Contents}
 use Rattle.netlist_schema.proofs.Lists.{all_append}
-use Rattle.edit_core.specs.Edit.{edited_once, fresh, inner}
-use Rattle.edit_core.specs.Seen.{contents_at}
+use Rattle.edit_rules_spec.specs.Edit.{edited_once, fresh, inner}
+use Rattle.edit_rules_spec.specs.Seen.{contents_at}
 use Rattle.uniquify_spec.specs.Copies.{Copy}
 use Rattle.uniquify_spec.specs.Split.{Owner, copy_owner, is_turned, kept_owner, new_cell, owners, renamed, split_edits, turned, turned_cell}
-use Rattle.cells_model.specs.Change.{cell_edits, edit_of}
-use Rattle.cells_model.specs.declared.change.CellChange.{CellChange}
-use Rattle.cells_model.specs.declared.change.CellChange.TheVariants.{Fresh}
+use Rattle.edit_cells.specs.Change.{cell_edits, edit_of}
+use Rattle.edit_cells.specs.declared.change.CellChange.{CellChange}
+use Rattle.edit_cells.specs.declared.change.CellChange.TheVariants.{Fresh}
 use Rattle.copy_names.specs.Known.{copy_at}
 use Rattle.copy_names.specs.declared.namer.Twin.{Twin}
 use Rattle.cell_copies.proofs.SeatLists.{all_fresh}

@@ -6,7 +6,7 @@ use Rattle.std.specs.Option.{option_map}
 use Rattle.std.proofs.lemmas.List.Concat.{flat_map-append}
 use Rattle.netlist_schema.specs.Types.{CellId, Contents}
 use Rattle.netlist_schema.proofs.Lists.{get_there, get_mapped, take_next}
-use Rattle.cells_model.specs.declared.change.CellChange.{CellChange}
+use Rattle.edit_cells.specs.declared.change.CellChange.{CellChange}
 use Rattle.cell_copies.specs.Changes.{copied_inner, copied_to, inners, kept_inner, kept_to}
 use Rattle.cell_copies.specs.Seats.{Seat, twin_of}
 use Rattle.cell_copies.specs.declared.spot.Spot.{Spot}

@@ -6,7 +6,7 @@ use Rattle.std.specs.Option.{option_map}
 use Rattle.std.proofs.lemmas.List.Concat.{flat_map-append}
 use Rattle.netlist_schema.specs.Design.{Design}
 use Rattle.netlist_schema.specs.Types.{CellId}
-use Rattle.edit_core.proofs.Lists.{Apart}
+use Rattle.edit_rules_spec.proofs.Lists.{Apart}
 use Rattle.copy_names.specs.declared.namer.Twin.{Twin}
 use Rattle.cell_copies.specs.Changes.{fresh_for, fresh_of}
 use Rattle.cell_copies.specs.Seats.{Seat, copies_at, copies_of, path_of, seat_of, seats, seats_after, twin_of}

@@ -8,8 +8,8 @@ use Rattle.std.proofs.lemmas.List.Elements.{recursion_from_All}
 use Rattle.netlist_schema.specs.Design.{Design}
 use Rattle.netlist_schema.specs.Types.{CellId, Contents}
 use Rattle.netlist_schema.proofs.Lists.{take_next}
-use Rattle.edit_core.specs.Seen.{contents_at}
-use Rattle.edit_core.proofs.Lists.{Apart, apart_of}
+use Rattle.edit_rules_spec.specs.Seen.{contents_at}
+use Rattle.edit_rules_spec.proofs.Lists.{Apart, apart_of}
 use Rattle.flat_spec.proofs.ListLemmas.{Member, Member-append_cases}
 use Rattle.uniquify_spec.specs.Copies.{Copy, is_copy_at}
 use Rattle.uniquify_spec.proofs.CopyLists.{copy-cases}

@@ -8,8 +8,8 @@ use Rattle.std.proofs.lemmas.List.Folds.{list_any-append}
 use Rattle.std.proofs.lemmas.List.{same_from_push}
 use Rattle.netlist_schema.specs.Design.{Design}
 use Rattle.netlist_schema.specs.Types.{Contents, Inst}
-use Rattle.edit_core.specs.Edit.{changed_at}
-use Rattle.edit_core.specs.Seen.{contents_at}
+use Rattle.edit_rules_spec.specs.Edit.{changed_at}
+use Rattle.edit_rules_spec.specs.Seen.{contents_at}
 use Rattle.flat_spec.specs.ConnectionTest.{above}
 use Rattle.flat_spec.proofs.TestLemmas.{above-append}
 use Rattle.uniquify_spec.specs.Copies.{Copy, is_copy_at, same_path}

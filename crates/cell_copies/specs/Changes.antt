@@ -6,13 +6,13 @@ use Rattle.netlist_schema.specs.Design.{Design, cell_at}
 use Rattle.netlist_schema.specs.Hierarchy.{IsCell}
 use Rattle.netlist_schema.specs.Names.{AreDistinct}
 use Rattle.netlist_schema.specs.Types.{CellId, Contents}
-use Rattle.edit_core.specs.Edit.{changed_at}
-use Rattle.edit_core.specs.Seen.{contents_at}
+use Rattle.edit_rules_spec.specs.Edit.{changed_at}
+use Rattle.edit_rules_spec.specs.Seen.{contents_at}
 use Rattle.flat_spec.specs.Paths.{Reaches}
 use Rattle.uniquify_spec.specs.Copies.{Copy, names_with}
 use Rattle.uniquify_spec.specs.Split.{is_turned, renamed, turned}
-use Rattle.cells_model.specs.declared.change.CellChange.{CellChange}
-use Rattle.cells_model.specs.declared.change.CellChange.TheVariants.{Fresh, Inner}
+use Rattle.edit_cells.specs.declared.change.CellChange.{CellChange}
+use Rattle.edit_cells.specs.declared.change.CellChange.TheVariants.{Fresh, Inner}
 use Rattle.copy_names.specs.declared.namer.Twin.{Twin}
 use Rattle.cell_copies.specs.Seats.{Seat, copies_at, copies_of, seats, twin_of}
 use Rattle.cell_copies.specs.declared.spot.Spot.{Spot}

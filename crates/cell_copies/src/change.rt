@@ -2,8 +2,8 @@
 ghost use Rattle.std.specs.Prelude.{◌≡◌, ◌++◌, [], IfOk, OnOk, Option, length, map};
 ghost use Rattle.std.specs.List.{flat_map};
 ghost use Rattle.netlist_schema.specs.Types.{Contents};
-ghost use Rattle.cells_model.specs.Change.{CanAllBeMade, edits_of};
-ghost use Rattle.cells_model.specs.State.{HasReadSome};
+ghost use Rattle.edit_cells.specs.Change.{CanAllBeMade, edits_of};
+ghost use Rattle.edit_cells.specs.State.{HasReadSome};
 ghost use Rattle.copy_names.specs.Known.{copy_at};
 ghost use Rattle.uniquify_spec.specs.Split.{split_edits};
 ghost use Rattle.cell_copies.specs.Changes.{AreSeats, copied_to, fresh_for, fresh_of, inners, kept_to};
@@ -12,8 +12,8 @@ ghost use Rattle.cell_copies.specs.Seats.{Seat, seats, split_of};
 use crate::look::body_of;
 use crate::spot::{Spot, cell_of, twin_of};
 use crate::turn::turn_all;
-use cells_model::{CellChange, Cells, Change};
 use copy_names::Twin;
+use edit_cells::{CellChange, Cells, Change};
 use netlist_schema::{CellId, Contents, Copied, NoMemory, Row};
 use std::alloc::Global;
 

@@ -3,13 +3,13 @@ ghost use Rattle.std.specs.Prelude.{[], IfOk, List, OnOk, false};
 ghost use Rattle.netlist_schema.specs.Design.{Design};
 ghost use Rattle.netlist_schema.specs.Hierarchy.{IsCell};
 ghost use Rattle.netlist_schema.specs.Types.{CellId};
-ghost use Rattle.cells_model.specs.State.{HasReadSome};
+ghost use Rattle.edit_cells.specs.State.{HasReadSome};
 ghost use Rattle.flat_spec.specs.Occurrences.{Occurrence};
 ghost use Rattle.cell_copies.specs.Drafts.{IsCopied, IsDraft, IsMoreDraft, IsNumbered, Marked, placed_in};
 
 use crate::spot::Spot;
-use cells_model::Cells;
 use copy_names::Namer;
+use edit_cells::Cells;
 use netlist_schema::{CellId, NoMemory};
 use std::alloc::Global;
 

@@ -2,10 +2,10 @@
 ghost use Rattle.std.specs.Prelude.{◌≡◌, IfOk, Some};
 ghost use Rattle.std.specs.Option.{option_copied};
 ghost use Rattle.netlist_schema.specs.Design.{cell_at};
-ghost use Rattle.edit_core.specs.Seen.{contents_at};
-ghost use Rattle.cells_model.specs.State.{HasReadSome};
+ghost use Rattle.edit_rules_spec.specs.Seen.{contents_at};
+ghost use Rattle.edit_cells.specs.State.{HasReadSome};
 
-use cells_model::Cells;
+use edit_cells::Cells;
 use netlist_schema::{CellBody, CellId, Contents, Copied, NoMemory};
 use std::alloc::Global;
 

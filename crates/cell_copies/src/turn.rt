@@ -3,40 +3,66 @@ ghost use Rattle.std.specs.Prelude.{◌≡◌, ◌≤◌, ◌<◌, ◌+◌, IfOk
 ghost use Rattle.std.specs.Option.{option_or};
 ghost use Rattle.std.specs.List.{All};
 ghost use Rattle.netlist_schema.specs.Types.{Contents};
-ghost use Rattle.edit_core.specs.Edit.{changed_at};
-ghost use Rattle.edit_core.specs.Seen.{contents_at};
-ghost use Rattle.cells_model.specs.State.{HasReadSome};
+ghost use Rattle.edit_rules_spec.specs.Edit.{changed_at};
+ghost use Rattle.edit_rules_spec.specs.Seen.{contents_at};
+ghost use Rattle.edit_cells.specs.State.{HasReadSome};
 ghost use Rattle.cell_copies.specs.Changes.{AreSeats, IsTurnedFor, turned_at, turned_in, turned_to};
 ghost use Rattle.cell_copies.specs.Seats.{copies_of, seats};
 
 use crate::look::contents_of;
 use crate::spot::{Spot, cell_of};
-use cells_model::Cells;
-use netlist_schema::{CellId, Contents, Inst, NoMemory, Row};
+use edit_cells::Cells;
+use netlist_schema::{CellId, Contents, Copied, Inst, NoMemory, Row, Shared};
 use std::alloc::Global;
 
 /// Turns the instance at a place to a cell, where there is one.
-#[tactic(auto, using(cells_model::proofs::Patches::changed_at_end, cells_model::proofs::Patches::changed_at_place))]
-fn turn_inst(insts: &mut Vec<Inst>, place: usize, id: CellId)
-    ensures { insts.new.items ≡ changed_at (λ inst. record inst { of = id }) place insts.old.items }
+#[tactic(auto, using(edit_cells::proofs::Patches::changed_at_end, edit_cells::proofs::Patches::changed_at_place))]
+fn turn_inst(
+    alloc: Global,
+    insts: &mut Vec<Shared<Inst>>,
+    place: usize,
+    id: CellId,
+) -> Result<(), NoMemory>
+    ensures { OnOk result (insts.new.items ≡ changed_at (λ inst. record inst { of = id }) place insts.old.items) }
 {
     if place >= insts.len() {
-        return;
+        return Ok(());
     }
-    insts[place].of = id;
+    let turned = inst_of(alloc, &insts[place], id)?;
+    insts[place] = turned;
+    Ok(())
+}
+
+/// The instance, of another cell.
+fn inst_of(alloc: Global, inst: &Shared<Inst>, id: CellId) -> Result<Shared<Inst>, NoMemory>
+    ensures { IfOk result (λ made. made ≡ record inst.now { of = id }) }
+{
+    let inst = inst.get();
+    let made = Inst {
+        name: inst.name.copy(alloc)?,
+        of: id,
+        designator: inst.designator.copy(alloc)?,
+        properties: inst.properties.copy(alloc)?,
+    };
+    Shared::of(alloc, made)
 }
 
 /// The contents with the instance at a place turned to a cell.
-fn turned_to(contents: Contents, place: u32, id: CellId) -> Contents
-    ensures { result ≡ turned_to place id contents }
+fn turned_to(
+    alloc: Global,
+    contents: Contents,
+    place: u32,
+    id: CellId,
+) -> Result<Contents, NoMemory>
+    ensures { IfOk result (λ made. made ≡ turned_to place id contents) }
 {
     let Contents { insts, nets } = contents;
     let mut insts = insts.into_vec();
-    turn_inst(&mut insts, place as usize, id);
-    Contents {
+    turn_inst(alloc, &mut insts, place as usize, id)?;
+    Ok(Contents {
         insts: Row::of(insts),
         nets,
-    }
+    })
 }
 
 /// No contents, so many times.
@@ -52,12 +78,17 @@ fn nothing_turned(alloc: Global, count: usize) -> Result<Row<Option<Contents>>, 
 }
 
 /// The same, where there are contents.
-fn turned(contents: Option<Contents>, place: u32, id: CellId) -> Option<Contents>
-    ensures { result ≡ option_map (turned_to place id) contents }
+fn turned(
+    alloc: Global,
+    contents: Option<Contents>,
+    place: u32,
+    id: CellId,
+) -> Result<Option<Contents>, NoMemory>
+    ensures { IfOk result (λ made. made ≡ option_map (turned_to place id) contents) }
 {
     match contents {
-        Some(contents) => Some(turned_to(contents, place, id)),
-        None => None,
+        Some(contents) => Ok(Some(turned_to(alloc, contents, place, id)?)),
+        None => Ok(None),
     }
 }
 
@@ -93,7 +124,7 @@ fn turn<C: Cells>(
 {
     let was = made.replace(number, None);
     let contents = made_or_old(alloc, cells, was, cell)?;
-    made.set(number, turned(contents, place, id));
+    made.set(number, turned(alloc, contents, place, id)?);
     Ok(())
 }
 

@@ -8,22 +8,22 @@ use Rattle.netlist_schema.specs.Names.{cell_names}
 use Rattle.netlist_schema.specs.Types.{CellBody, CellId, LibId, Object}
 use Rattle.netlist_schema.specs.Valid.{IsValid}
 use Rattle.netlist_schema.specs.declared.ids.Object.TheVariants.{Directory}
-use Rattle.edit_core.specs.Edit.{fresh}
-use Rattle.edit_core.specs.Find.{is_same, lib_named}
-use Rattle.edit_core.specs.Reading.{IsForLib}
-use Rattle.edit_core.specs.Rule.{first, ruled, unless}
-use Rattle.edit_core.specs.declared.reply.CellName.{CellName}
-use Rattle.edit_core.specs.declared.reply.Reply.{Reply}
-use Rattle.edit_core.specs.declared.reply.Reply.TheVariants.{Done, NoLib}
-use Rattle.edit_core.proofs.There.{named_lib_there}
+use Rattle.edit_rules_spec.specs.Edit.{fresh}
+use Rattle.edit_rules_spec.specs.Find.{is_same, lib_named}
+use Rattle.edit_rules_spec.specs.Reading.{IsForLib}
+use Rattle.edit_rules_spec.specs.Rule.{first, ruled, unless}
+use Rattle.edit_rules_spec.specs.declared.reply.CellName.{CellName}
+use Rattle.edit_rules_spec.specs.declared.reply.Reply.{Reply}
+use Rattle.edit_rules_spec.specs.declared.reply.Reply.TheVariants.{Done, NoLib}
+use Rattle.edit_rules_spec.proofs.There.{named_lib_there}
 use Rattle.edit_spec.specs.AddCell.{add_cell, names_in, new_cell}
 use Rattle.edit_spec.specs.Rows.{outcome}
 use Rattle.edit_spec.specs.Typed.{IsTypedOp}
 use Rattle.edit_spec.specs.declared.ops.Op.TheVariants.{AddCell}
 use Rattle.edit_spec.specs.declared.ops.PortDecl.{PortDecl}
-use Rattle.cells_model.specs.Change.{HasMade, edits_of}
-use Rattle.cells_model.specs.State.{State, HasRead}
-use Rattle.cells_model.specs.declared.change.CellChange.TheVariants.{Fresh}
+use Rattle.edit_cells.specs.Change.{HasMade, edits_of}
+use Rattle.edit_cells.specs.State.{State, HasRead}
+use Rattle.edit_cells.specs.declared.change.CellChange.TheVariants.{Fresh}
 use Rattle.eco_reads.specs.Done.{IsDone}
 use Rattle.eco_reads.specs.Plan.{IsGood, one_change}
 use Rattle.eco_reads.proofs.Reading.{done_made, done_read, made_valid, read_both, read_nothing}

@@ -8,25 +8,25 @@ use Rattle.netlist_schema.specs.Design.{Design, cell_at, insts_in, nets_in}
 use Rattle.netlist_schema.specs.Names.{AreDistinct}
 use Rattle.netlist_schema.specs.Types.{CellBody, CellId, Contents, Inst, Object, Port}
 use Rattle.netlist_schema.specs.Valid.{IsValid}
-use Rattle.edit_core.specs.Edit.{inner}
-use Rattle.edit_core.specs.Find.{cell_named, inst_named}
-use Rattle.edit_core.specs.Objects.{face_at}
-use Rattle.edit_core.specs.Reading.{IsFaceOf, IsForCell, IsForEnd, IsForName}
-use Rattle.edit_core.specs.Rule.{first, no_cell, no_lib, unless}
-use Rattle.edit_core.specs.Seen.{contents_at, end_ports, inside, named, placed, ports_seen}
-use Rattle.edit_core.specs.declared.reply.CellName.{CellName}
-use Rattle.edit_core.specs.declared.reply.EndName.{EndName}
-use Rattle.edit_core.specs.declared.reply.Reply.{Reply}
-use Rattle.edit_core.specs.declared.reply.Reply.TheVariants.{Done}
+use Rattle.edit_rules_spec.specs.Edit.{inner}
+use Rattle.edit_rules_spec.specs.Find.{cell_named, inst_named}
+use Rattle.edit_rules_spec.specs.Objects.{face_at}
+use Rattle.edit_rules_spec.specs.Reading.{IsFaceOf, IsForCell, IsForEnd, IsForName}
+use Rattle.edit_rules_spec.specs.Rule.{first, no_cell, no_lib, unless}
+use Rattle.edit_rules_spec.specs.Seen.{contents_at, end_ports, inside, named, placed, ports_seen}
+use Rattle.edit_rules_spec.specs.declared.reply.CellName.{CellName}
+use Rattle.edit_rules_spec.specs.declared.reply.EndName.{EndName}
+use Rattle.edit_rules_spec.specs.declared.reply.Reply.{Reply}
+use Rattle.edit_rules_spec.specs.declared.reply.Reply.TheVariants.{Done}
 use Rattle.edit_spec.specs.Cut.{without_end}
 use Rattle.edit_spec.specs.Ends.{end_named}
 use Rattle.edit_spec.specs.Inside.{set_nets}
 use Rattle.edit_spec.specs.Join.{no_join, with_end}
 use Rattle.edit_spec.specs.Rows.{outcome}
 use Rattle.edit_spec.specs.declared.ops.Op.TheVariants.{Cut, Join}
-use Rattle.cells_model.specs.Parts.{IsFace, IsInside}
-use Rattle.cells_model.specs.State.{State, HasRead}
-use Rattle.cells_model.proofs.Growing.{grows_by_same}
+use Rattle.edit_cells.specs.Parts.{IsFace, IsInside}
+use Rattle.edit_cells.specs.State.{State, HasRead}
+use Rattle.edit_cells.proofs.Growing.{grows_by_same}
 use Rattle.eco_reads.specs.Done.{IsDone, IsDoneOrFails}
 use Rattle.eco_reads.specs.Plan.{CanBePut, IsPlanned, IsPut}
 use Rattle.eco_reads.specs.declared.plan.Plan.{Plan}

@@ -4,14 +4,14 @@ use Rattle.std.specs.Option.{option_map_or}
 use Rattle.std.specs.Prelude.{is_none}
 use Rattle.netlist_schema.specs.Design.{insts_in, nets_in}
 use Rattle.netlist_schema.specs.Types.{Object, Property}
-use Rattle.edit_core.specs.Edit.{Edit}
-use Rattle.edit_core.specs.Find.{cell_named}
-use Rattle.edit_core.specs.Reading.{IsForCell, IsForName}
-use Rattle.edit_core.specs.Rule.{first, no_cell, no_inst, no_lib, unless}
-use Rattle.edit_core.specs.Seen.{inside, named, ports_seen}
-use Rattle.edit_core.specs.declared.reply.CellName.{CellName}
-use Rattle.edit_core.specs.declared.reply.Reply.{Reply}
-use Rattle.edit_core.specs.declared.reply.Reply.TheVariants.{Cell, Done}
+use Rattle.edit_rules_spec.specs.Edit.{Edit}
+use Rattle.edit_rules_spec.specs.Find.{cell_named}
+use Rattle.edit_rules_spec.specs.Reading.{IsForCell, IsForName}
+use Rattle.edit_rules_spec.specs.Rule.{first, no_cell, no_inst, no_lib, unless}
+use Rattle.edit_rules_spec.specs.Seen.{inside, named, ports_seen}
+use Rattle.edit_rules_spec.specs.declared.reply.CellName.{CellName}
+use Rattle.edit_rules_spec.specs.declared.reply.Reply.{Reply}
+use Rattle.edit_rules_spec.specs.declared.reply.Reply.TheVariants.{Cell, Done}
 use Rattle.edit_spec.specs.Needs.{Needs}
 use Rattle.edit_spec.specs.AddNet.{no_new_net, with_net}
 use Rattle.edit_spec.specs.DropNet.{without_net}
@@ -21,7 +21,7 @@ use Rattle.edit_spec.specs.SetProp.{insts_with_property, nets_with_property}
 use Rattle.edit_spec.specs.declared.ops.Op.{Op}
 use Rattle.edit_spec.specs.declared.ops.Op.TheVariants.{AddNet, DropNet, SetProp, ShowCell}
 use Rattle.edit_spec.specs.declared.ops.Target.TheVariants.{Inst as OfInst, Net as OfNet}
-use Rattle.cells_model.specs.State.{State, HasRead}
+use Rattle.edit_cells.specs.State.{State, HasRead}
 use Rattle.eco_reads.specs.Done.{IsDone}
 use Rattle.eco_reads.proofs.Found.{refused_row}
 use Rattle.eco_reads.proofs.Reading.{done_read, only_name}

@@ -2,22 +2,22 @@
 use Rattle.std.proofs.Common.{◌≡◌, ℕ, List, [], ◌∷◌, Option, Some, None, ◌∙◌}
 use Rattle.std.specs.Prelude.{Result, MatchResult}
 use Rattle.netlist_schema.specs.Design.{Design, insts_in, nets_in}
-use Rattle.edit_core.specs.Edit.{inner}
-use Rattle.edit_core.specs.Find.{cell_named}
+use Rattle.edit_rules_spec.specs.Edit.{inner}
+use Rattle.edit_rules_spec.specs.Find.{cell_named}
 use Rattle.netlist_schema.specs.Types.{CellId, Contents}
 use Rattle.netlist_schema.specs.Valid.{IsValid}
-use Rattle.edit_core.specs.Seen.{contents_at, inside, named}
-use Rattle.edit_core.specs.Rule.{first, unless}
+use Rattle.edit_rules_spec.specs.Seen.{contents_at, inside, named}
+use Rattle.edit_rules_spec.specs.Rule.{first, unless}
 use Rattle.edit_spec.specs.AddNet.{no_new_net}
 use Rattle.edit_spec.specs.DropNet.{without_net}
 use Rattle.edit_spec.specs.Inside.{no_net, set_nets}
 use Rattle.edit_spec.specs.Rows.{outcome}
 use Rattle.edit_spec.specs.Typed.{IsTypedOp}
-use Rattle.edit_core.specs.declared.reply.CellName.{CellName}
+use Rattle.edit_rules_spec.specs.declared.reply.CellName.{CellName}
 use Rattle.edit_spec.specs.declared.ops.Op.TheVariants.{AddNet, DropNet}
-use Rattle.edit_core.specs.declared.reply.Reply.{Reply}
-use Rattle.edit_core.specs.declared.reply.Reply.TheVariants.{Done}
-use Rattle.cells_model.specs.State.{State}
+use Rattle.edit_rules_spec.specs.declared.reply.Reply.{Reply}
+use Rattle.edit_rules_spec.specs.declared.reply.Reply.TheVariants.{Done}
+use Rattle.edit_cells.specs.State.{State}
 use Rattle.eco_plans.proofs.NetsPlanned.{more_nets}
 use Rattle.eco_reads.specs.declared.plan.Plan.{Plan}
 use Rattle.eco_reads.specs.Done.{IsDoneOrFails}

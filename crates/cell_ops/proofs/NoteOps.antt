@@ -6,22 +6,22 @@ use Rattle.netlist_schema.specs.Design.{Design}
 use Rattle.netlist_schema.specs.Types.{CellId, Note, Object, Property, TopHead}
 use Rattle.netlist_schema.specs.Valid.{IsValid}
 use Rattle.netlist_schema.specs.declared.ids.Object.TheVariants.{Notes}
-use Rattle.edit_core.specs.Edit.{noted}
-use Rattle.edit_core.specs.Reading.{IsForPath, IsNotesBelow, IsReached}
+use Rattle.edit_rules_spec.specs.Edit.{noted}
+use Rattle.edit_rules_spec.specs.Reading.{IsForPath, IsNotesBelow, IsReached}
 use Rattle.edit_spec.specs.Needs.{Needs}
-use Rattle.edit_core.specs.Paths.{resolves}
-use Rattle.edit_core.specs.Rule.{Outcome, first, ruled, unless}
+use Rattle.edit_rules_spec.specs.Paths.{resolves}
+use Rattle.edit_rules_spec.specs.Rule.{Outcome, first, ruled, unless}
 use Rattle.edit_spec.specs.DropNote.{drop_note}
-use Rattle.edit_core.specs.Paths.{is_path}
-use Rattle.edit_core.specs.Notes.{notes_seen}
+use Rattle.edit_rules_spec.specs.Paths.{is_path}
+use Rattle.edit_rules_spec.specs.Notes.{notes_seen}
 use Rattle.edit_spec.specs.Rows.{outcome}
 use Rattle.edit_spec.specs.SetNote.{set_note}
 use Rattle.edit_spec.specs.Typed.{IsTypedOp}
 use Rattle.edit_spec.specs.declared.ops.Op.{Op}
 use Rattle.edit_spec.specs.declared.ops.Op.TheVariants.{DropNote, SetNote}
-use Rattle.edit_core.specs.declared.reply.Reply.{Reply}
-use Rattle.edit_core.specs.declared.reply.Reply.TheVariants.{Done}
-use Rattle.cells_model.specs.State.{State, HasRead, HasReadSome}
+use Rattle.edit_rules_spec.specs.declared.reply.Reply.{Reply}
+use Rattle.edit_rules_spec.specs.declared.reply.Reply.TheVariants.{Done}
+use Rattle.edit_cells.specs.State.{State, HasRead, HasReadSome}
 use Rattle.eco_reads.specs.Done.{IsDone, IsDoneOrFails}
 use Rattle.eco_reads.proofs.NoteReads.{some_top}
 use Rattle.eco_plans.specs.Notes.{no_note_dropped, no_note_set, note_dropped, note_set}

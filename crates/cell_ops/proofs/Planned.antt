@@ -4,19 +4,19 @@ use Rattle.std.specs.Option.{option_map, option_map_or}
 use Rattle.std.specs.Prelude.{option_to_list, is_none}
 use Rattle.netlist_schema.specs.Design.{Design, insts_in, nets_in}
 use Rattle.netlist_schema.specs.Types.{CellBody, CellId, Net}
-use Rattle.edit_core.specs.Edit.{inner}
-use Rattle.edit_core.specs.Find.{cell_named}
-use Rattle.edit_core.specs.Rule.{first, unless}
-use Rattle.edit_core.specs.Seen.{contents_at, inside, named, ports_seen}
-use Rattle.edit_core.specs.Objects.{face_at, face_of}
+use Rattle.edit_rules_spec.specs.Edit.{inner}
+use Rattle.edit_rules_spec.specs.Find.{cell_named}
+use Rattle.edit_rules_spec.specs.Rule.{first, unless}
+use Rattle.edit_rules_spec.specs.Seen.{contents_at, inside, named, ports_seen}
+use Rattle.edit_rules_spec.specs.Objects.{face_at, face_of}
 use Rattle.edit_spec.specs.AddNet.{no_new_net, with_net}
 use Rattle.edit_spec.specs.Inside.{set_nets}
 use Rattle.edit_spec.specs.Rows.{outcome}
-use Rattle.edit_core.specs.declared.reply.CellName.{CellName}
+use Rattle.edit_rules_spec.specs.declared.reply.CellName.{CellName}
 use Rattle.edit_spec.specs.declared.ops.Op.TheVariants.{AddNet, ShowCell}
-use Rattle.edit_core.specs.declared.reply.Reply.TheVariants.{Cell, Done}
-use Rattle.cells_model.specs.Parts.{Seen, seen_of, shown_by}
-use Rattle.cells_model.specs.declared.face.Face.{Face}
+use Rattle.edit_rules_spec.specs.declared.reply.Reply.TheVariants.{Cell, Done}
+use Rattle.edit_cells.specs.Parts.{Seen, seen_of, shown_by}
+use Rattle.edit_cells.specs.declared.face.Face.{Face}
 use Rattle.eco_reads.proofs.Found.{face_is, found_first, found_row, inside_is}
 
 -- other nets of the cell that is found

@@ -6,28 +6,28 @@ use Rattle.netlist_schema.specs.Design.{Design, cell_at, insts_in, nets_in}
 use Rattle.netlist_schema.specs.Hierarchy.{IsCell}
 use Rattle.netlist_schema.specs.Types.{CellBody, CellId, Contents, Inst, Property}
 use Rattle.netlist_schema.specs.Valid.{IsValid}
-use Rattle.edit_core.specs.Edit.{inner, own}
-use Rattle.edit_core.specs.Find.{cell_named, net_place}
-use Rattle.edit_core.specs.Reading.{IsForName}
-use Rattle.edit_core.specs.Rule.{Outcome, first, no_inst, unless}
-use Rattle.edit_core.specs.Seen.{contents_at, inside, named}
-use Rattle.edit_core.specs.Objects.{face_at, face_of}
+use Rattle.edit_rules_spec.specs.Edit.{inner, own}
+use Rattle.edit_rules_spec.specs.Find.{cell_named, net_place}
+use Rattle.edit_rules_spec.specs.Reading.{IsForName}
+use Rattle.edit_rules_spec.specs.Rule.{Outcome, first, no_inst, unless}
+use Rattle.edit_rules_spec.specs.Seen.{contents_at, inside, named}
+use Rattle.edit_rules_spec.specs.Objects.{face_at, face_of}
 use Rattle.edit_spec.specs.Inside.{no_net, set_insts, set_nets}
 use Rattle.edit_spec.specs.Rows.{outcome}
 use Rattle.edit_spec.specs.SetProp.{insts_with_property, nets_with_property, set_property}
 use Rattle.edit_spec.specs.Typed.{IsTypedOp}
-use Rattle.edit_core.specs.declared.reply.CellName.{CellName}
+use Rattle.edit_rules_spec.specs.declared.reply.CellName.{CellName}
 use Rattle.edit_spec.specs.declared.ops.Op.TheVariants.{SetProp}
-use Rattle.edit_core.specs.declared.reply.Reply.{Reply}
-use Rattle.edit_core.specs.declared.reply.Reply.TheVariants.{Done, NoNet}
+use Rattle.edit_rules_spec.specs.declared.reply.Reply.{Reply}
+use Rattle.edit_rules_spec.specs.declared.reply.Reply.TheVariants.{Done, NoNet}
 use Rattle.edit_spec.specs.declared.ops.Target.TheVariants.{Whole, Inst as OfInst, Net as OfNet}
-use Rattle.edit_core.proofs.Closed.{is_cell_found}
-use Rattle.edit_core.proofs.Named.{cell_there}
-use Rattle.cells_model.specs.Change.{HasMade, edits_of}
-use Rattle.cells_model.specs.declared.change.CellChange.TheVariants.{Face as FaceChange}
-use Rattle.cells_model.specs.Parts.{IsFace, Seen, seen_at, seen_of, shown_by}
-use Rattle.cells_model.specs.State.{State, HasRead}
-use Rattle.cells_model.specs.declared.face.Face.{Face}
+use Rattle.edit_rules_spec.proofs.Closed.{is_cell_found}
+use Rattle.edit_rules_spec.proofs.Named.{cell_there}
+use Rattle.edit_cells.specs.Change.{HasMade, edits_of}
+use Rattle.edit_cells.specs.declared.change.CellChange.TheVariants.{Face as FaceChange}
+use Rattle.edit_cells.specs.Parts.{IsFace, Seen, seen_at, seen_of, shown_by}
+use Rattle.edit_cells.specs.State.{State, HasRead}
+use Rattle.edit_cells.specs.declared.face.Face.{Face}
 use Rattle.eco_reads.specs.declared.plan.Plan.{Plan}
 use Rattle.eco_reads.specs.Done.{IsDone, IsDoneOrFails}
 use Rattle.eco_reads.specs.Plan.{CanBePut, IsGood, IsPlanned, IsPut, one_change}

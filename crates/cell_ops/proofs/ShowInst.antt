@@ -4,19 +4,19 @@ use Rattle.std.specs.Prelude.{is_none, option_and_then, option_map}
 use Rattle.std.proofs.lemmas.Option.{slice_get-map}
 use Rattle.netlist_schema.specs.Design.{Design, cell_at, insts_in, lib_at}
 use Rattle.netlist_schema.specs.Types.{CellBody, CellId, Contents, Inst, Lib, LibHead, Object, Property}
-use Rattle.edit_core.specs.Find.{cell_named, inst_named, inst_place}
-use Rattle.edit_core.specs.Objects.{cell_name_at, name_of, outside_at, outside_of}
-use Rattle.edit_core.specs.Reading.{IsForName}
-use Rattle.edit_core.specs.Rule.{Outcome, first, no_cell, no_inst, no_lib, refuse, unless}
-use Rattle.edit_core.specs.Seen.{contents_at, inside, named}
-use Rattle.edit_core.specs.declared.reply.CellName.{CellName}
-use Rattle.edit_core.specs.declared.reply.Reply.{Reply}
-use Rattle.edit_core.specs.declared.reply.Reply.TheVariants.{Inst as ShownInst, NoInst}
+use Rattle.edit_rules_spec.specs.Find.{cell_named, inst_named, inst_place}
+use Rattle.edit_rules_spec.specs.Objects.{cell_name_at, name_of, outside_at, outside_of}
+use Rattle.edit_rules_spec.specs.Reading.{IsForName}
+use Rattle.edit_rules_spec.specs.Rule.{Outcome, first, no_cell, no_inst, no_lib, refuse, unless}
+use Rattle.edit_rules_spec.specs.Seen.{contents_at, inside, named}
+use Rattle.edit_rules_spec.specs.declared.reply.CellName.{CellName}
+use Rattle.edit_rules_spec.specs.declared.reply.Reply.{Reply}
+use Rattle.edit_rules_spec.specs.declared.reply.Reply.TheVariants.{Inst as ShownInst, NoInst}
 use Rattle.edit_spec.specs.Rows.{outcome}
 use Rattle.edit_spec.specs.ShowInst.{inst_cell_name, inst_shown}
 use Rattle.edit_spec.specs.declared.ops.Op.TheVariants.{ShowInst}
-use Rattle.cells_model.specs.Parts.{Seen, seen_at, seen_of}
-use Rattle.cells_model.specs.State.{State, HasRead}
+use Rattle.edit_cells.specs.Parts.{Seen, seen_at, seen_of}
+use Rattle.edit_cells.specs.State.{State, HasRead}
 use Rattle.eco_reads.specs.Done.{IsDone}
 use Rattle.eco_reads.proofs.Found.{found_row, inside_is, refused_row}
 use Rattle.eco_reads.proofs.Reading.{HasFound, back_is, done_read, inside_needs, only_name, read_some}

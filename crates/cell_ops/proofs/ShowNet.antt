@@ -5,22 +5,22 @@ use Rattle.std.specs.Option.{option_map_or}
 use Rattle.std.specs.List.{flat_map}
 use Rattle.netlist_schema.specs.Design.{Design, insts_in, nets_in}
 use Rattle.netlist_schema.specs.Types.{CellId, Contents, End, Inst, Net, Object}
-use Rattle.edit_core.specs.Find.{cell_named, net_place}
-use Rattle.edit_core.specs.Objects.{face_at, face_object}
-use Rattle.edit_core.specs.Reading.{IsFaceOf, IsForCell, IsForName}
-use Rattle.edit_core.specs.Rule.{Outcome, first, no_cell, no_lib, refuse, unless}
-use Rattle.edit_core.specs.Seen.{contents_at, inside, named, ports_seen}
-use Rattle.edit_core.specs.declared.reply.CellName.{CellName}
-use Rattle.edit_core.specs.declared.reply.EndName.{EndName}
-use Rattle.edit_core.specs.declared.reply.Reply.{Reply}
-use Rattle.edit_core.specs.declared.reply.Reply.TheVariants.{Net as ShownNet, NoNet}
+use Rattle.edit_rules_spec.specs.Find.{cell_named, net_place}
+use Rattle.edit_rules_spec.specs.Objects.{face_at, face_object}
+use Rattle.edit_rules_spec.specs.Reading.{IsFaceOf, IsForCell, IsForName}
+use Rattle.edit_rules_spec.specs.Rule.{Outcome, first, no_cell, no_lib, refuse, unless}
+use Rattle.edit_rules_spec.specs.Seen.{contents_at, inside, named, ports_seen}
+use Rattle.edit_rules_spec.specs.declared.reply.CellName.{CellName}
+use Rattle.edit_rules_spec.specs.declared.reply.EndName.{EndName}
+use Rattle.edit_rules_spec.specs.declared.reply.Reply.{Reply}
+use Rattle.edit_rules_spec.specs.declared.reply.Reply.TheVariants.{Net as ShownNet, NoNet}
 use Rattle.edit_spec.specs.Inside.{no_net}
 use Rattle.edit_spec.specs.Needs.{Needs}
 use Rattle.edit_spec.specs.Rows.{outcome}
 use Rattle.edit_spec.specs.ShowNet.{IsAtEnd, end_by_name, ends_by_name, ends_of_net, inst_of_end, net_shown, ports_at}
 use Rattle.edit_spec.specs.declared.ops.Op.TheVariants.{ShowNet}
-use Rattle.cells_model.specs.Parts.{IsFace, IsInside}
-use Rattle.cells_model.specs.State.{State, HasRead}
+use Rattle.edit_cells.specs.Parts.{IsFace, IsInside}
+use Rattle.edit_cells.specs.State.{State, HasRead}
 use Rattle.eco_reads.specs.Done.{IsDone}
 use Rattle.eco_reads.proofs.Found.{face_is, found_row, inside_is, refused_row}
 use Rattle.eco_reads.proofs.Reading.{HasFound, done_read, face_needs, inside_needs, only_name, read_both, read_then}

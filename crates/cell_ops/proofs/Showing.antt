@@ -4,18 +4,18 @@ use Rattle.std.specs.Prelude.{is_none}
 use Rattle.std.specs.Option.{option_map, option_map_or}
 use Rattle.netlist_schema.specs.Design.{Design, insts_in, nets_in}
 use Rattle.netlist_schema.specs.Types.{CellId, Contents}
-use Rattle.edit_core.specs.Find.{cell_named}
-use Rattle.edit_core.specs.Reading.{IsForCell, IsForName}
-use Rattle.edit_core.specs.Rule.{Outcome}
-use Rattle.edit_core.specs.Seen.{contents_at, ports_seen}
-use Rattle.edit_core.specs.Objects.{face_at}
-use Rattle.edit_core.specs.declared.reply.CellName.{CellName}
+use Rattle.edit_rules_spec.specs.Find.{cell_named}
+use Rattle.edit_rules_spec.specs.Reading.{IsForCell, IsForName}
+use Rattle.edit_rules_spec.specs.Rule.{Outcome}
+use Rattle.edit_rules_spec.specs.Seen.{contents_at, ports_seen}
+use Rattle.edit_rules_spec.specs.Objects.{face_at}
+use Rattle.edit_rules_spec.specs.declared.reply.CellName.{CellName}
 use Rattle.edit_spec.specs.declared.ops.Op.TheVariants.{ShowCell}
-use Rattle.edit_core.specs.declared.reply.Reply.{Reply}
-use Rattle.edit_core.specs.declared.reply.Reply.TheVariants.{Cell}
-use Rattle.cells_model.specs.Parts.{IsFace, IsInside, seen_at, shown_by}
-use Rattle.cells_model.specs.State.{State, HasRead}
-use Rattle.cells_model.specs.declared.face.Face.{Face}
+use Rattle.edit_rules_spec.specs.declared.reply.Reply.{Reply}
+use Rattle.edit_rules_spec.specs.declared.reply.Reply.TheVariants.{Cell}
+use Rattle.edit_cells.specs.Parts.{IsFace, IsInside, seen_at, shown_by}
+use Rattle.edit_cells.specs.State.{State, HasRead}
+use Rattle.edit_cells.specs.declared.face.Face.{Face}
 use Rattle.eco_reads.specs.Done.{IsDone}
 use Rattle.cell_ops.proofs.Planned.{ports_are, show_cell_comes}
 use Rattle.eco_reads.proofs.Reading.{done_read, face_needs, inside_needs, read_then}

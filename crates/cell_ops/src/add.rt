@@ -2,16 +2,16 @@
 ghost use Rattle.std.specs.Prelude.{◌≡◌, ◌≤◌, IfOk, codes, length, map, not, sum_by};
 ghost use Rattle.std.specs.List.{list_any};
 ghost use Rattle.netlist_schema.specs.Design.{port_width};
-ghost use Rattle.edit_core.specs.Find.{is_same};
-ghost use Rattle.edit_core.specs.Rule.{first};
+ghost use Rattle.edit_rules_spec.specs.Find.{is_same};
+ghost use Rattle.edit_rules_spec.specs.Rule.{first};
 ghost use Rattle.edit_spec.specs.AddCell.{has_twice, new_cell, new_port};
 ghost use Rattle.edit_spec.specs.Typed.{IsTypedOp};
 ghost use Rattle.eco_reads.specs.Done.{IsDoneOrFails};
 ghost use Rattle.eco_plans.specs.Add.{IsCellPlanned, no_new_cell};
 
-use cells_model::{CellChange, Cells};
 use eco_plans::add::plan_cell;
 use eco_reads::write::write_one;
+use edit_cells::{CellChange, Cells};
 use edit_spec::{CellName, Op, PortDecl, Reply};
 use netlist_schema::{CellId, NoMemory, Row};
 use std::alloc::Global;

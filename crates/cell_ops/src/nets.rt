@@ -2,7 +2,7 @@
 ghost use Rattle.std.specs.Prelude.{◌≡◌, IfOk, [], ◌∷◌};
 ghost use Rattle.std.specs.Option.{option_copied};
 ghost use Rattle.netlist_schema.specs.Design.{insts_in, nets_in};
-ghost use Rattle.edit_core.specs.Rule.{first};
+ghost use Rattle.edit_rules_spec.specs.Rule.{first};
 ghost use Rattle.edit_spec.specs.AddNet.{new_net, no_new_net, with_net};
 ghost use Rattle.edit_spec.specs.DropNet.{without_net};
 ghost use Rattle.edit_spec.specs.Inside.{no_net};
@@ -10,10 +10,10 @@ ghost use Rattle.edit_spec.specs.Typed.{IsTypedOp};
 ghost use Rattle.eco_reads.specs.Done.{IsDoneOrFails};
 ghost use Rattle.eco_reads.specs.Plan.{IsPlanned};
 
-use cells_model::Cells;
 use eco_plans::nets::{plan_net, without_net};
 use eco_reads::read::read_named;
 use eco_reads::write::put_planned;
+use edit_cells::Cells;
 use edit_spec::{CellName, Op, Reply};
 use netlist_schema::{Ident, NoMemory};
 use std::alloc::Global;

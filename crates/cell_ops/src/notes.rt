@@ -1,18 +1,18 @@
 //! Operations on notes.
 ghost use Rattle.std.specs.Prelude.{◌≡◌, ◌<◌, ◌&&◌, IfOk, IfSome, length, nat_eq, position};
 ghost use Rattle.std.specs.Cmp.Lexicographic.{pointwise};
-ghost use Rattle.edit_core.specs.Find.{is_name};
-ghost use Rattle.edit_core.specs.Rule.{first};
-ghost use Rattle.edit_core.specs.Notes.{note_place};
+ghost use Rattle.edit_rules_spec.specs.Find.{is_name};
+ghost use Rattle.edit_rules_spec.specs.Rule.{first};
+ghost use Rattle.edit_rules_spec.specs.Notes.{note_place};
 ghost use Rattle.edit_spec.specs.Typed.{IsTypedOp};
 ghost use Rattle.eco_reads.specs.Done.{IsDoneOrFails};
 ghost use Rattle.eco_reads.specs.Plan.{AreNotesPlanned};
 ghost use Rattle.eco_plans.specs.Notes.{no_note_dropped, no_note_set, note_dropped, note_set};
 
-use cells_model::Cells;
 use eco_plans::notes::{with_note, without_note};
 use eco_reads::walk::leads;
 use eco_reads::write::put_notes;
+use edit_cells::Cells;
 use edit_spec::{Op, Reply};
 use netlist_schema::{Ident, NoMemory, Property, Row};
 use std::alloc::Global;

@@ -1,19 +1,19 @@
 //! Setting properties.
 ghost use Rattle.std.specs.Prelude.{◌≡◌, [], ◌∷◌, IfOk, IfSome};
 ghost use Rattle.std.specs.Option.{option_copied, option_map_or};
-ghost use Rattle.edit_core.specs.Rule.{first, no_inst};
+ghost use Rattle.edit_rules_spec.specs.Rule.{first, no_inst};
 ghost use Rattle.edit_spec.specs.Inside.{no_net};
 ghost use Rattle.edit_spec.specs.SetProp.{set_property};
 ghost use Rattle.edit_spec.specs.Typed.{IsTypedOp};
-ghost use Rattle.cells_model.specs.Parts.{HasLimits};
+ghost use Rattle.edit_cells.specs.Parts.{HasLimits};
 ghost use Rattle.eco_reads.specs.Done.{IsDoneOrFails};
 ghost use Rattle.eco_reads.specs.Plan.{IsPlanned};
 ghost use Rattle.eco_plans.specs.Props.{insts_set, nets_set};
 
-use cells_model::{CellChange, Cells};
 use eco_plans::props::{plan_inst_property, plan_net_property, with_own_property};
 use eco_reads::read::read_named;
 use eco_reads::write::{put_planned, write_one};
+use edit_cells::{CellChange, Cells};
 use edit_spec::{CellName, Op, Reply, Target};
 use netlist_schema::{Ident, NoMemory, Property};
 use std::alloc::Global;

@@ -3,20 +3,20 @@ ghost use Rattle.std.specs.Prelude.{◌≡◌, ◌≤◌, ◌++◌, [], ◌∷�
 ghost use Rattle.std.specs.List.{flat_map};
 ghost use Rattle.std.specs.Option.{option_copied, option_map_or};
 ghost use Rattle.netlist_schema.specs.Design.{insts_in, nets_in};
-ghost use Rattle.edit_core.specs.Find.{inst_named};
-ghost use Rattle.edit_core.specs.Objects.{cell_name_at};
-ghost use Rattle.edit_core.specs.Rule.{first};
-ghost use Rattle.edit_core.specs.declared.reply.Reply.TheVariants.{NoNet};
+ghost use Rattle.edit_rules_spec.specs.Find.{inst_named};
+ghost use Rattle.edit_rules_spec.specs.Objects.{cell_name_at};
+ghost use Rattle.edit_rules_spec.specs.Rule.{first};
+ghost use Rattle.edit_rules_spec.specs.declared.reply.Reply.TheVariants.{NoNet};
 ghost use Rattle.edit_spec.specs.Inside.{no_net};
 ghost use Rattle.edit_spec.specs.ShowNet.{ends_of_net};
-ghost use Rattle.cells_model.specs.Parts.{HasLimits, IsFace, seen_at};
-ghost use Rattle.cells_model.specs.State.{HasRead, HasReadSome};
+ghost use Rattle.edit_cells.specs.Parts.{HasLimits, IsFace, seen_at};
+ghost use Rattle.edit_cells.specs.State.{HasRead, HasReadSome};
 ghost use Rattle.eco_reads.specs.Done.{IsDoneOrFails};
 ghost use Rattle.eco_plans.specs.Shown.{AreFacesOf, end_seen, ends_seen, seen_end, seen_name};
 
-use cells_model::Cells;
 use eco_plans::show::{EndAt, cell_name, ends_of, inst_of, lib_name, port_count, port_name, shown};
 use eco_reads::read::read_named;
+use edit_cells::Cells;
 use edit_spec::{CellName, EndName, Op, Reply};
 use netlist_schema::{CellId, Copied, Ident, NoMemory, Row};
 use std::alloc::Global;

@@ -4,8 +4,8 @@ use Rattle.std.specs.Prelude.{codes, decimal}
 use Rattle.std.specs.Str.Parse.{AllDigits}
 use Rattle.std.proofs.lemmas.Fmt.{decimal_injective, decimal_is_IsNumeral}
 use Rattle.std.proofs.lemmas.Str.Parse.{digit_from_value}
-use Rattle.edit_core.specs.Find.{is_same}
-use Rattle.edit_core.proofs.Numbers.{lower, lower_numbered}
+use Rattle.edit_rules_spec.specs.Find.{is_same}
+use Rattle.edit_rules_spec.proofs.Numbers.{lower, lower_numbered}
 use Rattle.uniquify_spec.specs.Copies.{numbered}
 use Rattle.uniquify_spec.proofs.CopyLists.{same_path-true}
 

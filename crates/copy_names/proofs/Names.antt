@@ -3,8 +3,8 @@ use Rattle.std.proofs.Common.{◌≡◌, [], Option, Some, None, ap, ◌∙◌}
 use Rattle.std.specs.Prelude.{IsSome}
 use Rattle.std.specs.Option.{option_map, option_map_or}
 use Rattle.netlist_schema.specs.Types.{CellBody, Name}
-use Rattle.cells_model.specs.Parts.{Seen, seen_of, shown_by}
-use Rattle.cells_model.specs.declared.face.Face.{Face}
+use Rattle.edit_cells.specs.Parts.{Seen, seen_of, shown_by}
+use Rattle.edit_cells.specs.declared.face.Face.{Face}
 
 abbrev pub no_name : Name
 no_name = record { id = []; shown = None }

@@ -9,13 +9,13 @@ use Rattle.std.proofs.lemmas.Bool.{cases_Bool, cases_eq, cases_lt, cases_order, 
 use Rattle.netlist_schema.specs.Design.{Design, cells_in}
 use Rattle.netlist_schema.specs.Names.{cell_names}
 use Rattle.netlist_schema.specs.Types.{CellId, LibId, Name}
-use Rattle.edit_core.specs.Find.{is_name, is_same}
-use Rattle.edit_core.proofs.Refusals.{is_name-refl}
+use Rattle.edit_rules_spec.specs.Find.{is_name, is_same}
+use Rattle.edit_rules_spec.proofs.Refusals.{is_name-refl}
 use Rattle.uniquify_spec.specs.Copies.{Copy, copies_in, copy_name, free_number, is_free, names_with, name_at, numbered}
 use Rattle.uniquify_spec.proofs.CopyLists.{length-names, length-names_more}
 use Rattle.uniquify_spec.proofs.CopyNames.{copies_get_least_free}
 use Rattle.uniquify_spec.proofs.ValidNames.{names_more}
-use Rattle.edit_core.proofs.Numbers.{lower}
+use Rattle.edit_rules_spec.proofs.Numbers.{lower}
 use Rattle.copy_names.proofs.Endings.{numbered_alike, numbered_same}
 use Rattle.copy_names.proofs.Stems.{at_stem, next_same, number_at, stem_at}
 use Rattle.copy_names.specs.Known.{AreKnown, IsFirstFree, IsNext, IsNextTwin, IsStemOf, copy_at, count_of, is_copied, next_of, stem_cmp}

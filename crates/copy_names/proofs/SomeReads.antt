@@ -1,7 +1,7 @@
 -- Reading one after the other.
 use Rattle.std.proofs.Common.{refl, ◌∙◌}
-use Rattle.cells_model.specs.State.{State, HasReadSome}
-use Rattle.cells_model.proofs.Growing.{prefix_refl, prefix_twice}
+use Rattle.edit_cells.specs.State.{State, HasReadSome}
+use Rattle.edit_cells.proofs.Growing.{prefix_refl, prefix_twice}
 
 pub some_none : (s : State) → HasReadSome s s
 some_none s = record { base = refl; design = refl; written = refl; prefix = prefix_refl s.reads }

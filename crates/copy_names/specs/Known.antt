@@ -9,7 +9,7 @@ use Rattle.std.specs.declared.cmp.Ordering.{Ordering}
 use Rattle.netlist_schema.specs.Design.{Design, cells_in}
 use Rattle.netlist_schema.specs.Types.{CellId, LibId}
 use Rattle.netlist_schema.specs.declared.limits.TheConstants.{MOST_CELLS}
-use Rattle.edit_core.specs.Find.{is_same}
+use Rattle.edit_rules_spec.specs.Find.{is_same}
 use Rattle.uniquify_spec.specs.Copies.{Copy, copies_in, copy_name, is_free, names_with, name_at, numbered}
 use Rattle.copy_names.specs.declared.namer.Namer.{Namer}
 use Rattle.copy_names.specs.declared.namer.Twin.{Twin}

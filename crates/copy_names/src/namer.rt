@@ -5,13 +5,13 @@ ghost use Rattle.std.specs.Ordering.{nat_cmp};
 ghost use Rattle.netlist_schema.specs.Design.{Design, cells_in};
 ghost use Rattle.netlist_schema.specs.Hierarchy.{IsCell};
 ghost use Rattle.uniquify_spec.specs.Copies.{Copy};
-ghost use Rattle.cells_model.specs.State.{HasReadSome};
+ghost use Rattle.edit_cells.specs.State.{HasReadSome};
 ghost use Rattle.copy_names.specs.declared.numbers.Stem.{Stem};
 ghost use Rattle.copy_names.specs.Known.{AreKnown, IsNext, count_of, next_of, stem_cmp};
 
 use crate::numbers::{Stem, numbered_text, stem_of};
 use crate::seek::{count_of, first_free, name_of};
-use cells_model::Cells;
+use edit_cells::Cells;
 use netlist_schema::limits::MOST_CELLS;
 use netlist_schema::{CellId, LibId, Name, NoMemory};
 use std::alloc::Global;

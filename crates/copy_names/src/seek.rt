@@ -4,11 +4,11 @@ ghost use Rattle.netlist_schema.specs.Design.{cells_in};
 ghost use Rattle.netlist_schema.specs.Hierarchy.{IsCell};
 ghost use Rattle.netlist_schema.specs.Names.{cell_names};
 ghost use Rattle.uniquify_spec.specs.Copies.{is_free, name_at, numbered};
-ghost use Rattle.cells_model.specs.State.{HasReadSome};
+ghost use Rattle.edit_cells.specs.State.{HasReadSome};
 ghost use Rattle.copy_names.specs.Known.{IsFirstFree};
 
 use crate::numbers::numbered_ident;
-use cells_model::{Cells, Face};
+use edit_cells::{Cells, Face};
 use netlist_schema::{CellId, Copied, Ident, LibId, Name, NoMemory};
 use std::alloc::Global;
 

@@ -1,10 +1,10 @@
 //! Designs of one library, and edits of them.
 use edit_spec::{CellName, EndName, Op, Target};
-use hand_designs::{CellPlan, Inside, Plan, design};
 use netlist_schema::{CellId, Design, Direction, Ident, LibId, Name, Property, Value};
 use std::alloc::Global;
 use std::process::Abort;
 use std::test::Fail;
+use test_hand_designs::{CellPlan, Inside, Plan, design};
 
 const EMPTY: Option<Inside<'static>> = Some(Inside {
     insts: &[],

@@ -1,1 +1,3 @@
+mod KnownLemmas
 mod RowLemmas
+mod SinkLemmas

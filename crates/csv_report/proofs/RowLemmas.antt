@@ -5,7 +5,7 @@ use Rattle.std.specs.List.{list_any}
 use Rattle.std.proofs.lemmas.List.{length-map}
 use Rattle.csv.specs.Writing.{default_writer, escaped, field_text as text_of_field, fields_text, is_blank, needs_quotes, row_text}
 use Rattle.csv.specs.Quoting.{needs_byte}
-use Rattle.csv_spec.specs.Fields.{calls_for_quotes, doubled, field_text, row, separated}
+use Rattle.flat_csv_spec.specs.Fields.{calls_for_quotes, doubled, field_text, row, separated}
 
 -- which bytes call for quotes
 same_bytes : (b : ℕ) → needs_byte default_writer b ≡ calls_for_quotes b

@@ -3,11 +3,11 @@ ghost use Rattle.std.specs.Prelude.{◌≡◌, [], ◌++◌, IfOk, OnOk, option_
 ghost use Rattle.std.specs.Option.{option_map, option_map_or};
 ghost use Rattle.flat_spec.specs.Effective.{names_along};
 ghost use Rattle.flat_spec.specs.Paths.{cell_along};
-ghost use Rattle.report_spec.specs.Lines.{net_text, path_text, port_text};
+ghost use Rattle.flat_lines_spec.specs.Lines.{net_text, path_text, port_text};
 ghost use Rattle.csv_report.specs.Parts.{behind_slashes};
 ghost use Rattle.walk_items.specs.Lent.{net_of};
 
-use cell_lookup::{cell_along, inst_at, net_at};
+use flat_lookup::{cell_along, inst_at, net_at};
 use netlist_schema::{CellId, NoMemory, Shown};
 use std::alloc::Global;
 use walk_items::NetRef;
@@ -74,7 +74,7 @@ pub fn port_name<'a, S: Shown>(design: &'a S, path: &[u32], port: u32) -> &'a [u
 }
 
 /// The identifier of a net; nothing where there is no such net.
-fn net_name<'a, S: Shown>(design: &'a S, net: NetRef<'_>) -> &'a [u8]
+pub fn net_name<'a, S: Shown>(design: &'a S, net: NetRef<'_>) -> &'a [u8]
     ensures { result.now ≡ net_text (S.design design.now) (net_of net.entry) }
 {
     let Some(id) = cell_at_path(design, net.path) else {

@@ -1,8 +1,8 @@
 //! The row of an item.
 ghost use Rattle.std.specs.Prelude.{◌≡◌, ◌++◌, IfOk, OnErr, OnOk};
-ghost use Rattle.csv_spec.specs.PinTable.{header as names_of_columns, pin_fields, pin_row as row_of_item};
+ghost use Rattle.flat_csv_spec.specs.PinTable.{header as names_of_columns, pin_fields, pin_row as row_of_item};
 ghost use Rattle.std.specs.Option.{option_map};
-ghost use Rattle.csv_spec.specs.Fields.{row};
+ghost use Rattle.flat_csv_spec.specs.Fields.{row};
 ghost use Rattle.walk_items.specs.Lent.{item_of, net_of};
 
 use crate::places::{first_name, first_path_bytes, path_bytes, port_name};

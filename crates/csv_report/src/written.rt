@@ -1,6 +1,6 @@
 //! Fields as the text of a row.
 ghost use Rattle.std.specs.Prelude.{◌≡◌, ◌<◌, IfOk, length, map};
-ghost use Rattle.csv_spec.specs.Fields.{row};
+ghost use Rattle.flat_csv_spec.specs.Fields.{row};
 
 use csv::Writer;
 use netlist_schema::NoMemory;

@@ -8,13 +8,13 @@ use Rattle.netlist_schema.specs.Order.{object_cmp}
 use Rattle.netlist_schema.specs.Types.{Object}
 use Rattle.netlist_schema.proofs.Objects.{is_listed}
 use Rattle.edit_spec.specs.Needs.{Reads, Written}
-use Rattle.edit_core.specs.Objects.{AgreesOn, Grown, IsClosed}
+use Rattle.edit_rules_spec.specs.Objects.{AgreesOn, Grown, IsClosed}
 use Rattle.edit_spec.specs.Step.{run}
 use Rattle.edit_spec.specs.declared.ops.Op.{Op}
-use Rattle.edit_core.proofs.Values.{agree_is_same_value}
+use Rattle.edit_rules_spec.proofs.Values.{agree_is_same_value}
 use Rattle.conflict_check.specs.Commits.{Commits, IsMarked, HasNoLater, IsFirstLater, last_commit, later_of}
 use Rattle.conflict_check.specs.declared.stamps.Later.{Later}
-use Rattle.version_data.specs.Shot.{Shot}
+use Rattle.db_version.specs.Shot.{Shot}
 use Rattle.history_spec.specs.declared.event.Event.{Event}
 use Rattle.history_spec.specs.State.{State, Version, IsWritten, committed, design, first_version, head, opening, version}
 use Rattle.history_spec.specs.Answers.{HasNoConflict, IsConflict, Clashes}

@@ -6,7 +6,7 @@ use Rattle.netlist_schema.specs.Order.{object_cmp}
 use Rattle.netlist_schema.specs.Types.{Object}
 use Rattle.netlist_schema.specs.Valid.{IsValid}
 use Rattle.conflict_check.specs.Commits.{Commits, last_commit}
-use Rattle.version_data.specs.Shot.{Shot}
+use Rattle.db_version.specs.Shot.{Shot}
 use Rattle.history_spec.specs.declared.event.Event.{Event}
 use Rattle.history_spec.specs.State.{IsWritten, opening}
 use Rattle.db_core.specs.declared.database.Core.TheInside.{Inside}

@@ -3,7 +3,7 @@ use Rattle.std.proofs.Common.{◌≡◌, ℕ, ◌+◌, ◌≤◌, List, [], ◌�
 use Rattle.std.specs.List.{All}
 use Rattle.std.proofs.lemmas.List.{map-append}
 use Rattle.std.proofs.lemmas.List.Elements.{All-push, Contains-push}
-use Rattle.version_data.specs.Shot.{Shot}
+use Rattle.db_version.specs.Shot.{Shot}
 use Rattle.pin_registry.specs.Registry.{Registry, with_pin, without_pin, live_pin as held_pin}
 use Rattle.pin_registry.specs.Registry.{LivePin as HeldPin}
 use Rattle.history_spec.specs.declared.event.Event.{Event}

@@ -4,7 +4,7 @@ use Rattle.std.specs.List.{All}
 use Rattle.netlist_schema.specs.Design.{Design}
 use Rattle.netlist_schema.specs.Valid.{IsValid}
 use Rattle.edit_tx.specs.Facts.{PinFacts}
-use Rattle.version_data.specs.Shot.{Shot}
+use Rattle.db_version.specs.Shot.{Shot}
 use Rattle.history_spec.specs.declared.event.Event.{Event}
 use Rattle.history_spec.specs.State.{State, IsLive, design}
 use Rattle.history_spec.specs.History.{Legal, state_after}

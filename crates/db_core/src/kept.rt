@@ -1,7 +1,7 @@
 //! Kept versions, in ascending order.
 ghost use Rattle.std.specs.Prelude.{◌≡◌, ◌<◌, ◌≤◌, vec_len, filter, ◌==◌, ◌||◌, option_map, slice_get, MatchOption};
 ghost use Rattle.std.specs.List.{AllPairs, Contains, list_any};
-ghost use Rattle.version_data.specs.Shot.{Shot};
+ghost use Rattle.db_version.specs.Shot.{Shot};
 
 use edit_tx::Snapshot;
 use pin_registry::Pins;

@@ -10,8 +10,8 @@ use Rattle.std.proofs.lemmas.List.Elements.{All-from_recursion}
 use Rattle.std.proofs.lemmas.List.FromFn.{get_or-map-range_with_len, map-range_with_len_more, get_or-range_with_len, length-map-range_with_len, length-range_with_len}
 use Rattle.netlist_schema.specs.Ident.{IsIdentifier, is_identifier_byte}
 use Rattle.netlist_schema.specs.Names.{AreDistinct}
-use Rattle.edit_core.proofs.Lists.{Apart, distinct_of}
-use Rattle.edit_core.proofs.Numbers.{digits_pass}
+use Rattle.edit_rules_spec.proofs.Lists.{Apart, distinct_of}
+use Rattle.edit_rules_spec.proofs.Numbers.{digits_pass}
 use Rattle.design_gen.specs.Generated.{numbered}
 use Rattle.design_gen.specs.Letters.{are_letters}
 

@@ -7,7 +7,8 @@ ghost use Rattle.design_gen.specs.Generated.{cell, generated, inverter_at, inver
 
 use crate::parts::{cell, inst, letters, name, net, numbered};
 use netlist_schema::{
-    CellBody, CellId, Contents, Design, End, Inst, Lib, LibHead, LibId, Net, NoMemory, Row, TopHead,
+    CellBody, CellId, Contents, Design, End, Inst, Lib, LibHead, LibId, Net, NoMemory, Row, Shared,
+    TopHead,
 };
 use std::alloc::Global;
 
@@ -54,26 +55,27 @@ fn right_end(count: u32, number: u32) -> End
 }
 
 /// The inverters of the row.
-fn inverters(alloc: Global, count: u32) -> Result<Vec<Inst>, NoMemory>
+fn inverters(alloc: Global, count: u32) -> Result<Vec<Shared<Inst>>, NoMemory>
     ensures { IfOk result (λ made. made.items ≡ inverters count) }
 {
     let mut made = Vec::new(alloc);
     for number in 0..count {
         let id = numbered(alloc, b'i', number)?;
-        made.push(inst(alloc, id, 0))?;
+        made.push(Shared::of(alloc, inst(alloc, id, 0))?)?;
     }
     Ok(made)
 }
 
 /// The nets of the row.
-fn row_nets(alloc: Global, count: u32) -> Result<Vec<Net>, NoMemory>
+fn row_nets(alloc: Global, count: u32) -> Result<Vec<Shared<Net>>, NoMemory>
     requires { count ≤ 4096 }
     ensures { IfOk result (λ made. made.items ≡ row_nets count) }
 {
     let mut made = Vec::new(alloc);
     for number in 0..count + 1 {
         let id = numbered(alloc, b'n', number)?;
-        made.push(net(alloc, id, left_end(number), right_end(count, number))?)?;
+        let net = net(alloc, id, left_end(number), right_end(count, number))?;
+        made.push(Shared::of(alloc, net)?)?;
     }
     Ok(made)
 }
@@ -89,28 +91,28 @@ fn row(alloc: Global, count: u32) -> Result<CellBody, NoMemory>
 }
 
 /// The two rows in the pair.
-fn pair_insts(alloc: Global) -> Result<Row<Inst>, NoMemory>
+fn pair_insts(alloc: Global) -> Result<Row<Shared<Inst>>, NoMemory>
     ensures { IfOk result (λ made. made ≡ insts_of pair) }
 {
     let first = letters(alloc, b"r0")?;
     let second = letters(alloc, b"r1")?;
     let mut made = Vec::new(alloc);
-    made.push(inst(alloc, first, 1))?;
-    made.push(inst(alloc, second, 1))?;
+    made.push(Shared::of(alloc, inst(alloc, first, 1))?)?;
+    made.push(Shared::of(alloc, inst(alloc, second, 1))?)?;
     Ok(Row::of(made))
 }
 
 /// The nets of the pair.
-fn pair_nets(alloc: Global) -> Result<Row<Net>, NoMemory>
+fn pair_nets(alloc: Global) -> Result<Row<Shared<Net>>, NoMemory>
     ensures { IfOk result (λ made. made ≡ nets_of pair) }
 {
     let a = letters(alloc, b"a")?;
     let m = letters(alloc, b"m")?;
     let y = letters(alloc, b"y")?;
     let mut made = Vec::new(alloc);
-    made.push(net(alloc, a, own_port(0), on_port(0, 0))?)?;
-    made.push(net(alloc, m, on_port(0, 1), on_port(1, 0))?)?;
-    made.push(net(alloc, y, on_port(1, 1), own_port(1))?)?;
+    made.push(Shared::of(alloc, net(alloc, a, own_port(0), on_port(0, 0))?)?)?;
+    made.push(Shared::of(alloc, net(alloc, m, on_port(0, 1), on_port(1, 0))?)?)?;
+    made.push(Shared::of(alloc, net(alloc, y, on_port(1, 1), own_port(1))?)?)?;
     Ok(Row::of(made))
 }
 

@@ -8,7 +8,7 @@ ghost use Rattle.design_gen.specs.Letters.{are_letters};
 use itoa::Buffer;
 use netlist_schema::{
     CellBody, CellId, CellKind, Contents, Direction, End, Ident, Inst, LibId, Name, Net, NoMemory,
-    Port, Row,
+    Port, Row, Shared,
 };
 use std::alloc::Global;
 
@@ -95,7 +95,7 @@ pub fn cell(alloc: Global, bytes: &[u8], contents: Option<Contents>) -> Result<C
         view_properties: Row::of(Vec::new(alloc)),
         interface_properties: Row::of(Vec::new(alloc)),
         ports,
-        contents,
+        contents: Shared::of_some(alloc, contents)?,
     })
 }
 

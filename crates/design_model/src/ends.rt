@@ -3,7 +3,7 @@ ghost use Rattle.std.specs.Prelude.{◌≡◌};
 ghost use Rattle.std.specs.Option.{option_copied};
 ghost use Rattle.flat_spec.specs.Paths.{ends_at, net_of};
 
-use cell_lookup::{cell_along, net_at};
+use flat_lookup::{cell_along, net_at};
 use flat_spec::NetAt;
 use netlist_schema::{CellId, End, Net, Shown};
 

@@ -18,7 +18,7 @@ use crate::tree_nets::TreeNets;
 use crate::walk::Occurrence;
 use annot_view::effective;
 use bus_members::width;
-use cell_lookup::net_count;
+use flat_lookup::net_count;
 use flat_spec::{Item, NetAt, Path};
 use netlist_schema::{Copied, NoMemory, Port, Shown};
 use std::alloc::Global;

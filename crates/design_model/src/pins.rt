@@ -10,7 +10,7 @@ ghost use Rattle.design_model.specs.Items.{bits_from};
 
 use crate::meets::has_end;
 use crate::walk::Occurrence;
-use cell_lookup::{cell_along, nets_at};
+use flat_lookup::{cell_along, nets_at};
 use flat_spec::{NetAt, Path};
 use netlist_schema::{CellBody, CellId, End, NoMemory, Port, Shown};
 use std::alloc::Global;

@@ -5,7 +5,7 @@ ghost use Rattle.netlist_schema.specs.Valid.{IsValid};
 ghost use Rattle.flat_spec.specs.Occurrences.{occurrences, own_nets};
 ghost use Rattle.flat_spec.specs.Below.{under_path};
 
-use cell_lookup::{insts_at, net_count};
+use flat_lookup::{insts_at, net_count};
 use flat_spec::{NetAt, Path};
 use netlist_schema::{CellId, Copied, NoMemory, Shown};
 use std::alloc::Global;

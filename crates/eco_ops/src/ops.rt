@@ -10,7 +10,7 @@ use cell_ops::nets::{add_net, drop_net};
 use cell_ops::notes::{drop_note, set_note};
 use cell_ops::props::set_prop;
 use cell_ops::show::{show_cell, show_inst, show_net};
-use cells_model::Cells;
+use edit_cells::Cells;
 use edit_spec::{Op, Reply, told};
 use inst_ops::insts::{add_inst, drop_inst};
 use netlist_schema::NoMemory;

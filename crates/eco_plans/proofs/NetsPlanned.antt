@@ -4,23 +4,23 @@ use Rattle.std.specs.List.{list_any}
 use Rattle.std.proofs.lemmas.Bool.{le-leb, lt-leb}
 use Rattle.netlist_schema.specs.Design.{insts_in, nets_in}
 use Rattle.netlist_schema.specs.Types.{Contents, Net}
-use Rattle.edit_core.specs.Find.{is_same}
-use Rattle.edit_core.specs.Rule.{first}
+use Rattle.edit_rules_spec.specs.Find.{is_same}
+use Rattle.edit_rules_spec.specs.Rule.{first}
 use Rattle.edit_spec.specs.AddNet.{no_new_net, with_net}
 use Rattle.edit_spec.specs.Inside.{no_net}
-use Rattle.edit_core.specs.declared.reply.Reply.TheVariants.{TooMany}
+use Rattle.edit_rules_spec.specs.declared.reply.Reply.TheVariants.{TooMany}
 use Rattle.std.proofs.Common.{◌≡◌, ◌<◌, ◌++◌, false, length, arith, sym, ap, subst, ℕ, List, [], ◌∷◌, Option, Some, None, refl, ◌∙◌}
 use Rattle.std.specs.Prelude.{Ok}
-use Rattle.edit_core.specs.Find.{is_same}
+use Rattle.edit_rules_spec.specs.Find.{is_same}
 use Rattle.netlist_schema.specs.Design.{insts_in, nets_in}
-use Rattle.edit_core.specs.Find.{net_place}
+use Rattle.edit_rules_spec.specs.Find.{net_place}
 use Rattle.netlist_schema.specs.Types.{Contents}
-use Rattle.edit_core.specs.Rule.{first}
+use Rattle.edit_rules_spec.specs.Rule.{first}
 use Rattle.edit_spec.specs.AddNet.{new_net, no_new_net, with_net}
 use Rattle.edit_spec.specs.Inside.{no_net}
-use Rattle.edit_core.specs.declared.reply.Reply.TheVariants.{NoNet}
+use Rattle.edit_rules_spec.specs.declared.reply.Reply.TheVariants.{NoNet}
 use Rattle.eco_reads.specs.declared.plan.Plan.TheVariants.{Net as PlannedNet}
-use Rattle.eco_reads.proofs.Places.{put_last}
+use Rattle.eco_reads.proofs.Within.{put_last}
 use Rattle.eco_reads.specs.Plan.{IsPlanned}
 
 pub too_many_nets : (contents : Option Contents) (c : Contents) (name : List ℕ) → contents ≡ Some c → list_any (λ net. is_same net.name.id name) c.nets ≡ false → 1048576 ≤ length c.nets → first (no_new_net contents name) ≡ Some (TooMany 1048576)

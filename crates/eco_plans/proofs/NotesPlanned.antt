@@ -3,9 +3,9 @@ use Rattle.std.proofs.Common.{◌≡◌, ◌⊎◌, ◌==◌, ◌<◌, ◌≤◌
 use Rattle.std.proofs.lemmas.Bool.{le-leb, lt-leb}
 use Rattle.std.proofs.lemmas.Bool.Decides.{nat_tests}
 use Rattle.netlist_schema.specs.Types.{Note, Property}
-use Rattle.edit_core.specs.Rule.{first}
-use Rattle.edit_core.specs.Notes.{note_place}
-use Rattle.edit_core.specs.declared.reply.Reply.TheVariants.{NoNote, NoPath, TooMany}
+use Rattle.edit_rules_spec.specs.Rule.{first}
+use Rattle.edit_rules_spec.specs.Notes.{note_place}
+use Rattle.edit_rules_spec.specs.declared.reply.Reply.TheVariants.{NoNote, NoPath, TooMany}
 use Rattle.eco_plans.specs.Notes.{no_note_dropped, no_note_set}
 
 empty_path : (path : List (List ℕ)) → length path ≡ 0 → path ≡ []

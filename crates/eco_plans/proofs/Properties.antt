@@ -3,16 +3,16 @@ use Rattle.std.proofs.Common.{arith, ◌≡◌, ◌<◌, ℕ, List, [], ◌∷�
 use Rattle.std.specs.Prelude.{Ok, slice_set}
 use Rattle.std.specs.Option.{option_map_or}
 use Rattle.netlist_schema.specs.Types.{Contents, Inst, Net, Property}
-use Rattle.edit_core.specs.Edit.{changed_at}
-use Rattle.edit_core.specs.Find.{inst_place, net_place}
-use Rattle.edit_core.specs.Rule.{first, no_inst}
+use Rattle.edit_rules_spec.specs.Edit.{changed_at}
+use Rattle.edit_rules_spec.specs.Find.{inst_place, net_place}
+use Rattle.edit_rules_spec.specs.Rule.{first, no_inst}
 use Rattle.edit_spec.specs.Inside.{no_net}
 use Rattle.edit_spec.specs.SetProp.{insts_with_property, nets_with_property, set_property}
-use Rattle.edit_core.specs.declared.reply.Reply.TheVariants.{NoInst}
-use Rattle.cells_model.proofs.Patches.{changed_at_place}
+use Rattle.edit_rules_spec.specs.declared.reply.Reply.TheVariants.{NoInst}
+use Rattle.edit_cells.proofs.Patches.{changed_at_place}
 use Rattle.eco_plans.proofs.NetsPlanned.{net_found}
 use Rattle.eco_reads.specs.declared.plan.Plan.TheVariants.{Net as PlannedNet, Inst as PlannedInst}
-use Rattle.eco_reads.proofs.Places.{put_within}
+use Rattle.eco_reads.proofs.Within.{put_within}
 use Rattle.eco_reads.specs.Plan.{IsPlanned}
 use Rattle.eco_plans.specs.Props.{insts_set, nets_set}
 

@@ -3,9 +3,9 @@ use Rattle.std.specs.Prelude.{◌≡◌, ◌||◌, ℕ, Bool, List, [], ◌∷�
 use Rattle.netlist_schema.specs.Design.{port_width}
 use Rattle.netlist_schema.specs.Types.{CellBody}
 use Rattle.netlist_schema.specs.declared.limits.TheConstants.{MOST_BITS, MOST_CELLS, MOST_PORTS}
-use Rattle.edit_core.specs.Rule.{refuse, too_many}
-use Rattle.edit_core.specs.declared.reply.Reply.{Reply}
-use Rattle.edit_core.specs.declared.reply.Reply.TheVariants.{Taken, TooMany}
+use Rattle.edit_rules_spec.specs.Rule.{refuse, too_many}
+use Rattle.edit_rules_spec.specs.declared.reply.Reply.{Reply}
+use Rattle.edit_rules_spec.specs.declared.reply.Reply.TheVariants.{Taken, TooMany}
 use Rattle.edit_spec.specs.AddCell.{has_twice, new_port}
 use Rattle.edit_spec.specs.declared.ops.PortDecl.{PortDecl}
 

@@ -3,10 +3,10 @@ use Rattle.std.specs.Prelude.{◌==◌, ◌&&◌, ◌++◌, ℕ, Bool, not, nat_
 use Rattle.std.specs.Option.{option_map_or}
 use Rattle.netlist_schema.specs.Types.{Note, Property}
 use Rattle.netlist_schema.specs.declared.limits.TheConstants.{MOST_NOTES}
-use Rattle.edit_core.specs.Notes.{note_place}
-use Rattle.edit_core.specs.Rule.{refuse}
-use Rattle.edit_core.specs.declared.reply.Reply.{Reply}
-use Rattle.edit_core.specs.declared.reply.Reply.TheVariants.{NoNote, NoPath, TooMany}
+use Rattle.edit_rules_spec.specs.Notes.{note_place}
+use Rattle.edit_rules_spec.specs.Rule.{refuse}
+use Rattle.edit_rules_spec.specs.declared.reply.Reply.{Reply}
+use Rattle.edit_rules_spec.specs.declared.reply.Reply.TheVariants.{NoNote, NoPath, TooMany}
 
 -- the note of equal path and key is replaced in its place, else it is added
 abbrev pub note_set : List Note → List (List ℕ) → Property → List Note

@@ -3,9 +3,9 @@ use Rattle.std.specs.Prelude.{◌≡◌, ◌⊎◌, ℕ, List, [], ◌∷◌, Op
 use Rattle.std.specs.List.{flat_map}
 use Rattle.netlist_schema.specs.Design.{Design, insts_in}
 use Rattle.netlist_schema.specs.Types.{CellId, Contents, End, Inst, Object}
-use Rattle.edit_core.specs.Objects.{face_at, face_object}
-use Rattle.edit_core.specs.Seen.{ports_seen}
-use Rattle.edit_core.specs.declared.reply.EndName.{EndName}
+use Rattle.edit_rules_spec.specs.Objects.{face_at, face_object}
+use Rattle.edit_rules_spec.specs.Seen.{ports_seen}
+use Rattle.edit_rules_spec.specs.declared.reply.EndName.{EndName}
 use Rattle.eco_plans.specs.declared.show.EndAt.{EndAt}
 
 -- an end with the name of its instance, where it is at one, and the cell whose port it is at

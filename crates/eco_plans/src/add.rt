@@ -3,8 +3,8 @@ ghost use Rattle.std.specs.Prelude.{◌≡◌, ◌≤◌, ◌<◌, ◌+◌, drop
 ghost use Rattle.std.specs.List.{list_any};
 ghost use Rattle.netlist_schema.specs.Design.{port_width};
 ghost use Rattle.netlist_schema.specs.declared.limits.TheConstants.{MOST_PORTS, MOST_WIDTH};
-ghost use Rattle.edit_core.specs.Find.{is_same};
-ghost use Rattle.edit_core.specs.Rule.{first};
+ghost use Rattle.edit_rules_spec.specs.Find.{is_same};
+ghost use Rattle.edit_rules_spec.specs.Rule.{first};
 ghost use Rattle.edit_spec.specs.AddCell.{has_twice, new_cell, new_port};
 ghost use Rattle.edit_spec.specs.Typed.{IsTypedOp};
 ghost use Rattle.eco_reads.specs.Done.{IsDoneOrFails};
@@ -13,7 +13,9 @@ ghost use Rattle.eco_plans.specs.Add.{IsCellPlanned, no_new_cell};
 use eco_reads::find::is_same;
 use edit_spec::{PortDecl, Reply};
 use netlist_schema::limits::{MOST_BITS, MOST_CELLS, MOST_PORTS};
-use netlist_schema::{CellBody, CellKind, Contents, Copied, Ident, Name, NoMemory, Port, Row};
+use netlist_schema::{
+    CellBody, CellKind, Contents, Copied, Ident, Name, NoMemory, Port, Row, Shared,
+};
 use std::alloc::Global;
 
 /// Whether one of the others has the name of this port, where case is ignored.
@@ -135,7 +137,7 @@ pub fn new_cell(
         view_properties: Row::of(Vec::new(alloc)),
         interface_properties: Row::of(Vec::new(alloc)),
         ports: new_ports(alloc, ports)?,
-        contents,
+        contents: Shared::of_some(alloc, contents)?,
     })
 }
 

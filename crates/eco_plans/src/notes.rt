@@ -1,9 +1,9 @@
 //! Notes that are planned.
 ghost use Rattle.std.specs.Prelude.{◌≡◌, ◌<◌, ◌&&◌, IfOk, IfSome, length, nat_eq, position};
 ghost use Rattle.std.specs.Cmp.Lexicographic.{pointwise};
-ghost use Rattle.edit_core.specs.Find.{is_name};
-ghost use Rattle.edit_core.specs.Rule.{first};
-ghost use Rattle.edit_core.specs.Notes.{note_place};
+ghost use Rattle.edit_rules_spec.specs.Find.{is_name};
+ghost use Rattle.edit_rules_spec.specs.Rule.{first};
+ghost use Rattle.edit_rules_spec.specs.Notes.{note_place};
 ghost use Rattle.edit_spec.specs.Typed.{IsTypedOp};
 ghost use Rattle.eco_reads.specs.Done.{IsDoneOrFails};
 ghost use Rattle.eco_reads.specs.Plan.{AreNotesPlanned};

@@ -1,18 +1,18 @@
 //! Properties that are planned.
 ghost use Rattle.std.specs.Prelude.{◌≡◌, [], ◌∷◌, IfOk, IfSome};
 ghost use Rattle.std.specs.Option.{option_copied, option_map_or};
-ghost use Rattle.edit_core.specs.Rule.{first, no_inst};
+ghost use Rattle.edit_rules_spec.specs.Rule.{first, no_inst};
 ghost use Rattle.edit_spec.specs.Inside.{no_net};
 ghost use Rattle.edit_spec.specs.SetProp.{set_property};
 ghost use Rattle.edit_spec.specs.Typed.{IsTypedOp};
-ghost use Rattle.cells_model.specs.Parts.{HasLimits};
+ghost use Rattle.edit_cells.specs.Parts.{HasLimits};
 ghost use Rattle.eco_reads.specs.Done.{IsDoneOrFails};
 ghost use Rattle.eco_reads.specs.Plan.{IsPlanned};
 ghost use Rattle.eco_plans.specs.Props.{insts_set, nets_set};
 
-use cells_model::Face;
 use eco_reads::Plan;
 use eco_reads::find::{inst_place, net_place, property_place};
+use edit_cells::Face;
 use edit_spec::Reply;
 use netlist_schema::{Contents, Copied, Ident, Inst, Net, NoMemory, Property, Row};
 use std::alloc::Global;

@@ -1,27 +1,33 @@
 -- The walk over the cells below a cell.
-use Rattle.std.proofs.Common.{◌≡◌, ◌⊎◌, ◌↔◌, ◌<◌, ◌≤◌, ◌+◌, lit<, inl, inr, ⊎_elim, ℕ, zero, suc, arith, ◌||◌, Bool, true, false, not, List, [], ◌∷◌, ◌++◌, length, map, take, get_or, length-append, Option, refl, sym, ap, subst, ◌∙◌, append_assoc, append-nil}
+use Rattle.std.proofs.Common.{◌≡◌, ◌≢◌, ◌⊎◌, ◌↔◌, ◌<◌, ◌≤◌, ◌+◌, ◌-◌, lit<, inl, inr, ⊎_elim, ℕ, zero, suc, arith, ◌||◌, Bool, true, false, not, List, [], ◌∷◌, ◌++◌, length, map, take, get_or, length-append, slice_get, Option, refl, sym, ap, subst, ◌∙◌, append_assoc, append-nil}
 use Rattle.std.specs.List.{Contains, list_any}
 use Rattle.std.specs.declared.cmp.Ordering.{Ordering}
 use Rattle.std.specs.declared.cmp.Ordering.TheVariants.{Less, Equal, Greater}
+use Rattle.std.specs.Option.{option_map_or}
 use Rattle.std.specs.Ordering.{is_eq, match_ordering, nat_cmp}
+use Rattle.std.specs.Cmp.{IsTotalOrder, eq_by_cmp_equiv, nat_cmp_total}
+use Rattle.std.proofs.lemmas.Cmp.{on_total, then_total}
 use Rattle.std.specs.FinMap.{nat_cmp-IsAntisymmetric}
 use Rattle.std.specs.BTreeSet.{insert_key}
 use Rattle.std.specs.BTreeMap.{is_at}
 use Rattle.std.proofs.lemmas.List.{take_more, take-append-le}
-use Rattle.std.proofs.lemmas.List.Elements.{Contains-append_left, Contains-append_right, Contains-append_cases}
-use Rattle.netlist_schema.specs.Design.{Design, cell_at, insts_in}
+use Rattle.std.proofs.lemmas.List.Elements.{Contains-append_left, Contains-append_right, Contains-append_cases, Contains-get_or, recursion_from_All}
+use Rattle.netlist_schema.specs.Design.{Design, cell_at, insts_in, insts_of}
 use Rattle.netlist_schema.specs.Hierarchy.{IsBelow, placed, deeper, insts_at}
+use Rattle.netlist_schema.specs.Names.{AreDistinct}
 use Rattle.netlist_schema.specs.Order.{cell_cmp}
-use Rattle.netlist_schema.specs.Types.{CellId, Contents, Inst}
+use Rattle.netlist_schema.specs.Types.{CellBody, CellId, Contents, Inst, Lib}
 use Rattle.netlist_schema.proofs.Objects.{both_Equal}
 use Rattle.netlist_schema.proofs.Ranks.{below_trans}
-use Rattle.edit_core.specs.Seen.{contents_at}
+use Rattle.flat_spec.proofs.ListLemmas.{Contains-member, Member, Member-append_left, Member-append_right, Member-contains, Member-map, pigeons}
+use Rattle.edit_rules_spec.proofs.Lists.{apart_more, apart_of, distinct_of}
+use Rattle.edit_rules_spec.specs.Seen.{contents_at}
 use Rattle.netlist_schema.proofs.WithCell.{same_id}
 use Rattle.uniquify_spec.proofs.Agreed.{insts_inside as insts_of_found}
-use Rattle.cells_model.specs.Parts.{IsInside}
-use Rattle.cells_model.specs.State.{State, HasRead, HasReadSome}
+use Rattle.edit_cells.specs.Parts.{IsInside}
+use Rattle.edit_cells.specs.State.{State, HasRead, HasReadSome}
 use Rattle.eco_reads.specs.Walk.{GoesOn, IsAtOrBelow, IsInsideBelow, IsListed, IsPlaced}
-use Rattle.cells_model.proofs.Growing.{grows_by_same, prefix_twice}
+use Rattle.edit_cells.proofs.Growing.{grows_by_same, prefix_twice}
 use Rattle.eco_reads.proofs.Reading.{read_then}
 
 -- ---- lists of cells
@@ -106,24 +112,130 @@ found_key k (x ∷ xs) is = by_order (cell_cmp k x) refl is (λ later. Contains-
     by_order Equal same any rec = Contains-append_left (x ∷ []) xs k (in_one x k (cell_cmp_exact k x same))
     by_order Greater same any rec = rec any
 
--- a new cell is put on the list, and an old one stands there
-pub listed_more : (ks ls : List CellId) (a b : List CellId) (k : CellId) → IsListed ks a → ls ≡ insert_key cell_cmp ks k → b ≡ a ++ k ∷ [] → IsListed ls b
-listed_more ks ls a b k listed keys is id has =
-    subst (λ (xs : List CellId). Contains xs id) (sym is)
-    (⊎_elim
-    (λ (same : id ≡ k). Contains-append_right a (k ∷ []) id (in_one k id same))
-    (λ (old : Contains ks id). Contains-append_left a (k ∷ []) id (listed id old))
-    (key_of_insert ks k id (subst (λ (xs : List CellId). Contains xs id) keys has)))
+cell_cmp_total : IsTotalOrder cell_cmp
+cell_cmp_total = then_total (on_total (λ (id : CellId). id.lib.0) nat_cmp_total) (on_total (λ (id : CellId). id.slot) nat_cmp_total)
 
+key_found : (k : CellId) (ks : List CellId) → Member ks k → list_any (is_at (cell_cmp k)) ks ≡ true
+key_found k [] has = absurd has
+key_found k (x ∷ xs) has = elim has [
+  | inl same ↦ ap (λ b. b || list_any (is_at (cell_cmp k)) xs) (ap (λ (y : CellId). is_eq (cell_cmp k y)) same ∙ (eq_by_cmp_equiv cell_cmp_total).refl k)
+  | inr rest ↦ behind (is_eq (cell_cmp k x)) (list_any (is_at (cell_cmp k)) xs) (key_found k xs rest)
+]
+  where
+    behind : (a b : Bool) → b ≡ true → (a || b) ≡ true
+    behind true b is = refl
+    behind false b is = is
+
+insert_has : (ks : List CellId) (k : CellId) → Member (insert_key cell_cmp ks k) k
+insert_has [] k = inl refl
+insert_has (y ∷ ys) k = by_order (cell_cmp k y) refl (insert_has ys k)
+  where
+    by_order : (o : Ordering) → cell_cmp k y ≡ o → Member (insert_key cell_cmp ys k) k → Member (match_ordering o (k ∷ y ∷ ys) (y ∷ ys) (y ∷ insert_key cell_cmp ys k)) k
+    by_order Less same rec = inl refl
+    by_order Equal same rec = inl (sym (cell_cmp_exact k y same))
+    by_order Greater same rec = inr rec
+
+insert_keeps : (ks : List CellId) (k x : CellId) → Member ks x → Member (insert_key cell_cmp ks k) x
+insert_keeps [] k x has = absurd has
+insert_keeps (y ∷ ys) k x has = by_order (cell_cmp k y) has (λ later. insert_keeps ys k x later)
+  where
+    by_order : (o : Ordering) → Member (y ∷ ys) x → (Member ys x → Member (insert_key cell_cmp ys k) x) → Member (match_ordering o (k ∷ y ∷ ys) (y ∷ ys) (y ∷ insert_key cell_cmp ys k)) x
+    by_order Less there rec = inr there
+    by_order Equal there rec = there
+    by_order Greater there rec = elim there [ inl first ↦ inl first | inr rest ↦ inr (rec rest) ]
+
+-- nothing was seen yet
+pub listed_none : (ks a : List CellId) → ks ≡ [] → a ≡ [] → IsListed ks a
+listed_none ks a no_keys no_cells =
+    subst (λ (xs : List CellId). IsListed xs a) (sym no_keys) (subst (λ (xs : List CellId). IsListed [] xs) (sym no_cells)
+    (record { same = λ id. (λ has. has, λ has. has); once = λ i j d below within. absurd (omega arith) }))
+
+-- a cell that was seen stands on the list, and one that was not does not
 pub listed_held : (ks a : List CellId) (k : CellId) (added : Bool) → IsListed ks a → added ≡ not (list_any (is_at (cell_cmp k)) ks) → added ≡ false → Contains a k
-listed_held ks a k added listed is old = listed k (found_key k ks (negated (list_any (is_at (cell_cmp k)) ks) (sym is ∙ old)))
+listed_held ks a k added listed is old = (listed.same k).0 (found_key k ks (negated (list_any (is_at (cell_cmp k)) ks) (sym is ∙ old)))
   where
     negated : (b : Bool) → not b ≡ false → b ≡ true
     negated true e = refl
     negated false e = cc
 
-pub listed_same : (ks ls a : List CellId) → IsListed ks a → ls ≡ ks → IsListed ls a
-listed_same ks ls a listed same id has = listed id (subst (λ (xs : List CellId). Contains xs id) same has)
+listed_new : (ks a : List CellId) (k : CellId) (added : Bool) → IsListed ks a → added ≡ not (list_any (is_at (cell_cmp k)) ks) → added ≡ true → ¬ Contains a k
+listed_new ks a k added listed is new has =
+    let found = key_found k ks (Contains-member ks k ((listed.same k).1 has)) in
+    let never : true ≡ false = sym new ∙ is ∙ ap not found in
+    cc
+
+distinct_more : (a : List CellId) (k : CellId) → AreDistinct a → ¬ Contains a k → AreDistinct (a ++ k ∷ [])
+distinct_more a k once new =
+    distinct_of (a ++ k ∷ []) (apart_more a k (recursion_from_All (λ y. y ≢ k) a (λ i d within same. new (subst (λ (y : CellId). Contains a y) same (Contains-get_or a i d within)))) (apart_of a once))
+
+-- a new cell is put on the list, and for an old one the list stays
+pub listed_more : (ks ls a b : List CellId) (k : CellId) (added : Bool) → IsListed ks a → ls ≡ insert_key cell_cmp ks k → added ≡ not (list_any (is_at (cell_cmp k)) ks) → added ≡ true → b ≡ a ++ k ∷ [] → IsListed ls b
+listed_more ks ls a b k added listed keys is new pushed =
+    subst (λ (xs : List CellId). IsListed xs b) (sym keys) (subst (λ (xs : List CellId). IsListed (insert_key cell_cmp ks k) xs) (sym pushed)
+    (record { same = λ id. (there id, back id); once = distinct_more a k listed.once (listed_new ks a k added listed is new) }))
+  where
+    there : (id : CellId) → Contains (insert_key cell_cmp ks k) id → Contains (a ++ k ∷ []) id
+    there id has = ⊎_elim
+        (λ (same : id ≡ k). Contains-append_right a (k ∷ []) id (in_one k id same))
+        (λ (old : Contains ks id). Contains-append_left a (k ∷ []) id ((listed.same id).0 old))
+        (key_of_insert ks k id has)
+
+    back : (id : CellId) → Contains (a ++ k ∷ []) id → Contains (insert_key cell_cmp ks k) id
+    back id has = ⊎_elim
+        (λ (old : Contains a id). Member-contains (insert_key cell_cmp ks k) id (insert_keeps ks k id (Contains-member ks id ((listed.same id).1 old))))
+        (λ (one : Contains (k ∷ []) id). subst (λ (x : CellId). Contains (insert_key cell_cmp ks k) x) (sym (only_one k id one)) (Member-contains (insert_key cell_cmp ks k) k (insert_has ks k)))
+        (Contains-append_cases a (k ∷ []) id has)
+
+pub listed_again : (ks ls a : List CellId) (k : CellId) (added : Bool) → IsListed ks a → ls ≡ insert_key cell_cmp ks k → added ≡ not (list_any (is_at (cell_cmp k)) ks) → added ≡ false → IsListed ls a
+listed_again ks ls a k added listed keys is old =
+    subst (λ (xs : List CellId). IsListed xs a) (sym keys) (record { same = λ id. (there id, back id); once = listed.once })
+  where
+    there : (id : CellId) → Contains (insert_key cell_cmp ks k) id → Contains a id
+    there id has = ⊎_elim
+        (λ (same : id ≡ k). subst (λ (x : CellId). Contains a x) (sym same) (listed_held ks a k added listed is old))
+        (λ (held : Contains ks id). (listed.same id).0 held)
+        (key_of_insert ks k id has)
+
+    back : (id : CellId) → Contains a id → Contains (insert_key cell_cmp ks k) id
+    back id has = Member-contains (insert_key cell_cmp ks k) id (insert_keeps ks k id (Contains-member ks id ((listed.same id).1 has)))
+
+-- ---- a list of different cells below a cell is no longer than the list of all that instances are of
+
+abbrev placed_by : List CellBody → List CellId
+placed_by [] = []
+placed_by (body ∷ bodies) = map (λ inst. inst.of) (insts_of body) ++ placed_by bodies
+
+abbrev pub all_placed : List Lib → List CellId
+all_placed [] = []
+all_placed (lib ∷ libs) = placed_by lib.cells ++ all_placed libs
+
+by_cell : (cells : List CellBody) (k : ℕ) (id : CellId) → Member (map (λ (inst : Inst). inst.of) (option_map_or insts_of (slice_get cells k) [])) id → Member (placed_by cells) id
+by_cell [] k id has = has
+by_cell (body ∷ bodies) zero id has = Member-append_left (map (λ (inst : Inst). inst.of) (insts_of body)) (placed_by bodies) id has
+by_cell (body ∷ bodies) (suc k) id has = Member-append_right (map (λ (inst : Inst). inst.of) (insts_of body)) (placed_by bodies) id (by_cell bodies k id has)
+
+by_lib : (libs : List Lib) (i k : ℕ) (id : CellId) → Member (map (λ (inst : Inst). inst.of) (option_map_or insts_of (slice_get (option_map_or (λ (lib : Lib). lib.cells) (slice_get libs i) []) k) [])) id → Member (all_placed libs) id
+by_lib [] i k id has = has
+by_lib (lib ∷ libs) zero k id has = Member-append_left (placed_by lib.cells) (all_placed libs) id (by_cell lib.cells k id has)
+by_lib (lib ∷ libs) (suc i) k id has = Member-append_right (placed_by lib.cells) (all_placed libs) id (by_lib libs i k id has)
+
+is_placed : (d : Design) (inner id : CellId) → IsBelow d inner id → Member (all_placed d.libs) inner
+is_placed d inner id (placed inst is) = by_lib d.libs id.lib.0 id.slot inst.of (Member-map (λ (i : Inst). i.of) (insts_at d id) inst (Contains-member (insts_at d id) inst is))
+is_placed d inner id (deeper inst is rest) = is_placed d inner inst.of rest
+
+few_of : (order cells : List CellId) → AreDistinct order → ((id : CellId) → Contains order id → Member cells id) → length order ≤ length cells
+few_of order cells once all =
+    let first : CellId = record { lib = record { 0 = 0 }; slot = 0 } in
+    pigeons (λ k. get_or order k first) (length order) 0 cells
+    (λ j k low less high same. let within : k < length order = omega (arith, high) in once j k first less within (sym same))
+    (λ k low high. let within : k < length order = omega (arith, high) in all (get_or order k first) (Contains-get_or order k first within))
+
+-- a place that goes up is nearer to a bound
+pub is_less : (bound next count : ℕ) → next < count → count ≤ bound → bound - (next + 1) < bound - next
+is_less bound next count less few = omega arith
+
+pub few_below : (d : Design) (top : CellId) (order : List CellId) → AreDistinct order → ((id : CellId) → Contains order id → IsBelow d id top) → length order ≤ length (all_placed d.libs)
+few_below d top order once all = few_of order (all_placed d.libs) once (λ id has. is_placed d id top (all id has))
 
 -- ---- the walk
 
@@ -238,6 +350,11 @@ walk_ends s u from order next walk past = (
 
     all : (id : CellId) → Contains order id ↔ IsAtOrBelow s.design from id
     all id = (walk.below id, λ at. ⊎_elim (λ (same : id ≡ from). subst (λ (c : CellId). Contains order c) (sym same) walk.starts) (λ (below : IsBelow s.design id from). all_below s u from order closed from id walk.starts below) at)
+
+-- the list is no longer than that of the first cell and of all that instances are of
+pub few_walked : (s u : State) (from : CellId) (order : List CellId) (next : ℕ) → IsWalked s u from order next → AreDistinct order → length order ≤ suc (length (all_placed s.design.libs))
+few_walked s u from order next walk once = few_of order (from ∷ all_placed s.design.libs) once
+    (λ id has. elim (walk.below id has) [ inl same ↦ inl (sym same) | inr below ↦ inr (is_placed s.design id from below) ])
 
 -- what is inside, as it was lent
 pub goes_inside : (a b : List CellId) (lent inside : Option Contents) → lent ≡ inside → GoesOn a b (IsPlaced (insts_in lent)) → GoesOn a b (IsPlaced (insts_in inside))

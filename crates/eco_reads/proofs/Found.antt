@@ -4,16 +4,16 @@ use Rattle.std.specs.Option.{option_and_then, option_or}
 use Rattle.std.specs.Prelude.{is_none}
 use Rattle.netlist_schema.specs.Design.{Design}
 use Rattle.netlist_schema.specs.Types.{CellId, LibId}
-use Rattle.edit_core.specs.Edit.{Edit}
-use Rattle.edit_core.specs.Find.{cell_in, cell_named, lib_named}
-use Rattle.edit_core.specs.Reading.{IsFor, IsForName}
-use Rattle.edit_core.specs.Rule.{first, no_cell, no_lib, refuse, unless}
-use Rattle.edit_core.specs.Seen.{contents_at, inside, named}
-use Rattle.edit_core.specs.Objects.{face_at}
-use Rattle.edit_core.specs.declared.reply.CellName.{CellName}
-use Rattle.edit_core.specs.declared.reply.Reply.{Reply}
-use Rattle.edit_core.specs.declared.reply.Reply.TheVariants.{NoCell, NoLib}
-use Rattle.cells_model.specs.State.{State, HasRead}
+use Rattle.edit_rules_spec.specs.Edit.{Edit}
+use Rattle.edit_rules_spec.specs.Find.{cell_in, cell_named, lib_named}
+use Rattle.edit_rules_spec.specs.Reading.{IsFor, IsForName}
+use Rattle.edit_rules_spec.specs.Rule.{first, no_cell, no_lib, refuse, unless}
+use Rattle.edit_rules_spec.specs.Seen.{contents_at, inside, named}
+use Rattle.edit_rules_spec.specs.Objects.{face_at}
+use Rattle.edit_rules_spec.specs.declared.reply.CellName.{CellName}
+use Rattle.edit_rules_spec.specs.declared.reply.Reply.{Reply}
+use Rattle.edit_rules_spec.specs.declared.reply.Reply.TheVariants.{NoCell, NoLib}
+use Rattle.edit_cells.specs.State.{State, HasRead}
 
 pub inside_is : (d : Design) (name : CellName) (id : CellId) → cell_named d name ≡ Some id → inside d name ≡ contents_at d id
 inside_is d name id is = ap (option_and_then (contents_at d)) is

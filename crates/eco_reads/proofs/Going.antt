@@ -4,14 +4,14 @@ use Rattle.std.specs.Option.{option_map}
 use Rattle.std.proofs.lemmas.List.{take-append-drop, take_more}
 use Rattle.netlist_schema.specs.Design.{Design, insts_in}
 use Rattle.netlist_schema.specs.Types.{CellId, Contents, Inst}
-use Rattle.edit_core.specs.Find.{inst_named}
-use Rattle.edit_core.specs.Reading.{IsReached}
-use Rattle.edit_core.specs.Seen.{contents_at}
-use Rattle.cells_model.specs.Parts.{IsInside}
-use Rattle.edit_core.specs.Objects.{contents_object}
-use Rattle.cells_model.specs.State.{State, HasRead}
+use Rattle.edit_rules_spec.specs.Find.{inst_named}
+use Rattle.edit_rules_spec.specs.Reading.{IsReached}
+use Rattle.edit_rules_spec.specs.Seen.{contents_at}
+use Rattle.edit_cells.specs.Parts.{IsInside}
+use Rattle.edit_rules_spec.specs.Objects.{contents_object}
+use Rattle.edit_cells.specs.State.{State, HasRead}
 use Rattle.eco_reads.proofs.Paths.{end_more, end_of, end_reached, next, next_is, reached_more, reached_stop}
-use Rattle.cells_model.proofs.Growing.{grows_by_same}
+use Rattle.edit_cells.proofs.Growing.{grows_by_same}
 use Rattle.eco_reads.proofs.Reading.{read_then}
 
 -- a path was gone along, and what it reaches was read

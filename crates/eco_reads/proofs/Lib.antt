@@ -3,5 +3,7 @@ pub mod Found
 pub mod Going
 pub mod NoteReads
 pub mod Paths
-pub mod Places
+pub mod Within
 pub mod Reading
+pub mod NamedLemmas
+pub mod PlaceLemmas

@@ -4,9 +4,9 @@ use Rattle.std.specs.Option.{option_map}
 use Rattle.netlist_schema.specs.Design.{Design}
 use Rattle.netlist_schema.specs.Types.{CellId, Note, Object, TopHead}
 use Rattle.netlist_schema.specs.declared.ids.Object.TheVariants.{Notes}
-use Rattle.edit_core.specs.Reading.{IsForNotes, IsReached, IsReachedBy}
-use Rattle.cells_model.specs.State.{State, HasRead, HasReadSome}
-use Rattle.cells_model.proofs.Growing.{prefix_twice}
+use Rattle.edit_rules_spec.specs.Reading.{IsForNotes, IsReached, IsReachedBy}
+use Rattle.edit_cells.specs.State.{State, HasRead, HasReadSome}
+use Rattle.edit_cells.proofs.Growing.{prefix_twice}
 use Rattle.eco_reads.proofs.Reading.{read_then}
 
 pub reached_joined : (d : Design) (top : CellId) (notes more : List Note) (o : Object) → (IsReachedBy d top notes o ⊎ IsReachedBy d top more o) ↔ IsReachedBy d top (notes ++ more) o

@@ -5,11 +5,11 @@ use Rattle.std.specs.Option.{option_and_then, option_map, option_map_or}
 use Rattle.netlist_schema.specs.Design.{Design, cell_at, insts_in}
 use Rattle.netlist_schema.specs.Hierarchy.{insts_at}
 use Rattle.netlist_schema.specs.Types.{CellId, Inst, Object}
-use Rattle.edit_core.specs.Find.{inst_named, is_name}
-use Rattle.edit_core.specs.Reading.{IsReached}
-use Rattle.edit_core.specs.Paths.{goes_through, resolves, same_cell}
-use Rattle.edit_core.specs.Seen.{contents_at}
-use Rattle.edit_core.specs.Objects.{contents_object}
+use Rattle.edit_rules_spec.specs.Find.{inst_named, is_name}
+use Rattle.edit_rules_spec.specs.Reading.{IsReached}
+use Rattle.edit_rules_spec.specs.Paths.{goes_through, resolves, same_cell}
+use Rattle.edit_rules_spec.specs.Seen.{contents_at}
+use Rattle.edit_rules_spec.specs.Objects.{contents_object}
 use Rattle.uniquify_spec.proofs.Agreed.{insts_inside}
 
 -- the cell of the instance with a name in a cell

@@ -4,24 +4,24 @@ use Rattle.std.specs.Prelude.{IsSome, IsSomeAnd, MatchResult, Result, Ok, Err, o
 use Rattle.netlist_schema.specs.Design.{Design, insts_in, nets_in}
 use Rattle.netlist_schema.specs.Types.{CellId, Contents, Note, Object}
 use Rattle.netlist_schema.specs.Valid.{IsValid}
-use Rattle.edit_core.specs.Edit.{Edit, edited, inner, noted}
-use Rattle.edit_core.specs.Find.{cell_named, lib_named}
-use Rattle.edit_core.specs.Edit.{IsChanged}
-use Rattle.edit_core.specs.Reading.{IsFor, IsForCell, IsForName, IsInside as IsInsideOf}
+use Rattle.edit_rules_spec.specs.Edit.{Edit, edited, inner, noted}
+use Rattle.edit_rules_spec.specs.Find.{cell_named, lib_named}
+use Rattle.edit_rules_spec.specs.Edit.{IsChanged}
+use Rattle.edit_rules_spec.specs.Reading.{IsFor, IsForCell, IsForName, IsInside as IsInsideOf}
 use Rattle.edit_spec.specs.Needs.{Needs, Writes}
-use Rattle.edit_core.specs.Rule.{Outcome, unless}
-use Rattle.edit_core.specs.Seen.{contents_at}
+use Rattle.edit_rules_spec.specs.Rule.{Outcome, unless}
+use Rattle.edit_rules_spec.specs.Seen.{contents_at}
 use Rattle.edit_spec.specs.Rows.{outcome}
 use Rattle.edit_spec.specs.Typed.{IsTypedOp}
-use Rattle.edit_core.specs.declared.reply.CellName.{CellName}
+use Rattle.edit_rules_spec.specs.declared.reply.CellName.{CellName}
 use Rattle.edit_spec.specs.declared.ops.Op.{Op}
-use Rattle.edit_core.specs.declared.reply.Reply.{Reply}
-use Rattle.edit_core.specs.declared.reply.Reply.TheVariants.{Done}
+use Rattle.edit_rules_spec.specs.declared.reply.Reply.{Reply}
+use Rattle.edit_rules_spec.specs.declared.reply.Reply.TheVariants.{Done}
 use Rattle.edit_spec.proofs.Framed.{step_is_valid}
-use Rattle.cells_model.specs.Change.{CanBeMade, HasMade, edits_of}
-use Rattle.cells_model.specs.Parts.{IsFace, IsInside}
-use Rattle.cells_model.specs.State.{State, GrowsBy, HasRead, HasReadSome}
-use Rattle.cells_model.proofs.Growing.{cut_back, grows_by_none, grows_by_same, grows_then}
+use Rattle.edit_cells.specs.Change.{CanBeMade, HasMade, edits_of}
+use Rattle.edit_cells.specs.Parts.{IsFace, IsInside}
+use Rattle.edit_cells.specs.State.{State, GrowsBy, HasRead, HasReadSome}
+use Rattle.edit_cells.proofs.Growing.{cut_back, grows_by_none, grows_by_same, grows_then}
 use Rattle.eco_reads.specs.Done.{IsDone, IsDoneOrFails}
 use Rattle.eco_reads.specs.Plan.{CanBePut, HasPlace, IsGood, IsPlanned, IsPut, change_of, made_of, one_change}
 use Rattle.eco_reads.specs.declared.plan.Plan.{Plan}

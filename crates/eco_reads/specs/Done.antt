@@ -3,8 +3,8 @@ use Rattle.std.specs.Prelude.{◌≡◌, Result, MatchResult}
 use Rattle.edit_spec.specs.Needs.{Needs, Writes}
 use Rattle.edit_spec.specs.Step.{step}
 use Rattle.edit_spec.specs.declared.ops.Op.{Op}
-use Rattle.edit_core.specs.declared.reply.Reply.{Reply}
-use Rattle.cells_model.specs.State.{State, GrowsBy, HasReadSome}
+use Rattle.edit_rules_spec.specs.declared.reply.Reply.{Reply}
+use Rattle.edit_cells.specs.State.{State, GrowsBy, HasReadSome}
 
 -- the reply and the design are those of the step, the objects read and written go on by its needs and writes, and what
 -- editing began with stays

@@ -1,3 +1,5 @@
 pub mod Done
 pub mod Plan
 pub mod Walk
+pub mod Named
+pub mod Places

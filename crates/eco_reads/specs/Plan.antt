@@ -3,18 +3,18 @@ use Rattle.std.specs.Prelude.{◌≡◌, ◌≤◌, List, [], ◌∷◌, Option,
 use Rattle.netlist_schema.specs.Design.{Design, insts_in, nets_in}
 use Rattle.netlist_schema.specs.Types.{CellId, Contents, Note}
 use Rattle.netlist_schema.specs.Valid.{IsValid}
-use Rattle.edit_core.specs.Edit.{edited}
-use Rattle.edit_core.specs.Find.{cell_named}
-use Rattle.edit_core.specs.Rule.{first, no_lib, no_cell}
-use Rattle.edit_core.specs.Seen.{named}
-use Rattle.edit_core.specs.declared.reply.CellName.{CellName}
-use Rattle.edit_core.specs.declared.reply.Reply.{Reply}
-use Rattle.edit_core.specs.declared.reply.Reply.TheVariants.{Done}
-use Rattle.cells_model.specs.Change.{CanAllBeMade, HasMade, edits_of, inst_put, net_put}
-use Rattle.cells_model.specs.State.{State}
-use Rattle.cells_model.specs.declared.change.Change.{Change}
-use Rattle.cells_model.specs.declared.change.CellChange.{CellChange}
-use Rattle.cells_model.specs.declared.change.CellChange.TheVariants.{Inner, Net as NetChange, Inst as InstChange}
+use Rattle.edit_rules_spec.specs.Edit.{edited}
+use Rattle.edit_rules_spec.specs.Find.{cell_named}
+use Rattle.edit_rules_spec.specs.Rule.{first, no_lib, no_cell}
+use Rattle.edit_rules_spec.specs.Seen.{named}
+use Rattle.edit_rules_spec.specs.declared.reply.CellName.{CellName}
+use Rattle.edit_rules_spec.specs.declared.reply.Reply.{Reply}
+use Rattle.edit_rules_spec.specs.declared.reply.Reply.TheVariants.{Done}
+use Rattle.edit_cells.specs.Change.{CanAllBeMade, HasMade, edits_of, inst_put, net_put}
+use Rattle.edit_cells.specs.State.{State}
+use Rattle.edit_cells.specs.declared.change.Change.{Change}
+use Rattle.edit_cells.specs.declared.change.CellChange.{CellChange}
+use Rattle.edit_cells.specs.declared.change.CellChange.TheVariants.{Inner, Net as NetChange, Inst as InstChange}
 use Rattle.eco_reads.specs.declared.plan.Plan.{Plan}
 use Rattle.eco_reads.specs.declared.plan.Plan.TheVariants.{Whole, Net, Inst}
 

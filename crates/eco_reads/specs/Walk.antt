@@ -3,8 +3,9 @@ use Rattle.std.specs.Prelude.{◌≡◌, ◌⊎◌, ◌↔◌, ◌++◌, List, m
 use Rattle.std.specs.List.{Contains}
 use Rattle.netlist_schema.specs.Design.{Design}
 use Rattle.netlist_schema.specs.Hierarchy.{IsBelow}
+use Rattle.netlist_schema.specs.Names.{AreDistinct}
 use Rattle.netlist_schema.specs.Types.{CellId, Inst, Object}
-use Rattle.cells_model.specs.Parts.{IsInside}
+use Rattle.edit_cells.specs.Parts.{IsInside}
 
 -- a cell, or one below it
 abbrev pub IsAtOrBelow : Design → CellId → CellId → Type 0
@@ -18,9 +19,10 @@ IsInsideBelow d from o = (id : CellId) × IsAtOrBelow d from id × IsInside id o
 abbrev pub IsPlaced : List Inst → CellId → Type 0
 IsPlaced insts id = Contains (map (λ inst. inst.of) insts) id
 
--- all of these stand on the list
-abbrev pub IsListed : List CellId → List CellId → Type 0
-IsListed ids order = (id : CellId) → Contains ids id → Contains order id
+-- these and no others stand on the list, each once
+pub record IsListed (ids order : List CellId) : Type 0 where
+  pub same : (id : CellId) → Contains ids id ↔ Contains order id
+  pub once : AreDistinct order
 
 -- the list goes on, and has as a set what it had and these cells
 pub record GoesOn (old new : List CellId) (Cells : CellId → Type 0) : Type 0 where

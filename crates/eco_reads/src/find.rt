@@ -1,9 +1,9 @@
 //! Look-ups by name in lists.
 ghost use Rattle.std.specs.Prelude.{◌≡◌, ◌≤◌, length, position, IfSome, ◌<◌};
 ghost use Rattle.std.specs.List.{list_any};
-ghost use Rattle.edit_core.specs.Find.{inst_place, is_name, is_same, net_place, port_place, property_place};
+ghost use Rattle.edit_rules_spec.specs.Find.{inst_place, is_name, is_same, net_place, port_place, property_place};
 
-use netlist_schema::{Ident, Inst, Net, Port, Property, Row};
+use netlist_schema::{Ident, Inst, Net, Port, Property, Row, Shared};
 
 /// Whether two identifiers are the same when case is ignored.
 pub fn is_same(a: &Ident, b: &Ident) -> bool
@@ -12,13 +12,13 @@ pub fn is_same(a: &Ident, b: &Ident) -> bool
     a.same(b)
 }
 
-fn net_position(nets: &Row<Net>, name: &Ident) -> Option<usize>
+fn net_position(nets: &Row<Shared<Net>>, name: &Ident) -> Option<usize>
     ensures { result ≡ position (λ net. is_name net.name.id name.now) nets.now }
 {
     nets.as_slice().iter().position(|net| net.name.id == *name)
 }
 
-fn inst_position(insts: &Row<Inst>, name: &Ident) -> Option<usize>
+fn inst_position(insts: &Row<Shared<Inst>>, name: &Ident) -> Option<usize>
     ensures { result ≡ position (λ inst. is_name inst.name.id name.now) insts.now }
 {
     insts
@@ -37,7 +37,7 @@ fn port_position(ports: &Row<Port>, name: &Ident) -> Option<usize>
 }
 
 /// The place of the net with this name.
-pub fn net_place(nets: &Row<Net>, name: &Ident) -> Option<usize>
+pub fn net_place(nets: &Row<Shared<Net>>, name: &Ident) -> Option<usize>
     ensures value { result ≡ net_place name.now nets.now }
     ensures within { IfSome result (λ place. place < length nets.now) }
 {
@@ -45,7 +45,7 @@ pub fn net_place(nets: &Row<Net>, name: &Ident) -> Option<usize>
 }
 
 /// The place of the instance with this name.
-pub fn inst_place(insts: &Row<Inst>, name: &Ident) -> Option<usize>
+pub fn inst_place(insts: &Row<Shared<Inst>>, name: &Ident) -> Option<usize>
     ensures value { result ≡ inst_place name.now insts.now }
     ensures within { IfSome result (λ place. place < length insts.now) }
 {
@@ -61,7 +61,7 @@ pub fn port_place(ports: &Row<Port>, name: &Ident) -> Option<usize>
 }
 
 /// Whether a net has this name, where case is ignored.
-pub fn is_net_taken(nets: &Row<Net>, name: &Ident) -> bool
+pub fn is_net_taken(nets: &Row<Shared<Net>>, name: &Ident) -> bool
     ensures { result ≡ list_any (λ net. is_same net.name.id name.now) nets.now }
 {
     nets.as_slice()
@@ -70,7 +70,7 @@ pub fn is_net_taken(nets: &Row<Net>, name: &Ident) -> bool
 }
 
 /// Whether an instance has this name, where case is ignored.
-pub fn is_inst_taken(insts: &Row<Inst>, name: &Ident) -> bool
+pub fn is_inst_taken(insts: &Row<Shared<Inst>>, name: &Ident) -> bool
     ensures { result ≡ list_any (λ inst. is_same inst.name.id name.now) insts.now }
 {
     insts

@@ -2,9 +2,12 @@
 #![tactic(auto)]
 
 pub mod find;
+pub mod named;
+pub mod places;
 pub mod plan;
 pub mod read;
 pub mod walk;
 pub mod write;
 
+pub use named::NamedInsts;
 pub use plan::Plan;

@@ -2,7 +2,7 @@
 ghost use Rattle.std.specs.Prelude.{◌≡◌};
 ghost use Rattle.eco_reads.specs.Plan.{change_of};
 
-use cells_model::CellChange;
+use edit_cells::CellChange;
 use netlist_schema::{CellId, Contents, Inst, Net};
 
 /// What is planned for the contents of a cell.

@@ -1,11 +1,11 @@
 //! What an operation reads of the cells that it names.
 ghost use Rattle.std.specs.Prelude.{IfOk};
-ghost use Rattle.edit_core.specs.Reading.{IsForName};
+ghost use Rattle.edit_rules_spec.specs.Reading.{IsForName};
 ghost use Rattle.netlist_schema.specs.Valid.{IsValid};
-ghost use Rattle.cells_model.specs.State.{ReadsOrFails};
+ghost use Rattle.edit_cells.specs.State.{ReadsOrFails};
 ghost use Rattle.eco_reads.specs.Plan.{IsNamed};
 
-use cells_model::Cells;
+use edit_cells::Cells;
 use edit_spec::{CellName, Reply};
 use netlist_schema::{CellId, NoMemory};
 

@@ -3,17 +3,19 @@ ghost use Rattle.std.specs.Prelude.{◌≡◌, ◌↔◌, ◌⊎◌, ◌||◌, �
 ghost use Rattle.std.specs.List.{Contains};
 ghost use Rattle.std.specs.Option.{option_copied};
 ghost use Rattle.netlist_schema.specs.Design.{insts_in};
-ghost use Rattle.edit_core.specs.Find.{inst_named, is_name};
-ghost use Rattle.edit_core.specs.Reading.{IsReached};
-ghost use Rattle.edit_core.specs.Paths.{goes_through, resolves, same_cell};
-ghost use Rattle.edit_core.specs.Seen.{contents_at};
-ghost use Rattle.cells_model.specs.Parts.{IsInside};
-ghost use Rattle.cells_model.specs.State.{HasRead, HasReadSome};
+ghost use Rattle.edit_rules_spec.specs.Find.{inst_named, is_name};
+ghost use Rattle.edit_rules_spec.specs.Reading.{IsReached};
+ghost use Rattle.edit_rules_spec.specs.Paths.{goes_through, resolves, same_cell};
+ghost use Rattle.edit_rules_spec.specs.Seen.{contents_at};
+ghost use Rattle.edit_cells.specs.Parts.{IsInside};
+ghost use Rattle.edit_cells.specs.State.{HasRead, HasReadSome};
+ghost use Rattle.eco_reads.specs.Named.{AreNamed};
 ghost use Rattle.eco_reads.specs.Walk.{GoesOn, IsAtOrBelow, IsInsideBelow, IsListed, IsPlaced};
 
 use crate::find::inst_place;
-use cells_model::Cells;
-use netlist_schema::{CellId, Contents, Ident, Inst, NoMemory, Row};
+use crate::named::NamedInsts;
+use edit_cells::Cells;
+use netlist_schema::{CellId, Contents, Ident, Inst, NoMemory, Row, Shared};
 use std::alloc::Global;
 use std::collections::BTreeSet;
 
@@ -39,7 +41,7 @@ fn add_cell(
 
 /// Puts the cells of the instances on the list, where they were not seen yet.
 fn add_insts(
-    insts: &Row<Inst>,
+    insts: &Row<Shared<Inst>>,
     seen: &mut BTreeSet<CellId>,
     order: &mut Vec<CellId>,
 ) -> Result<(), NoMemory>
@@ -122,17 +124,14 @@ pub fn reaches<C: Cells>(
     let mut order = Vec::new(alloc);
     add_cell(&mut seen, &mut order, from)?;
     let mut next = 0usize;
-    for _ in 0..u64::MAX {
-        if next >= order.len() {
-            return Ok(has_cell(&order, target));
-        }
+    while next < order.len() {
         let id = order[next];
         let Ok(()) = look(cells, &mut seen, &mut order, id) else {
             return Err(NoMemory);
         };
         next += 1;
     }
-    Err(NoMemory)
+    Ok(has_cell(&order, target))
 }
 
 /// The cell of the instance with this name.
@@ -168,14 +167,20 @@ fn passes(found: bool, at: CellId, cell: CellId, step: &Ident, inst: &Ident) -> 
     found || (at.lib.0 == cell.lib.0 && at.slot == cell.slot && *step == *inst)
 }
 
-/// Reads what is inside the cells that a path reaches, and answers whether it goes through an instance of a cell.
+/// Reads what is inside the cells that a path reaches, and answers whether it goes through an instance of a cell. A step takes no
+/// time in proportion to the instances of a cell whose names are known.
+#[tactic(auto, using(crate::proofs::NamedLemmas::still_named, crate::proofs::NamedLemmas::named_still))]
 pub fn goes_through<C: Cells>(
+    alloc: Global,
     cells: &mut C,
+    named: &mut NamedInsts,
     cell: CellId,
     inst: &Ident,
     top: CellId,
     path: &Row<Ident>,
 ) -> Result<bool, NoMemory>
+    requires { AreNamed (C.state cells.old).design named.old }
+    ensures named { AreNamed (C.state cells.old).design named.new }
     ensures found { IfOk result (λ found. found ≡ goes_through (C.state cells.old).design cell inst.now top path.now) }
     ensures reads { MatchResult result (λ _. HasRead (C.state cells.old) (C.state cells.new) (IsReached (C.state cells.old).design top path.now)) (λ _. HasReadSome (C.state cells.old) (C.state cells.new)) }
 {
@@ -184,7 +189,7 @@ pub fn goes_through<C: Cells>(
     let _top = cells.contents(top)?;
     for step in path.as_slice() {
         found = passes(found, at, cell, step, inst);
-        let Some(of) = cell_of_inst(cells.contents(at)?, step) else {
+        let Some(of) = named.next_cell(alloc, cells, at, step)? else {
             return Ok(found);
         };
         let _next = cells.contents(of)?;

@@ -1,10 +1,10 @@
 //! What an operation writes.
 ghost use Rattle.std.specs.Prelude.{◌≡◌, IfOk, OnErr, OnOk, MatchResult, None, [], ◌∷◌};
-ghost use Rattle.cells_model.specs.Change.{HasMade, edits_of};
+ghost use Rattle.edit_cells.specs.Change.{HasMade, edits_of};
 ghost use Rattle.eco_reads.specs.Plan.{AreNotesPut, CanBePut, CanNotesBePut, IsGood, IsPut, one_change, only_notes};
 
 use crate::plan::Plan;
-use cells_model::{CellChange, Cells, Change};
+use edit_cells::{CellChange, Cells, Change};
 use edit_spec::Reply;
 use netlist_schema::{CellId, NoMemory, Note, Row};
 use std::alloc::Global;

@@ -5,7 +5,7 @@ use Rattle.std.specs.List.{All, AllByRecursion}
 use Rattle.netlist_schema.specs.Design.{insts_of, nets_of, insts_in, nets_in}
 use Rattle.netlist_schema.specs.Names.{HasDistinctKeys}
 use Rattle.netlist_schema.specs.Typed.{IsTypedName, IsTypedProperty}
-use Rattle.spelling_spec.specs.Tree.{Bare, Placed, Word', bare}
+use Rattle.edif_spelling_spec.specs.Tree.{Bare, Placed, Word', bare}
 use Rattle.edif_spec.specs.Keyword.{same, row, Takes, Choice, Follower, name_definition, identifier, the}
 use Rattle.edif_spec.specs.Rows.{has_keyword, those, IsFormOf, Each, Perhaps, Just}
 use Rattle.edif_spec.specs.Canonical.{kind_word}
@@ -219,7 +219,7 @@ sound_body libs own u v n k ps r tn tp d =
 -- a cell, from its parts
 pub cell_means : (libs : List design.Lib) (own : Option ℕ) (t u a b : Placed) (n : NameAt) (k : design.CellKind) (ps : List design.Property) (v : View) (c : CellAt)
     → IsFormOf keywords.Cell (bare t) (bare a ∷ bare b ∷ []) (map bare (followers keywords.Cell t)) → MeansName (bare a) n.name × IsTypedName n.name × (name_of a ≡ Some (n.name.id, n.place)) → MeansKind (bare b) k → those_of keywords.View (followers keywords.Cell t) ≡ u ∷ [] → ReadView libs own u v
-    → MeansProperties (map bare (followers keywords.Cell t)) ps × All IsTypedProperty ps × HasDistinctKeys ps → defined t ≡ name_of a → c.cell ≡ body_of v n.name k ps → c.place ≡ n.place → ReadCell libs own t c
+    → MeansProperties (map bare (followers keywords.Cell t)) ps × All IsTypedProperty ps × HasDistinctKeys ps → defined t ≡ Some (n.name.id, n.place) → c.cell ≡ body_of v n.name k ps → c.place ≡ n.place → ReadCell libs own t c
 cell_means libs own t u a b n k ps v c form nm km e r pm d ce pe =
     let body : design.CellBody = body_of v n.name k ps in
     let P : List Bare → Type 0 = λ w. Just (λ x b. MeansView libs own x b) w body in
@@ -239,7 +239,7 @@ cell_means libs own t u a b n k ps v c form nm km e r pm d ce pe =
     record {
       mean = subst Q (sym ce) m;
       sound = subst R (sym ce) (sound_body libs own u v n.name k ps r nm.1 pm.1 pm.2);
-      place = d ∙ nm.2 ∙ (λ i. Some (name_is i, sym pe i));
+      place = d ∙ (λ i. Some (name_is i, sym pe i));
     }
   where
     name_is : n.name.id ≡ c.cell.name.id

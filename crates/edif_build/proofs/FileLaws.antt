@@ -1,6 +1,6 @@
 -- What an answer for a file says where the tree means a design, and where a fault stands in it.
 use Rattle.std.proofs.Common.{◌≡◌, refl, ap, ◌⊎◌, inl, inr, Result, Ok, Err}
-use Rattle.spelling_spec.specs.Tree.{Placed, bare}
+use Rattle.edif_spelling_spec.specs.Tree.{Placed, bare}
 use Rattle.edif_spec.specs.Design as design
 use Rattle.edif_spec.specs.Means.{MeansFile}
 use Rattle.edif_spec.specs.Stands.{Stands}

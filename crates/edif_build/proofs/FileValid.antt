@@ -7,7 +7,7 @@ use Rattle.netlist_schema.specs.Names.{AreDistinct}
 use Rattle.netlist_schema.specs.Typed.{IsTypedName, IsTypedCell}
 use Rattle.netlist_schema.specs.Valid.{IsValid}
 use Rattle.netlist_schema.proofs.Lists.{all_weaker}
-use Rattle.spelling_spec.specs.Tree.{Bare, Placed, bare}
+use Rattle.edif_spelling_spec.specs.Tree.{Bare, Placed, bare}
 use Rattle.edif_spec.specs.Rows.{has_keyword, those, EachAfter, Perhaps}
 use Rattle.edif_spec.specs.Means.{MeansLibrary, is_library, MeansDesign, before_design, libs_before_design, MeansFile}
 use Rattle.edif_spec.specs.Faults.{followers}

@@ -2,7 +2,7 @@
 use Rattle.std.proofs.Common.{◌≡◌, List, [], ◌∷◌, ◌++◌, map, refl, ap, ◌∙◌, subst, Bool, true, false, append-nil}
 use Rattle.std.specs.Prelude.{cond, filter}
 use Rattle.std.proofs.lemmas.List.Elements.{filter-append}
-use Rattle.spelling_spec.specs.Tree.{Bare, Placed, bare}
+use Rattle.edif_spelling_spec.specs.Tree.{Bare, Placed, bare}
 use Rattle.edif_spec.specs.Rows.{EachAfter}
 
 -- those that pass a test

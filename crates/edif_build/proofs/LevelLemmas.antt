@@ -1,7 +1,7 @@
 -- Levels, the version and the keyword map, from their parts.
 use Rattle.std.proofs.Common.{◌≡◌, ℤ, pos, List, [], ◌∷◌, map, length, refl, ap, sym, ◌∙◌, subst, ◌⊎◌, inl, inr, true, Some}
 use Rattle.std.specs.Prelude.{slice_get}
-use Rattle.spelling_spec.specs.Tree.{Bare, Placed, integer, bare}
+use Rattle.edif_spelling_spec.specs.Tree.{Bare, Placed, integer, bare}
 use Rattle.edif_spec.specs.Keyword.{row, Takes}
 use Rattle.edif_spec.specs.Keyword as keyword
 use Rattle.edif_spec.specs.Rows.{is_one_of, IsFormOf}

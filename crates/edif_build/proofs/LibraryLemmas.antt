@@ -5,7 +5,7 @@ use Rattle.std.specs.List.{AllByRecursion, Contains}
 use Rattle.std.proofs.lemmas.List.{length-map, map-append}
 use Rattle.netlist_schema.specs.Names.{AreDistinct, cell_names, lib_names}
 use Rattle.netlist_schema.proofs.Lists.{all_push}
-use Rattle.spelling_spec.specs.Tree.{Bare, Placed, bare}
+use Rattle.edif_spelling_spec.specs.Tree.{Bare, Placed, bare}
 use Rattle.edif_spec.specs.Keyword.{row, Takes, name_definition, the, Many}
 use Rattle.edif_spec.specs.Canonical.{library_keyword}
 use Rattle.edif_spec.specs.Design as design

@@ -5,7 +5,7 @@ use Rattle.std.specs.List.{AllByRecursion}
 use Rattle.std.proofs.lemmas.List.Elements.{All-from_recursion}
 use Rattle.netlist_schema.specs.Ident.{IsIdentifier}
 use Rattle.netlist_schema.proofs.Lists.{some_of, drop_next}
-use Rattle.spelling_spec.specs.Tree.{Placed, Form', Word', trees, bare}
+use Rattle.edif_spelling_spec.specs.Tree.{Placed, Form', Word', trees, bare}
 use Rattle.edif_spec.specs.Design as design
 use Rattle.edif_spec.specs.Faults.{arguments, place_of, FixedFault, FollowerFault}
 use Rattle.edif_spec.specs.Means.{Meant as Meaning, Found, Absent, Several, MeansPath, meant}

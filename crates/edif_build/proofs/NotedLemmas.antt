@@ -7,7 +7,7 @@ use Rattle.std.proofs.lemmas.List.Elements.{recursion_from_All}
 use Rattle.netlist_schema.specs.Ident.{IsIdentifier}
 use Rattle.netlist_schema.specs.Names.{AreDistinct, note_key}
 use Rattle.netlist_schema.specs.Typed.{IsTypedProperty}
-use Rattle.spelling_spec.specs.Tree.{Bare, Placed, Form', Word', Integer', String', form, word, bare}
+use Rattle.edif_spelling_spec.specs.Tree.{Bare, Placed, Form', Word', Integer', String', form, word, bare}
 use Rattle.edif_spec.specs.Design as design
 use Rattle.edif_spec.specs.Faults.{AtOne, AtTwo, arguments, defined, place_of}
 use Rattle.edif_spec.specs.Means.{MeansNote, MeansPath, MeansProperty, has_mark, is_note}

@@ -1,7 +1,7 @@
 -- What is wrong with the notes of a design.
 use Rattle.std.proofs.Common.{◌≡◌, List, inl, inr, None, Some}
 use Rattle.std.specs.Prelude.{slice_get, filter}
-use Rattle.spelling_spec.specs.Tree.{Placed, bare}
+use Rattle.edif_spelling_spec.specs.Tree.{Placed, bare}
 use Rattle.edif_spec.specs.Design as design
 use Rattle.edif_spec.specs.Faults.{arguments, followers}
 use Rattle.edif_spec.specs.Means.{MeansCellRef, is_note}

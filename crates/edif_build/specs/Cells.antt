@@ -1,6 +1,6 @@
 -- What is read of a view and of a cell.
 use Rattle.std.specs.Prelude.{◌≡◌, ◌⊎◌, ℕ, List, [], ◌∷◌, Option, None, Some, map, option_map}
-use Rattle.spelling_spec.specs.Tree.{Placed, bare}
+use Rattle.edif_spelling_spec.specs.Tree.{Placed, bare}
 use Rattle.netlist_schema.specs.Design.{ends_of}
 use Rattle.netlist_schema.specs.Limits.{IsCellWithinLimits}
 use Rattle.netlist_schema.specs.Names.{AreDistinct, HasDistinctNamesInCell}

@@ -1,6 +1,6 @@
 -- What is read of a file.
 use Rattle.std.specs.Prelude.{◌≡◌, ◌⊎◌, ℕ, pos, List, [], ◌∷◌, Option, None, Some, length, map, option_map, slice_get, take, true}
-use Rattle.spelling_spec.specs.Tree.{Placed, bare, integer}
+use Rattle.edif_spelling_spec.specs.Tree.{Placed, bare, integer}
 use Rattle.netlist_schema.specs.Typed.{IsTypedName}
 use Rattle.edif_spec.specs.Design as design
 use Rattle.edif_spec.specs.Faults.{AtTwo, arguments, fixed_count, followers, place_of, those_of}

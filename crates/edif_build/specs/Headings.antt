@@ -1,7 +1,7 @@
 -- What is read of a name and of properties.
 use Rattle.std.specs.Prelude.{◌≡◌, ◌⊎◌, List, Some, map}
 use Rattle.std.specs.List.{All}
-use Rattle.spelling_spec.specs.Tree.{Placed, bare}
+use Rattle.edif_spelling_spec.specs.Tree.{Placed, bare}
 use Rattle.netlist_schema.specs.Names.{HasDistinctKeys}
 use Rattle.netlist_schema.specs.Typed.{IsTypedName, IsTypedProperty}
 use Rattle.edif_spec.specs.Faults.{name_of, those_of}

@@ -1,6 +1,6 @@
 -- Numbers that a file is to have, and its keyword map.
 use Rattle.std.specs.Prelude.{◌≡◌, ◌⊎◌, ℤ, List, [], ◌∷◌}
-use Rattle.spelling_spec.specs.Tree.{Bare, Placed, integer, bare}
+use Rattle.edif_spelling_spec.specs.Tree.{Bare, Placed, integer, bare}
 use Rattle.edif_spec.specs.Faults.{place_of}
 use Rattle.edif_spec.specs.Means.{IsLevel}
 use Rattle.edif_spec.specs.Rows.{IsFormOf}

@@ -1,7 +1,7 @@
 -- What is read of libraries and of their cells, as they are gone over.
 use Rattle.std.specs.Prelude.{◌≡◌, ◌≤◌, ◌⊎◌, ℕ, List, [], ◌∷◌, ◌++◌, Some, length, map, slice_get}
 use Rattle.std.specs.List.{AllByRecursion}
-use Rattle.spelling_spec.specs.Tree.{Placed, bare}
+use Rattle.edif_spelling_spec.specs.Tree.{Placed, bare}
 use Rattle.netlist_schema.specs.Names.{AreDistinct, cell_names, lib_names}
 use Rattle.netlist_schema.specs.Typed.{IsTypedName}
 use Rattle.netlist_schema.specs.declared.limits.TheConstants.{MOST_CELLS, MOST_LIBS}

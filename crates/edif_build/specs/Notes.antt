@@ -1,7 +1,7 @@
 -- What is read of notes and of a design's form.
 use Rattle.std.specs.Prelude.{◌≡◌, ◌<◌, ◌≤◌, ◌⊎◌, ℕ, List, [], ◌∷◌, ◌++◌, Bool, Some, true, false, codes, drop, length, map, slice_get}
 use Rattle.std.specs.List.{All, AllByRecursion, Contains}
-use Rattle.spelling_spec.specs.Tree.{Bare, Placed, Word', bare}
+use Rattle.edif_spelling_spec.specs.Tree.{Bare, Placed, Word', bare}
 use Rattle.netlist_schema.specs.Ident.{IsIdentifier}
 use Rattle.netlist_schema.specs.Names.{AreDistinct, HasDistinctKeys, note_key}
 use Rattle.netlist_schema.specs.declared.limits.TheConstants.{MOST_NOTES}

@@ -1,6 +1,6 @@
 //! Views and cells.
 ghost use Rattle.std.specs.Prelude.{◌≡◌, ◌≤◌, IfNone, IfSome, IsTrue, Some, false, length, true};
-ghost use Rattle.spelling_spec.specs.Tree.{bare};
+ghost use Rattle.edif_spelling_spec.specs.Tree.{bare};
 ghost use Rattle.edif_spec.specs.Canonical.{kind_word};
 ghost use Rattle.edif_spec.specs.Design as design;
 ghost use Rattle.edif_spec.specs.Faults.{Among, those_of};
@@ -26,7 +26,7 @@ use edif_parts::names::{NameAt, Names};
 use edif_parts::parts::{is_word, read_parts};
 use edif_spec::{ClashKind, Keyword, Kind};
 use edif_tree::{Node, Nodes};
-use netlist_schema::{CellBody, CellKind, Contents, Ident, Port};
+use netlist_schema::{CellBody, CellKind, Contents, Ident, Port, Shared};
 use std::alloc::Global;
 
 /// The interface of a view, and its contents.
@@ -180,7 +180,7 @@ fn one_view(inner: Nodes<'_>, place: u64) -> Result<Node<'_>, EdifError>
 #[derive(Drop)]
 struct Pieces {
     /// The contents, where there are some.
-    contents: Option<Contents>,
+    contents: Option<Shared<Contents>>,
     /// The names of the instances.
     insts: Names,
 }

@@ -1,6 +1,6 @@
 //! The form of a file.
 ghost use Rattle.std.specs.Prelude.{◌≡◌, ◌⊎◌, [], Ok, Err};
-ghost use Rattle.spelling_spec.specs.Tree.{Placed, bare};
+ghost use Rattle.edif_spelling_spec.specs.Tree.{Placed, bare};
 ghost use Rattle.netlist_schema.specs.Valid.{IsValid};
 ghost use Rattle.edif_spec.specs.Design as design;
 ghost use Rattle.edif_spec.specs.Means.{MeansFile};

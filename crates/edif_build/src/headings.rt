@@ -1,6 +1,6 @@
 //! The name of a form, with the properties among what follows.
 ghost use Rattle.std.specs.Prelude.{IsTrue};
-ghost use Rattle.spelling_spec.specs.Tree.{bare};
+ghost use Rattle.edif_spelling_spec.specs.Tree.{bare};
 ghost use Rattle.edif_spec.specs.Keyword.{name_definition};
 ghost use Rattle.edif_spec.specs.Rows.{is_one_of};
 ghost use Rattle.edif_tree.specs.Handles.{here, all};

@@ -1,6 +1,6 @@
 //! The version, the levels and the keyword map.
 ghost use Rattle.std.specs.Prelude.{◌≡◌, [], ◌∷◌, pos, true};
-ghost use Rattle.spelling_spec.specs.Tree.{bare, integer};
+ghost use Rattle.edif_spelling_spec.specs.Tree.{bare, integer};
 ghost use Rattle.edif_spec.specs.Means.{IsLevel};
 ghost use Rattle.edif_spec.specs.Rows.{IsFormOf, has_keyword};
 ghost use Rattle.edif_spec.specs.Stands.{LevelFault, MapFault, VersionFault};

@@ -1,6 +1,6 @@
 //! Notes: properties of occurrences, in a design's form.
 ghost use Rattle.std.specs.Prelude.{◌≡◌, ◌<◌, ◌≤◌, ◌++◌, [], ◌∷◌, IfErr, IfNone, IfOk, IfSome, List, None, OnOk, filter, length, true};
-ghost use Rattle.spelling_spec.specs.Tree.{Placed, bare};
+ghost use Rattle.edif_spelling_spec.specs.Tree.{Placed, bare};
 ghost use Rattle.edif_spec.specs.Design as design;
 ghost use Rattle.edif_spec.specs.Faults.{arguments};
 ghost use Rattle.edif_spec.specs.Means.{is_note};
@@ -20,7 +20,7 @@ use edif_spec::{ClashKind, Keyword, Kind};
 use edif_tree::{Node, Nodes, Shape};
 use indexmap::IndexMap;
 use netlist_schema::limits::MOST_NOTES;
-use netlist_schema::{CellId, Copied, Ident, Inst, NoMemory, Note, Row};
+use netlist_schema::{CellId, Copied, Ident, Inst, NoMemory, Note, Row, Shared};
 use std::alloc::Global;
 use std::marker::Model;
 
@@ -135,7 +135,7 @@ fn note_parts(node: Node<'_>) -> Result<NoteParts<'_>, EdifError>
 }
 
 /// The instances of a cell, none where there is no such cell. Takes no memory.
-fn insts_at(libs: &Libraries, id: CellId) -> &[Inst]
+fn insts_at(libs: &Libraries, id: CellId) -> &[Shared<Inst>]
     ensures { result.now ≡ design.insts_at libs.now.libs id }
 {
     let Some(cell) = libs.body(id) else {
@@ -159,7 +159,7 @@ fn read_step<'a>(node: Node<'_>, libs: &'a Libraries, id: CellId) -> Result<&'a 
         return Err(fault_at(Kind::BadPath, place));
     };
     match insts_at(libs, id).get(index as usize) {
-        Some(inst) => Ok(inst),
+        Some(inst) => Ok(inst.get()),
         None => Err(fault_at(Kind::BadPath, place)),
     }
 }

@@ -1,6 +1,6 @@
 //! The design's form: the top cell and the notes.
 ghost use Rattle.std.specs.Prelude.{◌≡◌, true};
-ghost use Rattle.spelling_spec.specs.Tree.{bare};
+ghost use Rattle.edif_spelling_spec.specs.Tree.{bare};
 ghost use Rattle.edif_spec.specs.Rows.{has_keyword};
 ghost use Rattle.edif_spec.specs.Stands.{DesignFault};
 ghost use Rattle.edif_spec.specs.declared.keyword.Keyword.TheVariants.{Design as DesignWord};

@@ -1,6 +1,6 @@
 -- Contents, from the instances and the nets that are read.
 use Rattle.std.proofs.Common.{◌≡◌, ℕ, List, [], ◌∷◌, map, refl, sym, subst, inl, inr, Option}
-use Rattle.spelling_spec.specs.Tree.{Bare, Placed, bare}
+use Rattle.edif_spelling_spec.specs.Tree.{Bare, Placed, bare}
 use Rattle.edif_spec.specs.Design as design
 use Rattle.edif_spec.specs.Keyword.{Follower, Many}
 use Rattle.edif_spec.specs.Rows.{Each, those}

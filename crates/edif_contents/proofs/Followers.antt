@@ -3,7 +3,7 @@ use Rattle.std.proofs.Common.{◌≡◌, ◌≤◌, List, [], ◌∷◌, ◌++�
 use Rattle.std.specs.Prelude.{cond, ◌||◌}
 use Rattle.std.specs.List.{AllByRecursion}
 use Rattle.netlist_schema.proofs.Lists.{all_behind}
-use Rattle.spelling_spec.specs.Tree.{Placed, bare}
+use Rattle.edif_spelling_spec.specs.Tree.{Placed, bare}
 use Rattle.edif_spec.specs.Rows.{has_keyword}
 use Rattle.edif_spec.specs.Faults.{those_of}
 use Rattle.edif_spec.specs.declared.keyword.Keyword.{Keyword}

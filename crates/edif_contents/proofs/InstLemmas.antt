@@ -1,7 +1,7 @@
 -- An instance, from its parts.
-use Rattle.std.proofs.Common.{◌≡◌, ◌≤◌, ℕ, List, [], ◌∷◌, length, map, refl, inl, inr, ◌∙◌, Option, Some}
+use Rattle.std.proofs.Common.{◌≡◌, ◌≤◌, ℕ, List, [], ◌∷◌, length, map, refl, inl, inr, Option, Some}
 use Rattle.std.specs.Prelude.{slice_get}
-use Rattle.spelling_spec.specs.Tree.{Placed, bare}
+use Rattle.edif_spelling_spec.specs.Tree.{Placed, bare}
 use Rattle.netlist_schema.specs.Typed.{IsTypedName}
 use Rattle.edif_spec.specs.Design as design
 use Rattle.edif_spec.specs.Keyword.{Follower, Many, One, name_definition, the}
@@ -41,5 +41,5 @@ inst_read libs own t u v name place id s f a n w r = record {
   mean = record { name_part = bare u; view_part = bare v; inner = map bare (followers keywords.Instance t); form = f; name = n.0; of = w; designator = r.designator.0; properties = r.properties.0 };
   typed = record { name = n.1; designator = r.designator.1; properties = r.properties.1 };
   keys = r.properties.2;
-  named = defined_first t u a ∙ n.2;
+  named = defined_first t u (name.id, place) a n.2;
 }

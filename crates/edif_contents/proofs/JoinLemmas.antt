@@ -7,9 +7,9 @@ use Rattle.std.proofs.lemmas.List.{length-map, length-replicate, map-append}
 use Rattle.std.proofs.lemmas.List.Elements.{All-weaker}
 use Rattle.std.proofs.Math.Nat.{add-mul, mul_comm, suc-mul}
 use Rattle.netlist_schema.proofs.Lists.{get_behind, zip_length}
-use Rattle.spelling_spec.specs.Tree.{Placed, bare}
+use Rattle.edif_spelling_spec.specs.Tree.{Placed, bare}
 use Rattle.netlist_schema.specs.Names.{AreDistinct}
-use Rattle.bus_spec.specs.Members.{numbered}
+use Rattle.netlist_bus_spec.specs.Members.{numbered}
 use Rattle.edif_spec.specs.Design as design
 use Rattle.edif_spec.specs.Faults.{AtOne, AtTwo, Beyond, place_of, repeated}
 use Rattle.edif_spec.specs.Means.{MeansEnd}

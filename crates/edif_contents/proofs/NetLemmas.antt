@@ -2,7 +2,7 @@
 use Rattle.std.proofs.Common.{◌≡◌, ◌≢◌, ℕ, zero, suc, ◌<◌, List, [], ◌∷◌, ◌++◌, map, length, get_or, refl, ap, sym, ◌∙◌, subst, inl, inr, Option, None, Some, true, arith}
 use Rattle.std.specs.Prelude.{◌^◌, slice_get}
 use Rattle.std.specs.List.{All, AllByRecursion, AllZip}
-use Rattle.spelling_spec.specs.Tree.{Bare, Placed, bare}
+use Rattle.edif_spelling_spec.specs.Tree.{Bare, Placed, bare}
 use Rattle.netlist_schema.specs.Names.{HasDistinctKeys}
 use Rattle.netlist_schema.specs.Typed.{IsTypedProperty}
 use Rattle.edif_spec.specs.Design as design
@@ -19,7 +19,7 @@ use Rattle.edif_spec.specs.declared.fault.MeaningFault.TheVariants.{At}
 use Rattle.edif_spec.proofs.FaultPlaces.{one_later}
 use Rattle.edif_spec.proofs.KnownForms.{form_choice}
 use Rattle.edif_spec.proofs.NetFaultsApart.{joined_ends}
-use Rattle.edif_spec.proofs.FaultsApart.{defined_first}
+use Rattle.edif_spec.proofs.FaultsApart.{defined_bus, keyword_of, net_may}
 use Rattle.edif_tree.specs.Handles.{all}
 use Rattle.edif_grammar.specs.Forms.{ArePartsOf, FitsOwn}
 use Rattle.edif_grammar.specs.declared.lent.Form.{Form}
@@ -135,6 +135,6 @@ net_read s t u v a j ps n form at refs e l d m b w x q =
       mean = subst P (sym e) mean;
       fine = subst F (sym e) fine;
       within = subst X (sym e) x;
-      named = defined_first t u at ∙ (m.at ∙ (ap (λ v. Some (v, a.place)) id ∙ ap (λ v. Some (n.form.name.id, v)) (sym l)));
+      named = defined_bus t u _ (net_may t (keyword_of keywords.Net (bare t) (bare u ∷ bare v ∷ []) (map bare (followers keywords.Net t)) form)) at m.at ∙ (ap (λ v. Some (v, a.place)) id ∙ ap (λ v. Some (n.form.name.id, v)) (sym l));
       nodes = d ∙ (b.nodes ∙ sym refs);
     }

@@ -2,8 +2,8 @@
 use Rattle.std.proofs.Common.{◌≡◌, ℕ, zero, suc, ◌+◌, ◌<◌, ◌≤◌, List, [], ◌∷◌, ◌++◌, map, replicate, length, get_or, refl, sym, ap, ◌∙◌, subst, inl, inr, Option, Some, None, false, true≢false, add-one, arith, append-nil, append_assoc}
 use Rattle.std.specs.Prelude.{◌^◌, is_some, pos, slice_get}
 use Rattle.std.specs.List.{AllByRecursion, AllZip, Contains, flat_map}
-use Rattle.spelling_spec.specs.Tree.{Placed, bare, integer}
-use Rattle.bus_spec.specs.Members.{numbered}
+use Rattle.edif_spelling_spec.specs.Tree.{Placed, bare, integer}
+use Rattle.netlist_bus_spec.specs.Members.{numbered}
 use Rattle.edif_spec.specs.Design as design
 use Rattle.edif_spec.specs.Faults.{AtOne, AtTwo, Beyond, SameOfTwo, declared_width, defined, place_of}
 use Rattle.edif_spec.specs.Means.{MeansBusName, MeansEnd, MeansNet}

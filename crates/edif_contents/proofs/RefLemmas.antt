@@ -3,7 +3,7 @@ use Rattle.std.proofs.Common.{◌≡◌, ℕ, ◌+◌, ◌≤◌, List, [], ◌�
 use Rattle.std.specs.Prelude.{◌&&◌, slice_get, Result, cond, nat_eq}
 use Rattle.std.specs.Char.{to_ascii_lowercase}
 use Rattle.std.specs.List.{AllByRecursion}
-use Rattle.spelling_spec.specs.Tree.{Bare, Placed, Word', word, bare}
+use Rattle.edif_spelling_spec.specs.Tree.{Bare, Placed, Word', word, bare}
 use Rattle.edif_spec.specs.Keyword.{row, Takes, Choice, identifier, One, the, same}
 use Rattle.edif_spec.specs.Rows.{has_keyword, IsFormOf}
 use Rattle.edif_spec.specs.Faults.{place_of, arguments, followers, parts, Among}

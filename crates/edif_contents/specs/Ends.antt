@@ -1,6 +1,6 @@
 -- What the ends of nets are judged by.
 use Rattle.std.specs.Prelude.{◌≡◌, ℕ, List, Option, Some, slice_get}
-use Rattle.spelling_spec.specs.Tree.{Bare, Placed, bare}
+use Rattle.edif_spelling_spec.specs.Tree.{Bare, Placed, bare}
 use Rattle.edif_spec.specs.Canonical.{ports_of_end}
 use Rattle.edif_spec.specs.Design as design
 use Rattle.edif_spec.specs.Means.{MeansEnd}

@@ -1,7 +1,7 @@
 -- What is read of contents.
 use Rattle.std.specs.Prelude.{◌≡◌, ◌≤◌, ℕ, List, Option, map, length}
 use Rattle.std.specs.List.{All, flat_map}
-use Rattle.spelling_spec.specs.Tree.{Placed, bare}
+use Rattle.edif_spelling_spec.specs.Tree.{Placed, bare}
 use Rattle.netlist_schema.specs.Names.{AreDistinct, HasDistinctKeys}
 use Rattle.netlist_schema.specs.Typed.{IsTypedContents}
 use Rattle.netlist_schema.specs.declared.limits.TheConstants.{MOST_ENDS, MOST_INSTS, MOST_NETS}

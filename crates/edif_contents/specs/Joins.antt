@@ -1,10 +1,10 @@
 -- The bits that nets have joined so far, in order, each with the place of its end.
 use Rattle.std.specs.Prelude.{◌≡◌, ◌≤◌, ◌⊎◌, ℕ, List, [], ◌∷◌, ◌++◌, map, length}
 use Rattle.std.specs.List.{AllZip, Contains, flat_map}
-use Rattle.spelling_spec.specs.Tree.{Placed}
+use Rattle.edif_spelling_spec.specs.Tree.{Placed}
 use Rattle.netlist_schema.specs.Names.{AreDistinct}
 use Rattle.netlist_schema.specs.declared.limits.TheConstants.{MOST_ENDS}
-use Rattle.bus_spec.specs.Members.{numbered}
+use Rattle.netlist_bus_spec.specs.Members.{numbered}
 use Rattle.edif_spec.specs.Design as design
 use Rattle.edif_spec.specs.Faults.{AtTwo, Beyond, place_of}
 use Rattle.edif_spec.specs.Nets.{Stretch, end_of}

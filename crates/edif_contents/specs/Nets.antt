@@ -1,14 +1,14 @@
 -- What is read of nets.
 use Rattle.std.specs.Prelude.{◌≡◌, ◌^◌, ◌<◌, ◌≤◌, ◌⊎◌, ◌+◌, ◌++◌, ℕ, List, [], ◌∷◌, Option, None, Some, map, length}
 use Rattle.std.specs.List.{All, AllByRecursion, AllZip, flat_map}
-use Rattle.spelling_spec.specs.Tree.{Bare, Placed, bare}
+use Rattle.edif_spelling_spec.specs.Tree.{Bare, Placed, bare}
 use Rattle.netlist_schema.specs.Names.{AreDistinct, HasDistinctKeys}
 use Rattle.netlist_schema.specs.Typed.{IsTypedNet}
 use Rattle.netlist_schema.specs.declared.limits.TheConstants.{MOST_ENDS, MOST_NETS}
 use Rattle.edif_spec.specs.Design as design
 use Rattle.edif_spec.specs.Faults.{Among, AtTwo, Beyond, SameOfTwo, declared_width, defined, parts, repeated, those_of}
 use Rattle.edif_spec.specs.Nets.{FineForm, NetForm, name_at, nets_of, row_size}
-use Rattle.bus_spec.specs.Members.{numbered}
+use Rattle.netlist_bus_spec.specs.Members.{numbered}
 use Rattle.edif_spec.specs.Means.{MeansNet}
 use Rattle.edif_spec.specs.Rows.{Each, IsFormOf, those}
 use Rattle.edif_spec.specs.Stands.{JoinedFault, NetFault, SameEnd, counted_ends, ends_in, net_names_in, row_ends}

@@ -1,6 +1,6 @@
 //! The contents of a cell: instances and nets.
 ghost use Rattle.std.specs.Prelude.{◌≡◌, true};
-ghost use Rattle.spelling_spec.specs.Tree.{bare};
+ghost use Rattle.edif_spelling_spec.specs.Tree.{bare};
 ghost use Rattle.edif_spec.specs.Design as design;
 ghost use Rattle.edif_spec.specs.Rows.{has_keyword};
 ghost use Rattle.edif_spec.specs.Stands.{ContentsFault};
@@ -19,14 +19,14 @@ use edif_parts::names::Names;
 use edif_parts::parts::read_parts;
 use edif_spec::Keyword;
 use edif_tree::Node;
-use netlist_schema::{Contents, Port, Row};
+use netlist_schema::{Contents, Port, Row, Shared};
 use std::alloc::Global;
 
 /// What contents say.
 #[derive(Drop)]
 pub struct Inside {
     /// The instances and the nets.
-    pub contents: Contents,
+    pub contents: Shared<Contents>,
     /// The names of the instances.
     pub insts: Names,
 }
@@ -55,11 +55,12 @@ pub fn read_contents(
     };
     let nets = read_nets(alloc, parts.inner, &around)?;
     let Insts { list, names } = insts;
+    let contents = Contents {
+        insts: Row::of(list),
+        nets,
+    };
     Ok(Inside {
-        contents: Contents {
-            insts: Row::of(list),
-            nets,
-        },
+        contents: Shared::of(alloc, contents)?,
         insts: names,
     })
 }

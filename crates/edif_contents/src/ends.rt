@@ -1,7 +1,7 @@
 //! Ends of nets.
 ghost use Rattle.std.specs.Prelude.{◌≡◌, ◌∷◌, [], ◌≤◌, ◌<◌, ℕ, List, Option, IfNone, IfSome, length, map, pos, true};
 ghost use Rattle.std.specs.List.{AllByRecursion};
-ghost use Rattle.spelling_spec.specs.Tree.{Placed, Word', bare};
+ghost use Rattle.edif_spelling_spec.specs.Tree.{Placed, Word', bare};
 ghost use Rattle.edif_spec.specs.Design as design;
 ghost use Rattle.edif_spec.specs.Faults.{Among};
 ghost use Rattle.edif_spec.specs.Keyword.{AForm, AnIdentifier};
@@ -23,7 +23,7 @@ use edif_parts::names::Names;
 use edif_parts::parts::{integer_at, read_parts};
 use edif_spec::{Keyword, Kind, Stretch};
 use edif_tree::{Node, Nodes, Shape};
-use netlist_schema::{Ident, Inst, Port};
+use netlist_schema::{Ident, Inst, Port, Shared};
 use std::alloc::Global;
 
 /// What the ends of nets are judged by: the libraries, the ports of the cell and its instances, with their names.
@@ -36,7 +36,7 @@ pub struct Surroundings<'a> {
     /// Their names.
     pub port_names: &'a Names,
     /// The instances of the cell.
-    pub insts: &'a [Inst],
+    pub insts: &'a [Shared<Inst>],
     /// Their names.
     pub inst_names: &'a Names,
 }

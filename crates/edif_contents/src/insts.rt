@@ -1,6 +1,6 @@
 //! Instances.
 ghost use Rattle.std.specs.Prelude.{◌≡◌, ◌≤◌, [], length, true};
-ghost use Rattle.spelling_spec.specs.Tree.{bare};
+ghost use Rattle.edif_spelling_spec.specs.Tree.{bare};
 ghost use Rattle.edif_spec.specs.Faults.{those_of};
 ghost use Rattle.edif_spec.specs.Rows.{has_keyword};
 ghost use Rattle.edif_spec.specs.Stands.{InstFault};
@@ -16,13 +16,13 @@ use crate::references::read_view_ref;
 use edif_grammar::is_form_of;
 use edif_parts::error::EdifError;
 use edif_parts::names::{Names, read_name};
-use edif_parts::parts::read_parts;
+use edif_parts::parts::{read_parts, room_for};
 use edif_parts::properties::read_properties;
 use edif_parts::texts::read_text_among;
 use edif_spec::Keyword;
 use edif_tree::{Node, Nodes};
 use netlist_schema::limits::MOST_INSTS;
-use netlist_schema::{Inst, Property, Row, Text};
+use netlist_schema::{Inst, Property, Row, Shared, Text};
 use std::alloc::Global;
 
 /// An instance, and where its name stands.
@@ -83,17 +83,22 @@ pub fn read_inst(
 #[derive(Drop)]
 pub struct Insts {
     /// The instances.
-    pub list: Vec<Inst>,
+    pub list: Vec<Shared<Inst>>,
     /// Their names.
     pub names: Names,
 }
 
 /// Adds an instance, whose name is not there yet; else the error says that it is.
-fn add_inst(read: InstAt, names: &mut Names, list: &mut Vec<Inst>) -> Result<(), EdifError>
+fn add_inst(
+    alloc: Global,
+    read: InstAt,
+    names: &mut Names,
+    list: &mut Vec<Shared<Inst>>,
+) -> Result<(), EdifError>
     ensures { Answers (λ _. InstAdded read names.old list.old.items names.new list.new.items) (IsAgain names.old read.inst.name.id read.place) result }
 {
     names.add(&read.inst.name.id, read.place)?;
-    list.push(read.inst)?;
+    list.push(Shared::of(alloc, read.inst)?)?;
     Ok(())
 }
 
@@ -104,14 +109,14 @@ fn take_inst(
     libs: &Libraries,
     own: Option<u32>,
     names: &mut Names,
-    list: &mut Vec<Inst>,
+    list: &mut Vec<Shared<Inst>>,
 ) -> Result<(), EdifError>
     requires { has_keyword Instance (bare (here node)) ≡ true }
     ensures { Answers (λ _. InstTaken libs.now.libs own (here node.entry) names.old list.old.items names.new list.new.items) (InstTakenFault libs.now.libs own (here node.entry) names.old list.old.items) result }
 {
     room(list.len(), MOST_INSTS, node.place())?;
     let read = read_inst(alloc, node, libs, own)?;
-    add_inst(read, names, list)
+    add_inst(alloc, read, names, list)
 }
 
 /// The instances among these followers of a form, as `read_insts` reads them, with their names, where none is yet.
@@ -121,11 +126,11 @@ fn take_insts(
     libs: &Libraries,
     own: Option<u32>,
     names: &mut Names,
-) -> Result<Vec<Inst>, EdifError>
+) -> Result<Vec<Shared<Inst>>, EdifError>
     requires { names.old ≡ [] }
     ensures { Answers (λ list. ReadInsts libs.now.libs own (all inner.entry) (record { list = list; names = names.new })) (InstsFault libs.now.libs own (those_of Instance (all inner.entry))) result }
 {
-    let mut list = Vec::new(alloc);
+    let mut list = room_for(alloc, inner, Keyword::Instance)?;
     for node in inner.iter() {
         if is_form_of(node, Keyword::Instance) {
             take_inst(alloc, node, libs, own, names, &mut list)?;

@@ -1,7 +1,7 @@
 //! The bits that the nets of contents join, each at most once.
 ghost use Rattle.std.specs.Prelude.{◌≡◌, ◌++◌, ◌+◌, ◌*◌, ◌^◌, ◌<◌, ◌≤◌, [], ℕ, List, IfErr, OnOk, length, map};
 ghost use Rattle.std.specs.List.{All, AllZip};
-ghost use Rattle.spelling_spec.specs.Tree.{Placed, bare};
+ghost use Rattle.edif_spelling_spec.specs.Tree.{Placed, bare};
 ghost use Rattle.netlist_schema.specs.declared.limits.TheConstants.{MOST_ENDS};
 ghost use Rattle.edif_spec.specs.Design as design;
 ghost use Rattle.edif_spec.specs.Faults.{AtTwo, Beyond, repeated};

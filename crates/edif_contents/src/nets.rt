@@ -1,7 +1,7 @@
 //! Nets.
 ghost use Rattle.std.specs.Prelude.{◌≡◌, ◌+◌, ◌++◌, ◌∷◌, [], ◌^◌, ◌<◌, ◌≤◌, ℕ, IfOk, List, None, length, map, true};
 ghost use Rattle.std.specs.List.{All, AllByRecursion, AllZip};
-ghost use Rattle.spelling_spec.specs.Tree.{Placed, bare};
+ghost use Rattle.edif_spelling_spec.specs.Tree.{Placed, bare};
 ghost use Rattle.edif_spec.specs.Design as design;
 ghost use Rattle.edif_spec.specs.Faults.{Among, those_of};
 ghost use Rattle.edif_spec.specs.Rows.{has_keyword};
@@ -23,14 +23,14 @@ use crate::joins::{Joins, end_of, join_row};
 use bus_members::member_name;
 use edif_grammar::is_form_of;
 use edif_parts::error::{EdifError, fault_at, over_limit};
-use edif_parts::names::Names;
-use edif_parts::parts::read_parts;
+use edif_parts::own_names::OwnNames;
+use edif_parts::parts::{read_parts, room_for};
 use edif_parts::ports::{BusName, read_bus_name};
 use edif_parts::properties::read_properties;
 use edif_spec::{Keyword, Kind, NetForm, Stretch};
 use edif_tree::{Node, Nodes};
 use netlist_schema::limits::MOST_NETS;
-use netlist_schema::{Copied, End, Name, Net, NoMemory, Row, Width};
+use netlist_schema::{Copied, End, Name, Net, NoMemory, Row, Shared, Width};
 use std::alloc::Global;
 
 /// What a net joins, and the nodes of its ends.
@@ -70,7 +70,7 @@ fn read_ends(
     requires names { AreNamed around.now }
     ensures { Answers (AllZip (ReadEnd around.now) (all nodes.entry)) (Among (EndFaultIn around.now) (all nodes.entry)) result }
 {
-    let mut ends = Vec::new(alloc);
+    let mut ends = Vec::with_capacity(alloc, nodes.len())?;
     for node in nodes.iter() {
         let end = read_end(alloc, node, around)?;
         ends.push(end)?;
@@ -142,7 +142,7 @@ fn stretch_of(end: EndAt) -> Stretch
 fn stretches_of(alloc: Global, ends: &[EndAt]) -> Result<Row<Stretch>, NoMemory>
     ensures { IfOk result (λ stretches. (stretches ≡ map (λ e. e.stretch) ends.now) × All (λ s. s.first < 2 ^ 32) stretches) }
 {
-    let mut stretches = Vec::new(alloc);
+    let mut stretches = Vec::with_capacity(alloc, ends.len())?;
     for end in ends {
         stretches.push(stretch_of(*end))?;
     }
@@ -247,11 +247,17 @@ fn only_net(alloc: Global, form: NetForm) -> Result<Net, NoMemory>
 }
 
 /// Adds a net, whose name stands at this place and is not there yet; else the error says that it is.
-fn add_net(net: Net, place: u64, names: &mut Names, nets: &mut Vec<Net>) -> Result<(), EdifError>
+fn add_net(
+    alloc: Global,
+    net: Net,
+    place: u64,
+    names: &mut OwnNames,
+    nets: &mut Vec<Shared<Net>>,
+) -> Result<(), EdifError>
     ensures { Answers (λ _. NetAdded net place names.old nets.old.items names.new nets.new.items) (IsAgain names.old net.name.id place) result }
 {
     names.add(&net.name.id, place)?;
-    nets.push(net)?;
+    nets.push(Shared::of(alloc, net)?)?;
     Ok(())
 }
 
@@ -260,8 +266,8 @@ fn add_members(
     alloc: Global,
     form: &NetForm,
     place: u64,
-    names: &mut Names,
-    nets: &mut Vec<Net>,
+    names: &mut OwnNames,
+    nets: &mut Vec<Shared<Net>>,
 ) -> Result<(), EdifError>
     requires within { All (λ s. s.first + row_size form.now.array ≤ 2 ^ 32) form.now.joined }
     requires distinct { AreDistinct (ids names.old) }
@@ -269,7 +275,7 @@ fn add_members(
 {
     for k in 0..row_size(&form.array) {
         let net = net_at(alloc, form, k)?;
-        add_net(net, place, names, nets)?;
+        add_net(alloc, net, place, names, nets)?;
     }
     Ok(())
 }
@@ -280,8 +286,8 @@ fn add_row(
     alloc: Global,
     form: NetForm,
     place: u64,
-    names: &mut Names,
-    nets: &mut Vec<Net>,
+    names: &mut OwnNames,
+    nets: &mut Vec<Shared<Net>>,
 ) -> Result<(), EdifError>
     requires within { All (λ s. s.first + row_size form.array ≤ 2 ^ 32) form.joined }
     requires distinct { AreDistinct (ids names.old) }
@@ -291,7 +297,7 @@ fn add_row(
         return add_members(alloc, &form, place, names, nets);
     }
     let net = only_net(alloc, form)?;
-    add_net(net, place, names, nets)
+    add_net(alloc, net, place, names, nets)
 }
 
 /// Whether there is room for so many nets behind those that are there; else the form of these is the first beyond the limit.
@@ -332,9 +338,9 @@ fn take_net(
     alloc: Global,
     node: Node<'_>,
     around: &Surroundings,
-    names: &mut Names,
+    names: &mut OwnNames,
     joins: &mut Joins,
-    nets: &mut Vec<Net>,
+    nets: &mut Vec<Shared<Net>>,
 ) -> Result<(), EdifError>
     requires keyword { has_keyword NetWord (bare (here node)) ≡ true }
     requires names { AreNamed around.now }
@@ -355,15 +361,15 @@ fn take_nets(
     alloc: Global,
     inner: Nodes<'_>,
     around: &Surroundings,
-    names: &mut Names,
+    names: &mut OwnNames,
     joins: &mut Joins,
-) -> Result<Row<Net>, EdifError>
+) -> Result<Row<Shared<Net>>, EdifError>
     requires named { AreNamed around.now }
     requires names { names.old ≡ [] }
     requires joins { joins.old ≡ [] }
     ensures { Answers (ReadNets around.now (all inner.entry)) (NetsFaultIn around.now (those_of NetWord (all inner.entry))) result }
 {
-    let mut nets = Vec::new(alloc);
+    let mut nets = room_for(alloc, inner, Keyword::Net)?;
     for node in inner.iter() {
         if is_form_of(node, Keyword::Net) {
             take_net(alloc, node, around, names, joins, &mut nets)?;
@@ -378,11 +384,11 @@ pub fn read_nets(
     alloc: Global,
     inner: Nodes<'_>,
     around: &Surroundings,
-) -> Result<Row<Net>, EdifError>
+) -> Result<Row<Shared<Net>>, EdifError>
     requires { AreNamed around.now }
     ensures { Answers (ReadNets around.now (all inner.entry)) (NetsFaultIn around.now (those_of NetWord (all inner.entry))) result }
 {
-    let mut names = Names::new(alloc);
+    let mut names = OwnNames::new(alloc);
     let mut joins = Joins::new(alloc);
     take_nets(alloc, inner, around, &mut names, &mut joins)
 }

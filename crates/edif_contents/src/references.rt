@@ -1,7 +1,7 @@
 //! References, and references to cells.
 ghost use Rattle.std.specs.Prelude.{◌≡◌, ◌∷◌, [], ◌⊎◌, ◌≤◌, ℕ, List, None, Some, IsTrue, length, map, slice_get, true};
 ghost use Rattle.std.specs.List.{AllByRecursion};
-ghost use Rattle.spelling_spec.specs.Tree.{Word', bare, word};
+ghost use Rattle.edif_spelling_spec.specs.Tree.{Word', bare, word};
 ghost use Rattle.edif_spec.specs.Design as design;
 ghost use Rattle.edif_spec.specs.Faults.{Among, RowFault, arguments};
 ghost use Rattle.edif_spec.specs.Keyword.{AnIdentifier};

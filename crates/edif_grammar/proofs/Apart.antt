@@ -1,6 +1,6 @@
 -- A form fits or fails, and not both.
 use Rattle.std.proofs.Common.{◌≡◌, sym, ◌∙◌, subst, inl, inr, true, false, Option}
-use Rattle.spelling_spec.specs.Tree.{Placed, bare}
+use Rattle.edif_spelling_spec.specs.Tree.{Placed, bare}
 use Rattle.edif_spec.specs.Faults.{RowFault}
 use Rattle.edif_spec.specs.declared.keyword.Keyword.{Keyword}
 use Rattle.edif_grammar.specs.Forms.{Fails, Fits, HasOwnKind, fault_of, row_above}

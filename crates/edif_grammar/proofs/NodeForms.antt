@@ -1,6 +1,6 @@
 -- What a form begins with, from what is lent of it.
 use Rattle.std.proofs.Common.{◌≡◌, ℕ, Bor, List, [], ◌∷◌, refl, sym, ap, ◌∙◌, Some, None}
-use Rattle.spelling_spec.specs.Tree.{Placed, Form', Word', Integer', String', More, bare, trees}
+use Rattle.edif_spelling_spec.specs.Tree.{Placed, Form', Word', Integer', String', More, bare, trees}
 use Rattle.edif_spec.specs.Faults.{arguments}
 use Rattle.edif_spec.proofs.FaultExamples.{items_of}
 use Rattle.edif_tree.specs.Nodes.{place_of}

@@ -2,7 +2,7 @@
 use Rattle.std.proofs.Common.{◌≡◌, ℕ, List, [], ◌∷◌, refl, sym, ap, ◌∙◌, Bool, true, false, Option, Some, None}
 use Rattle.std.specs.Prelude.{◌||◌}
 use Rattle.std.specs.List.{list_any}
-use Rattle.spelling_spec.specs.Tree.{Bare, Form', Word', Integer', String', End, More}
+use Rattle.edif_spelling_spec.specs.Tree.{Bare, Form', Word', Integer', String', End, More}
 use Rattle.edif_spec.specs.Keyword.{keyword, all_keywords, same, spelling_of, Row, Takes, Skips, Choice, AnIdentifier, AnInteger, AString, AForm, Follower, Many, One}
 use Rattle.edif_spec.specs.Rows.{has_keyword, is_choice, is_one_of, is_follower}
 use Rattle.edif_spec.specs.Faults.{row_has, token_kind}

@@ -1,6 +1,6 @@
 -- What the checks of a row find.
 use Rattle.std.specs.Prelude.{◌≡◌, ◌≤◌, ◌⊎◌, ℕ, List, length, true, false, Some, slice_get}
-use Rattle.spelling_spec.specs.Tree.{Placed, bare}
+use Rattle.edif_spelling_spec.specs.Tree.{Placed, bare}
 use Rattle.edif_spec.specs.Keyword.{Row, Choice, Follower, Many, One}
 use Rattle.edif_spec.specs.Rows.{is_one_of}
 use Rattle.edif_spec.specs.Faults.{those_of, misplaced}

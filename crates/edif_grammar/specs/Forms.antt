@@ -1,6 +1,6 @@
 -- Which form stands at a node, and how it fits its row and its place.
 use Rattle.std.specs.Prelude.{◌≡◌, ◌⊎◌, ◌&&◌, Bool, true, false, Option, Some, None, take}
-use Rattle.spelling_spec.specs.Tree.{Bare, Placed, Form', bare}
+use Rattle.edif_spelling_spec.specs.Tree.{Bare, Placed, Form', bare}
 use Rattle.edif_spec.specs.Keyword.{row, Row}
 use Rattle.edif_spec.specs.Rows.{has_keyword}
 use Rattle.edif_spec.specs.Faults.{arguments, followers, fixed_count, row_has, misplaced, place_of, RowFault}

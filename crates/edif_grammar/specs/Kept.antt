@@ -1,6 +1,6 @@
 -- What the failing of a form says.
 use Rattle.std.specs.Prelude.{Option}
-use Rattle.spelling_spec.specs.Tree.{Placed}
+use Rattle.edif_spelling_spec.specs.Tree.{Placed}
 use Rattle.edif_spec.specs.declared.keyword.Keyword.{Keyword}
 use Rattle.edif_spec.specs.declared.fault.Kind.TheVariants as kinds
 use Rattle.edif_spec.specs.declared.fault.MeaningFault.TheVariants as faults

@@ -1,7 +1,7 @@
 -- Rows and arguments as the code has them, and what the table says of them.
 use Rattle.std.specs.Prelude.{ℕ, List, [], ◌∷◌, map, Bool, true, false, ◌||◌, Option, Some, None}
 use Rattle.std.specs.List.{list_any}
-use Rattle.spelling_spec.specs.Tree.{Bare, Form', Word', Integer', String', More}
+use Rattle.edif_spelling_spec.specs.Tree.{Bare, Form', Word', Integer', String', More}
 use Rattle.edif_spec.specs.Keyword.{keyword, same, spelling_of, Choice, AnIdentifier, AnInteger, AString, AForm, Follower, Row, Takes, Skips, name_definition, bus_name, identifier, integer, string, the}
 use Rattle.edif_spec.specs.Keyword as table
 use Rattle.edif_spec.specs.declared.keyword.Keyword.{Keyword}

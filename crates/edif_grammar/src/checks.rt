@@ -1,7 +1,7 @@
 //! The arguments of a form against its row.
 ghost use Rattle.std.specs.Prelude.{◌≡◌, ◌≤◌, ℕ, IfErr, IfOk, Some, length, map, slice_get, true, false};
 ghost use Rattle.std.specs.List.{AllByRecursion};
-ghost use Rattle.spelling_spec.specs.Tree.{bare};
+ghost use Rattle.edif_spelling_spec.specs.Tree.{bare};
 ghost use Rattle.edif_spec.specs.Faults.{AtTwo, FixedFault, FollowerFault, SecondFault, misplaced, place_of, those_of, token_kind};
 ghost use Rattle.edif_spec.specs.Rows.{is_follower, is_one_of};
 ghost use Rattle.edif_spec.specs.declared.fault.Kind.TheVariants as Kind;

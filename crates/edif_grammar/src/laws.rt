@@ -1,6 +1,6 @@
 //! What the definitions of fitting and failing say of every form.
 ghost use Rattle.std.specs.Prelude.{Option};
-ghost use Rattle.spelling_spec.specs.Tree.{Placed};
+ghost use Rattle.edif_spelling_spec.specs.Tree.{Placed};
 ghost use Rattle.edif_spec.specs.declared.keyword.Keyword.{Keyword};
 ghost use Rattle.edif_grammar.specs.declared.lent.Breach.{Breach};
 ghost use Rattle.edif_grammar.specs.Forms.{Fails, Fits, fault_of};

@@ -1,6 +1,6 @@
 //! A form by its parts, where it fits its row.
 ghost use Rattle.std.specs.Prelude.{◌≡◌, IfErr, IfOk, true, false};
-ghost use Rattle.spelling_spec.specs.Tree.{bare};
+ghost use Rattle.edif_spelling_spec.specs.Tree.{bare};
 ghost use Rattle.edif_spec.specs.Faults.{arguments, misplaced, row_has, RowFault};
 ghost use Rattle.edif_spec.specs.Rows.{has_keyword};
 ghost use Rattle.edif_spec.specs.declared.fault.Kind.TheVariants as Kind;

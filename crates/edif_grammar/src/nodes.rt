@@ -1,6 +1,6 @@
 //! What stands at a node, as rows tell it.
 ghost use Rattle.std.specs.Prelude.{◌≡◌, IfNone, IfSome, Some, None};
-ghost use Rattle.spelling_spec.specs.Tree.{bare};
+ghost use Rattle.edif_spelling_spec.specs.Tree.{bare};
 ghost use Rattle.edif_tree.specs.Handles.{here, all};
 ghost use Rattle.edif_spec.specs.Faults.{arguments};
 ghost use Rattle.edif_spec.specs.Rows.{has_keyword};

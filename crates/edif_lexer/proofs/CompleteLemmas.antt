@@ -7,18 +7,18 @@ use Rattle.std.specs.Str.{all_ascii_digits}
 use Rattle.std.specs.Str.Parse.{without_leading_sign, signed_digits_value}
 use Rattle.std.specs.List.{list_all}
 use Rattle.netlist_schema.specs.Ident.{is_identifier_byte}
-use Rattle.spelling_spec.specs.Bytes.{is_word_byte, is_quote, is_unquoted}
-use Rattle.spelling_spec.specs.Names.{is_empty, is_name}
-use Rattle.spelling_spec.specs.Strings.{segments, escape_fault}
-use Rattle.spelling_spec.specs.Words.{word_kind, integer, identifier, fits_i64, begins_number, or_fault}
-use Rattle.spelling_spec.specs.declared.token.TokenKind.{TokenKind}
-use Rattle.spelling_spec.specs.declared.token.TokenKind.TheVariants.{Word, Integer}
-use Rattle.spelling_spec.specs.declared.token.LexKind.{LexKind}
-use Rattle.spelling_spec.specs.declared.token.LexKind.TheVariants.{BadNumber, BadByte}
-use Rattle.spelling_spec.proofs.LexedLemmas.{lexed_word_bad, lexed_open, lexed_open_bad}
-use Rattle.spelling_spec.specs.Lexing.{before, lexed}
+use Rattle.edif_spelling_spec.specs.Bytes.{is_word_byte, is_quote, is_unquoted}
+use Rattle.edif_spelling_spec.specs.Names.{is_empty, is_name}
+use Rattle.edif_spelling_spec.specs.Strings.{segments, escape_fault}
+use Rattle.edif_spelling_spec.specs.Words.{word_kind, integer, identifier, fits_i64, begins_number, or_fault}
+use Rattle.edif_spelling_spec.specs.declared.token.TokenKind.{TokenKind}
+use Rattle.edif_spelling_spec.specs.declared.token.TokenKind.TheVariants.{Word, Integer}
+use Rattle.edif_spelling_spec.specs.declared.token.LexKind.{LexKind}
+use Rattle.edif_spelling_spec.specs.declared.token.LexKind.TheVariants.{BadNumber, BadByte}
+use Rattle.edif_spelling_spec.proofs.LexedLemmas.{lexed_word_bad, lexed_open, lexed_open_bad}
+use Rattle.edif_spelling_spec.specs.Lexing.{before, lexed}
 use Rattle.edif_lexer.specs.Reading.{Reading, ahead, is_pending, AreComplete}
-use Rattle.spelling_spec.specs.declared.token.Token.{Token}
+use Rattle.edif_spelling_spec.specs.declared.token.Token.{Token}
 
 cond_same : (t : Bool) → cond t (let n : Option (List ℕ) = None in n) None ≡ None
 cond_same true = refl

@@ -1,3 +1,4 @@
 pub mod CompleteLemmas
 pub mod NameLemmas
 pub mod StepLemmas
+pub mod WordTable

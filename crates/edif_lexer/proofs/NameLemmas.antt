@@ -3,8 +3,8 @@ use Rattle.std.proofs.Common.{◌≡◌, ℕ, cond, List, Option, None, Some, Re
 use Rattle.std.specs.Prelude.{IfOk, IfSome, IsNone}
 use Rattle.std.proofs.lemmas.Bool.{cond-true, cond-false, false_from_ne_true}
 use Rattle.netlist_schema.specs.Ident.{IsIdentifier}
-use Rattle.spelling_spec.specs.Names.{is_name}
-use Rattle.spelling_spec.proofs.RowLemmas.{is_name-from_identifier, identifier-from_is_name}
+use Rattle.edif_spelling_spec.specs.Names.{is_name}
+use Rattle.edif_spelling_spec.proofs.RowLemmas.{is_name-from_identifier, identifier-from_is_name}
 
 pub found_name : (bytes : List ℕ) (found : Option (List ℕ)) → (IsNone found → IsIdentifier bytes → ⊥) → IfSome found (λ name. (name ≡ bytes) × IsIdentifier bytes) → found ≡ cond (is_name bytes) (Some bytes) None
 found_name bytes None none some = sym (cond-false (is_name bytes) (Some bytes) None (false_from_ne_true (is_name bytes) (λ t. none refl (identifier-from_is_name bytes t))))

@@ -1,28 +1,28 @@
 -- What the steps of a lexer do to what is ahead.
-use Rattle.std.proofs.Common.{◌≡◌, ℕ, ◌+◌, ◌<◌, true, false, not, List, [], ◌∷◌, ◌++◌, length, None, Some, Result, Ok, Err, refl, sym, ap, ◌∙◌, subst, arith, append_assoc, append-nil, length-append, eqb, drop, take, get_or, take-append-drop}
+use Rattle.std.proofs.Common.{◌≡◌, ℕ, zero, suc, ◌+◌, ◌<◌, true, false, not, List, [], ◌∷◌, ◌++◌, length, None, Some, Result, Ok, Err, refl, sym, ap, ◌∙◌, subst, arith, append_assoc, append-nil, length-append, eqb, drop, take, get_or, take-append-drop}
 use Rattle.std.specs.Prelude.{slice_get}
 use Rattle.std.proofs.Math.Seq.{take-add}
-use Rattle.spelling_spec.proofs.RowLemmas.{lexed_gap}
+use Rattle.edif_spelling_spec.proofs.RowLemmas.{lexed_gap}
 use Rattle.edif_lexer.specs.declared.lexing.State.{State}
 use Rattle.edif_lexer.specs.declared.lexing.State.TheVariants.{Running, Failed, Finished}
 use Rattle.edif_lexer.proofs.CompleteLemmas.{are_complete, all_push}
 use Rattle.std.specs.Result.{OnOk, OnErr, IsOkUnless}
 use Rattle.std.specs.List.{list_all}
 use Rattle.std.proofs.lemmas.Bool.{and_parts, and_from, eqb-true, ne_eqb, eq-eqb, not_from_false, cond-false, cond-true}
-use Rattle.spelling_spec.specs.Bytes.{is_space, is_word_byte, is_quote, is_unquoted, EndsRun}
-use Rattle.spelling_spec.specs.Words.{word_kind}
-use Rattle.spelling_spec.specs.Strings.{segments, value, escape_fault}
-use Rattle.spelling_spec.specs.Lexing.{Lexed, before, lexed}
-use Rattle.edif_lexer.specs.Reading.{Reading, ahead, is_pending, is_open_string, HasRead, Feeds, Finishes}
+use Rattle.edif_spelling_spec.specs.Bytes.{is_space, is_word_byte, is_quote, is_unquoted, EndsRun}
+use Rattle.edif_spelling_spec.specs.Words.{word_kind}
+use Rattle.edif_spelling_spec.specs.Strings.{segments, value, escape_fault}
+use Rattle.edif_spelling_spec.specs.Lexing.{Lexed, before, lexed}
+use Rattle.edif_lexer.specs.Reading.{IsPrefix, Reading, ahead, is_pending, is_open_string, HasRead, Feeds, Finishes}
 use Rattle.edif_lexer.specs.Steps.{Anything, Continues, Stops, Advances, BadEscapeOf, Ends, StopsAtEnd}
-use Rattle.spelling_spec.specs.declared.token.Token.{Token}
-use Rattle.spelling_spec.specs.declared.token.TokenKind.{TokenKind}
-use Rattle.spelling_spec.specs.declared.token.TokenKind.TheVariants.{LeftParen, RightParen, String}
-use Rattle.spelling_spec.specs.declared.token.LexKind.{LexKind}
-use Rattle.spelling_spec.specs.declared.token.LexKind.TheVariants.{BadByte, BadString}
+use Rattle.edif_spelling_spec.specs.declared.token.Token.{Token}
+use Rattle.edif_spelling_spec.specs.declared.token.TokenKind.{TokenKind}
+use Rattle.edif_spelling_spec.specs.declared.token.TokenKind.TheVariants.{LeftParen, RightParen, String}
+use Rattle.edif_spelling_spec.specs.declared.token.LexKind.{LexKind}
+use Rattle.edif_spelling_spec.specs.declared.token.LexKind.TheVariants.{BadByte, BadString}
 use Rattle.edif_lexer.specs.declared.errors.LexError.{LexError}
 use Rattle.edif_lexer.specs.declared.errors.LexError.TheVariants.{At, NoMemory}
-use Rattle.spelling_spec.proofs.LexedLemmas.{fault_at, lexed_space, lexed_left, lexed_right, lexed_other, lexed_word_ok, lexed_word_bad, lexed_string_ok, lexed_string_bad, lexed_open, lexed_open_bad, word_byte_no_quote, lexed_nil}
+use Rattle.edif_spelling_spec.proofs.LexedLemmas.{fault_at, lexed_space, lexed_left, lexed_right, lexed_other, lexed_word_ok, lexed_word_bad, lexed_string_ok, lexed_string_bad, lexed_open, lexed_open_bad, word_byte_no_quote, lexed_nil}
 
 -- what a step hands out, and what it leaves
 abbrev pub Handed : {A : Type 0} → (List ℕ → Type 0) → Reading → List ℕ → Reading → List Token → List Token → Result A LexError → Type 0
@@ -94,6 +94,32 @@ continues_word old kind n size l a k =
 
 pub stops_word : (old : Reading) (fault : LexKind) → 0 < length old.pending → list_all is_word_byte old.pending ≡ true → word_kind old.pending ≡ Err fault → Stops (EndsRun is_word_byte) old [] [] (At fault old.start)
 stops_word old fault l a k = λ more p. lexed_word_bad old.start old.pending more fault l a p k
+
+-- a word that begins and ends in these bytes
+pub continues_whole : (old : Reading) (word : List ℕ) (kind : TokenKind) (n : ℕ) → n ≡ length word → old.pending ≡ [] → 0 < length word → list_all is_word_byte word ≡ true → word_kind word ≡ Ok kind → Continues (EndsRun is_word_byte) old word (record old { start = old.start + n; pending = [] }) (record { kind = kind; place = old.start } ∷ [])
+continues_whole old word kind n size e l a k =
+    continues_token (EndsRun is_word_byte) old word (record { kind = kind; place = old.start }) n (let none = ap length e in omega arith)
+    (λ more p. fresh old (word ++ more) e ∙ lexed_word_ok old.start word more kind l a p k ∙ ap (λ m. before (record { kind = kind; place = old.start } ∷ []) (lexed (old.start + m) 0 more)) (sym size))
+
+pub stops_whole : (old : Reading) (word : List ℕ) (fault : LexKind) → old.pending ≡ [] → 0 < length word → list_all is_word_byte word ≡ true → word_kind word ≡ Err fault → Stops (EndsRun is_word_byte) old word [] (At fault old.start)
+stops_whole old word fault e l a k = λ more p. fresh old (word ++ more) e ∙ lexed_word_bad old.start word more fault l a p k
+
+-- an error in the first bytes is one in all of them
+pub stops_ahead : (P Q : List ℕ → Type 0) (old : Reading) (xs ys : List ℕ) (g : List Token) (error : LexError) → ((more : List ℕ) → Q more → P (ys ++ more)) → Stops P old xs g error → Stops Q old (xs ++ ys) g error
+stops_ahead P Q old xs ys g NoMemory p s = λ more q. (let S : List ℕ → Type 0 = λ v. IsPrefix g (ahead old v).tokens in subst S (sym (append_assoc xs ys more)) (s (ys ++ more) (p more q)))
+stops_ahead P Q old xs ys g (At kind place) p s = λ more q. ap (ahead old) (append_assoc xs ys more) ∙ s (ys ++ more) (p more q)
+
+-- the first bytes, and one more
+pub one_more : (n : ℕ) (bytes : List ℕ) → n < length bytes → take (n + 1) bytes ≡ take n bytes ++ get_or bytes n 0 ∷ []
+one_more n [] l = absurd (omega (arith, l))
+one_more zero (b ∷ bytes) l = refl
+one_more (suc n) (b ∷ bytes) l = let e : suc n + 1 ≡ suc (n + 1) = omega arith in rw e (ap (λ v. b ∷ v) (one_more n bytes (omega (arith, l))))
+
+-- an error in so many bytes and one more is one in all of them
+pub more_stops : (old : Reading) (bytes : List ℕ) (n : ℕ) (g : List Token) (error : LexError) → n < length bytes → Stops Anything old (take n bytes ++ get_or bytes n 0 ∷ []) g error → Stops Anything old bytes g error
+more_stops old bytes n g error l s =
+    let S : List ℕ → Type 0 = λ xs. Stops Anything old xs g error in
+    subst S (take-append-drop (n + 1) bytes) (stops_ahead Anything Anything old (take (n + 1) bytes) (drop (n + 1) bytes) g error (λ more q. tt) (subst S (sym (one_more n bytes l)) s))
 
 -- a string whose closing quote comes
 pub open_string_parts : (pending : List ℕ) → is_open_string pending ≡ true → (pending ≡ 34 ∷ drop 1 pending) × (is_unquoted (drop 1 pending) ≡ true)

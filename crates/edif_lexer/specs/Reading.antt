@@ -1,9 +1,9 @@
 -- How far a lexer is in a text that comes in pieces.
 use Rattle.std.specs.Prelude.{◌≡◌, ℕ, ◌+◌, Bool, true, false, ◌&&◌, if◌then◌else◌, List, [], ◌∷◌, ◌++◌, length, None, Some, Result, Ok, Err}
 use Rattle.std.specs.List.{list_all}
-use Rattle.spelling_spec.specs.Bytes.{is_word_byte, is_quote, is_unquoted}
-use Rattle.spelling_spec.specs.Lexing.{Lexed, before, lexed, tokens, lex_fault}
-use Rattle.spelling_spec.specs.declared.token.Token.{Token}
+use Rattle.edif_spelling_spec.specs.Bytes.{is_word_byte, is_quote, is_unquoted}
+use Rattle.edif_spelling_spec.specs.Lexing.{Lexed, before, lexed, tokens, lex_fault}
+use Rattle.edif_spelling_spec.specs.declared.token.Token.{Token}
 use Rattle.edif_lexer.specs.declared.errors.LexError.{LexError}
 use Rattle.edif_lexer.specs.declared.errors.LexError.TheVariants.{At, NoMemory}
 use Rattle.edif_lexer.specs.declared.lexing.State.{State}

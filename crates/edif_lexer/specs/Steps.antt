@@ -1,11 +1,11 @@
 -- What one step of a lexer does, for its private functions.
 use Rattle.std.specs.Prelude.{◌≡◌, ℕ, true, ◌+◌, List, [], ◌++◌, length, take, None, Some, Result, Ok, Err}
-use Rattle.spelling_spec.specs.Lexing.{before}
+use Rattle.edif_spelling_spec.specs.Lexing.{before}
 use Rattle.edif_lexer.specs.Reading.{Reading, IsPrefix, ahead, is_pending}
-use Rattle.spelling_spec.specs.declared.token.Token.{Token}
+use Rattle.edif_spelling_spec.specs.declared.token.Token.{Token}
 use Rattle.edif_lexer.specs.declared.errors.LexError.{LexError}
 use Rattle.edif_lexer.specs.declared.errors.LexError.TheVariants.{At, NoMemory}
-use Rattle.spelling_spec.specs.declared.token.LexKind.TheVariants.{BadEscape}
+use Rattle.edif_spelling_spec.specs.declared.token.LexKind.TheVariants.{BadEscape}
 
 -- any bytes, or none, may follow
 abbrev pub Anything : List ℕ → Type 0

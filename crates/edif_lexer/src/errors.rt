@@ -2,8 +2,8 @@
 ghost use Rattle.std.specs.Prelude.{◌≡◌};
 ghost use Rattle.edif_lexer.specs.declared.errors.LexError.TheVariants.{NoMemory};
 
+use edif_spelling_spec::LexKind;
 use netlist_schema::NoMemory;
-use spelling_spec::LexKind;
 use std::alloc::{AllocError, AllocFailed};
 
 /// What ended the reading of a text. From then on the lexer answers the same error at each call.

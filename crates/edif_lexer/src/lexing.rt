@@ -1,17 +1,17 @@
 //! Bytes in pieces to tokens.
-ghost use Rattle.std.specs.Prelude.{◌≡◌, ◌≢◌, ◌+◌, ◌<◌, ◌≤◌, ◌∷◌, ◌++◌, [], true, length, take, List, ℕ, OnOk, OnErr, IfErr, IfOk, IsOkUnless};
+ghost use Rattle.std.specs.Prelude.{◌≡◌, ◌≢◌, ◌+◌, ◌<◌, ◌≤◌, ◌∷◌, ◌++◌, [], false, get_or, true, length, take, List, ℕ, OnOk, OnErr, IfErr, IfOk, IsOkUnless};
 ghost use Rattle.std.specs.List.{list_all};
-ghost use Rattle.spelling_spec.specs.Bytes.{is_space, is_word_byte, EndsRun};
+ghost use Rattle.edif_spelling_spec.specs.Bytes.{is_space, is_word_byte, EndsRun};
 ghost use Rattle.edif_lexer.specs.Reading.{is_open_string, is_pending, HasRead, Feeds, Finishes};
 ghost use Rattle.edif_lexer.specs.Steps.{Anything, Advances, BadEscapeOf, Ends, ReadsFront, StopsAtEnd};
-ghost use Rattle.spelling_spec.specs.declared.token.Token.{Token};
+ghost use Rattle.edif_spelling_spec.specs.declared.token.Token.{Token};
 ghost use Rattle.edif_lexer.specs.declared.errors.LexError.{LexError};
 
 use crate::errors::LexError;
 use crate::runs::{blanks, unquoted, word_bytes};
 use crate::words::{is_word_byte, word_kind};
+use edif_spelling_spec::{LexKind, Token, TokenKind};
 use edif_strings::decode;
-use spelling_spec::{LexKind, Token, TokenKind};
 use std::alloc::Global;
 use std::marker::Model;
 
@@ -226,6 +226,52 @@ impl Lexer {
         0
     }
 
+    /// How many bytes the word has that begins and ends in these bytes, where no token has begun; 0 where there is none.
+    fn whole(&self, rest: &[u8]) -> usize
+        ensures within { 0 < result → result < length rest.now }
+        ensures word { list_all is_word_byte (take result rest.now) ≡ true }
+        ensures ends { 0 < result → is_word_byte (get_or rest.now result 0) ≡ false }
+        ensures between { 0 < result → self.now.pending ≡ [] }
+    {
+        if !self.pending.is_empty() {
+            return 0;
+        }
+        let count = word_bytes(rest);
+        if count < rest.len() { count } else { 0 }
+    }
+
+    /// A word that begins and ends in these bytes, where no token has begun.
+    fn whole_word(&mut self, word: &[u8], out: &mut Vec<Token>) -> Result<(), LexError>
+        requires between { self.old.pending ≡ [] }
+        requires begun { 0 < length word.now }
+        requires word { list_all is_word_byte word.now ≡ true }
+        ensures read { (gained : List Token) × (out.new.items ≡ out.old.items ++ gained)
+            × Advances (EndsRun is_word_byte) self.old word.now self.new gained result }
+        ensures ended { OnOk result (self.new.pending ≡ []) }
+    {
+        let count = word.len() as u64;
+        match word_kind(self.alloc, word)? {
+            Ok(kind) => self.hand_out(kind, count, out),
+            Err(kind) => Err(LexError::At {
+                kind,
+                place: self.start,
+            }),
+        }
+    }
+
+    /// A word in front of a byte that ends it, and that byte.
+    fn word_before(&mut self, word: &[u8], byte: u8, out: &mut Vec<Token>) -> Result<(), LexError>
+        requires between { self.old.pending ≡ [] }
+        requires begun { 0 < length word.now }
+        requires word { list_all is_word_byte word.now ≡ true }
+        requires ends { is_word_byte byte ≡ false }
+        ensures { (gained : List Token) × (out.new.items ≡ out.old.items ++ gained)
+            × Advances Anything self.old (word.now ++ byte ∷ []) self.new gained result }
+    {
+        self.whole_word(word, out)?;
+        self.begin(byte, out)
+    }
+
     /// The next bytes of the text, of which there is one at least: how many were read. Bytes of one word or string and blanks are read
     /// together.
     fn advance(&mut self, rest: &[u8], out: &mut Vec<Token>) -> Result<usize, LexError>
@@ -234,6 +280,11 @@ impl Lexer {
             × ReadsFront self.old rest.now self.new gained result }
         ensures some { IfOk result (λ count. (0 < count) × (count ≤ length rest.now)) }
     {
+        let word = self.whole(rest);
+        if word > 0 {
+            self.word_before(&rest[..word], rest[word], out)?;
+            return Ok(word + 1);
+        }
         let kept = self.kept(rest);
         if kept > 0 {
             self.keep_all(&rest[..kept])?;

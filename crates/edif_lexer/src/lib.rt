@@ -6,6 +6,6 @@ mod lexing;
 mod runs;
 mod words;
 
+pub use edif_spelling_spec::{LexKind, Token, TokenKind};
 pub use errors::LexError;
 pub use lexing::{Lexer, State};
-pub use spelling_spec::{LexKind, Token, TokenKind};

@@ -1,7 +1,7 @@
 //! Bytes at the front that are of one kind.
-ghost use Rattle.std.specs.Prelude.{◌≡◌, ◌≤◌, length, take, true};
+ghost use Rattle.std.specs.Prelude.{◌≡◌, ◌<◌, ◌≤◌, false, get_or, length, take, true};
 ghost use Rattle.std.specs.List.{list_all};
-ghost use Rattle.spelling_spec.specs.Bytes.{is_space, is_unquoted, is_word_byte};
+ghost use Rattle.edif_spelling_spec.specs.Bytes.{is_space, is_unquoted, is_word_byte};
 
 use crate::words::is_word_byte;
 
@@ -9,6 +9,7 @@ use crate::words::is_word_byte;
 pub fn word_bytes(bytes: &[u8]) -> usize
     ensures within { result ≤ length bytes.now }
     ensures all { list_all is_word_byte (take result bytes.now) ≡ true }
+    ensures ends { result < length bytes.now → is_word_byte (get_or bytes.now result 0) ≡ false }
 {
     for (i, byte) in bytes.iter().enumerate() {
         if !is_word_byte(*byte) {

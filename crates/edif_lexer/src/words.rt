@@ -1,20 +1,46 @@
 //! What a word stands for.
 ghost use Rattle.std.specs.Prelude.{◌≡◌, true, IfOk, Some, None, if◌then◌else◌};
 ghost use Rattle.std.specs.List.{list_all};
-ghost use Rattle.spelling_spec.specs.Bytes.{is_word_byte};
-ghost use Rattle.spelling_spec.specs.Names.{is_name};
-ghost use Rattle.spelling_spec.specs.Words.{word_kind, identifier, integer, begins_number};
+ghost use Rattle.edif_spelling_spec.specs.Bytes.{is_word_byte};
+ghost use Rattle.edif_spelling_spec.specs.Names.{is_name};
+ghost use Rattle.edif_spelling_spec.specs.Words.{word_kind, identifier, integer, begins_number};
 
+use edif_spelling_spec::{LexKind, TokenKind};
 use netlist_schema::{Ident, NoMemory};
-use spelling_spec::{LexKind, TokenKind};
 use std::alloc::Global;
 use std::str;
+
+/// A byte that a word may hold, and one that it may not.
+const I: bool = true;
+
+const O: bool = false;
+
+/// Which bytes a word may hold, sixteen in a row: letters, digits, `_`, `&`, `+` and `-`.
+#[rattlefmt::skip]
+static WORD_BYTES: [bool; 256] = [
+    O, O, O, O, O, O, O, O, O, O, O, O, O, O, O, O,
+    O, O, O, O, O, O, O, O, O, O, O, O, O, O, O, O,
+    O, O, O, O, O, O, I, O, O, O, O, I, O, I, O, O,
+    I, I, I, I, I, I, I, I, I, I, O, O, O, O, O, O,
+    O, I, I, I, I, I, I, I, I, I, I, I, I, I, I, I,
+    I, I, I, I, I, I, I, I, I, I, I, O, O, O, O, I,
+    O, I, I, I, I, I, I, I, I, I, I, I, I, I, I, I,
+    I, I, I, I, I, I, I, I, I, I, I, O, O, O, O, O,
+    O, O, O, O, O, O, O, O, O, O, O, O, O, O, O, O,
+    O, O, O, O, O, O, O, O, O, O, O, O, O, O, O, O,
+    O, O, O, O, O, O, O, O, O, O, O, O, O, O, O, O,
+    O, O, O, O, O, O, O, O, O, O, O, O, O, O, O, O,
+    O, O, O, O, O, O, O, O, O, O, O, O, O, O, O, O,
+    O, O, O, O, O, O, O, O, O, O, O, O, O, O, O, O,
+    O, O, O, O, O, O, O, O, O, O, O, O, O, O, O, O,
+    O, O, O, O, O, O, O, O, O, O, O, O, O, O, O, O,
+];
 
 /// Whether a word may hold the byte.
 pub fn is_word_byte(b: u8) -> bool
     ensures { result ≡ is_word_byte b }
 {
-    b.is_ascii_alphanumeric() || b == b'_' || b == b'&' || b == b'+' || b == b'-'
+    WORD_BYTES[usize::from(b)]
 }
 
 /// Whether a word is to be an integer, as its first byte tells.
@@ -58,7 +84,7 @@ fn identifier(alloc: Global, word: &[u8]) -> Result<Option<Ident>, NoMemory>
 }
 
 /// The token that a word is, or its fault.
-#[tactic(auto, unfolding(spelling_spec::specs::Words::word_kind))]
+#[tactic(auto, unfolding(edif_spelling_spec::specs::Words::word_kind))]
 pub fn word_kind(alloc: Global, word: &[u8]) -> Result<Result<TokenKind, LexKind>, NoMemory>
     requires { list_all is_word_byte word.now ≡ true }
     ensures { IfOk result (λ kind. kind ≡ word_kind word.now) }

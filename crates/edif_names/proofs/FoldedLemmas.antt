@@ -6,7 +6,7 @@ use Rattle.netlist_schema.proofs.Lists.{same_test}
 use Rattle.edif_spec.specs.Keyword.{same}
 use Rattle.edif_names.specs.declared.folded.Numbered.{Numbered}
 use Rattle.edif_names.specs.declared.folded.Noted.{Noted}
-use Rattle.edif_names.specs.Folded.{noted, noted_after, one_more, are_several, hash_of, hash_from}
+use Rattle.edif_names.specs.Folded.{noted, noted_after, noted_from, one_more, are_several, hash_of, hash_from, seen_in}
 use Rattle.edif_spec.proofs.SameLemmas.{same_says, says_same}
 
 -- two names that are the same are the same as the same names
@@ -61,6 +61,14 @@ noted_push q (m ∷ ns) n = by (same q m.name) (same q n.name) (list_any (λ m. 
     by true false true d e h = ap (λ v. Some (record { id = m.id; is_only = not v })) e
     by true false false d e h = ap (λ v. Some (record { id = m.id; is_only = not v })) e
     by false b c d e h = h
+
+-- the first of some names, and then the others
+pub noted_first : (q : List ℕ) (n : Numbered) (ns : List Numbered) → noted_from (seen_in q n) q ns ≡ noted q (n ∷ ns)
+noted_first q n ns = by (same q n.name)
+  where
+    by : (b : Bool) → noted_from (cond b (Some n.id) None) q ns ≡ cond b (Some (record { id = n.id; is_only = not (list_any (λ m. same q m.name) ns) })) (noted q ns)
+    by true = refl
+    by false = refl
 
 -- where two are noted already, one more that is the same changes nothing
 pub several_stay : (n : List ℕ) (id : ℕ) (ns : List Numbered) → are_several (noted n ns) ≡ true → (q : List ℕ) → noted q ns ≡ noted_after q n id (noted q ns)

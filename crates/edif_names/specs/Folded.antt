@@ -4,6 +4,7 @@ use Rattle.std.specs.List.{list_any}
 use Rattle.std.specs.Char.{to_ascii_lowercase}
 use Rattle.edif_spec.specs.Keyword.{same}
 use Rattle.edif_names.specs.declared.folded.Numbered.{Numbered}
+use Rattle.edif_names.specs.declared.folded.Bucket.{Bucket}
 use Rattle.edif_names.specs.declared.folded.Noted.{Noted}
 use Rattle.edif_names.specs.declared.folded.Folded.{Folded}
 use Rattle.indexmap.specs.IndexMap.{get}
@@ -19,6 +20,10 @@ noted name (n ∷ ns) = if same name n.name then Some (record { id = n.id; is_on
 abbrev pub noted_from : Option ℕ → List ℕ → List Numbered → Option Noted
 noted_from None name ns = noted name ns
 noted_from (Some id) name ns = Some (record { id = id; is_only = not (list_any (λ m. same name m.name) ns) })
+
+-- the number of a name that is the same
+abbrev pub seen_in : List ℕ → Numbered → Option ℕ
+seen_in name n = if same name n.name then Some n.id else None
 
 -- with one more name that is the same
 abbrev pub one_more : ℕ → Option Noted → Option Noted
@@ -43,6 +48,10 @@ hash_from h (b ∷ bs) = hash_from ((h * 1099511628211 % 2 ^ 64 + b) % 2 ^ 64) b
 unfoldable pub hash_of : List ℕ → ℕ
 hash_of name = hash_from 0 (map to_ascii_lowercase name)
 
+-- the names of one hash, in order
+abbrev pub all_of : Bucket → List Numbered
+all_of b = b.first ∷ b.others.items
+
 -- what is noted of a name among those with its hash
 abbrev pub noted_in : Folded → List ℕ → Option Noted
-noted_in f name = option_map_or (λ names. noted name names.items) (get nat_eq f.buckets (hash_of name)) None
+noted_in f name = option_map_or (λ b. noted name (all_of b)) (get nat_eq f.buckets (hash_of name)) None

@@ -1,7 +1,7 @@
 //! Names of a scope, looked up ignoring case.
-ghost use Rattle.std.specs.Prelude.{◌≡◌, ◌++◌, ◌∷◌, [], List, ℕ, None, OnErr, OnOk};
+ghost use Rattle.std.specs.Prelude.{◌≡◌, ◌∷◌, [], IfOk, List, ℕ, None, OnErr, OnOk};
 ghost use Rattle.edif_spec.specs.Keyword.{same};
-ghost use Rattle.edif_names.specs.Folded.{are_several, hash_of, noted, noted_after, noted_in};
+ghost use Rattle.edif_names.specs.Folded.{all_of, are_several, hash_of, noted, noted_after, noted_from, noted_in, seen_in};
 
 use indexmap::IndexMap;
 use netlist_schema::{Ident, NoMemory};
@@ -14,6 +14,13 @@ pub struct Numbered {
     pub id: u32,
 }
 
+/// The names of one hash, in order. Mostly there is one, which takes no memory of its own.
+#[derive(Debug, Drop)]
+pub struct Bucket {
+    pub first: Numbered,
+    pub others: Vec<Numbered>,
+}
+
 /// The number of the first name that is the same ignoring case, and whether it is the only one.
 #[derive(Clone, Copy, Debug)]
 pub struct Noted {
@@ -23,7 +30,7 @@ pub struct Noted {
 
 /// The names of a scope by a hash of their lower case. Of the names that are the same ignoring case the first two are kept.
 pub struct Folded {
-    buckets: IndexMap<u64, Vec<Numbered>>,
+    buckets: IndexMap<u64, Bucket>,
 }
 
 impl Drop for Folded {
@@ -49,14 +56,13 @@ impl Folded {
     {
         let hash = hash_of(name.as_slice());
         match self.buckets.get_mut(&hash) {
-            Some(names) => {
-                add_to(alloc, names, name, id)?;
+            Some(bucket) => {
+                add_to(alloc, bucket, name, id)?;
                 Ok(())
             }
             None => {
-                let mut names = Vec::new(alloc);
-                add_to(alloc, &mut names, name, id)?;
-                self.buckets.insert(hash, names)?;
+                let bucket = bucket_of(alloc, name, id)?;
+                self.buckets.insert(hash, bucket)?;
                 Ok(())
             }
         }
@@ -66,21 +72,32 @@ impl Folded {
     pub fn get(&self, name: &Ident) -> Option<Noted>
         ensures { result ≡ noted_in self.now name.now }
     {
-        let names = self.buckets.get(&hash_of(name.as_slice()))?;
-        look(names.as_slice(), name)
+        let bucket = self.buckets.get(&hash_of(name.as_slice()))?;
+        look(bucket, name)
     }
 }
 
-/// Adds a name to those of its hash, unless two are there that are the same. After `NoMemory` they are as before.
-fn add_to(alloc: Global, names: &mut Vec<Numbered>, name: &Ident, id: u32) -> Result<(), NoMemory>
-    ensures ok { OnOk result ((q : List ℕ) → noted q names.new.items ≡ noted_after q name.now id (noted q names.old.items)) }
-    ensures err { OnErr result (names.new.items ≡ names.old.items) }
+/// The names of a hash of which there is one so far.
+fn bucket_of(alloc: Global, name: &Ident, id: u32) -> Result<Bucket, NoMemory>
+    ensures { IfOk result (λ b. all_of b ≡ record { name = name.now; id = id } ∷ []) }
 {
-    if are_several(look(names.as_slice(), name)) {
+    let name = name.copy(alloc)?;
+    Ok(Bucket {
+        first: Numbered { name, id },
+        others: Vec::new(alloc),
+    })
+}
+
+/// Adds a name to those of its hash, unless two are there that are the same. After `NoMemory` they are as before.
+fn add_to(alloc: Global, bucket: &mut Bucket, name: &Ident, id: u32) -> Result<(), NoMemory>
+    ensures ok { OnOk result ((q : List ℕ) → noted q (all_of bucket.new) ≡ noted_after q name.now id (noted q (all_of bucket.old))) }
+    ensures err { OnErr result (all_of bucket.new ≡ all_of bucket.old) }
+{
+    if are_several(look(bucket, name)) {
         return Ok(());
     }
     let name = name.copy(alloc)?;
-    names.push(Numbered { name, id })?;
+    bucket.others.push(Numbered { name, id })?;
     Ok(())
 }
 
@@ -93,11 +110,28 @@ fn are_several(found: Option<Noted>) -> bool
     }
 }
 
-/// The first of these names that is the same, and whether it is the only one.
-fn look(names: &[Numbered], name: &Ident) -> Option<Noted>
-    ensures { result ≡ noted name.now names.now }
+/// The first name of a hash that is the same, and whether it is the only one.
+fn look(bucket: &Bucket, name: &Ident) -> Option<Noted>
+    ensures { result ≡ noted name.now (all_of bucket.now) }
 {
-    let mut first = None;
+    look_on(seen_in(&bucket.first, name), bucket.others.as_slice(), name)
+}
+
+/// The number of a name that is the same.
+fn seen_in(other: &Numbered, name: &Ident) -> Option<u32>
+    ensures { result ≡ seen_in name.now other.now }
+{
+    if is_same(name, &other.name) {
+        return Some(other.id);
+    }
+    None
+}
+
+/// The same, where a first one was seen before these names or not.
+fn look_on(seen: Option<u32>, names: &[Numbered], name: &Ident) -> Option<Noted>
+    ensures { result ≡ noted_from seen name.now names.now }
+{
+    let mut first = seen;
     for other in names {
         if is_same(name, &other.name) {
             match first {

@@ -38,7 +38,7 @@ pub struct Entry {
 /// The names defined in a scope, in order, no two of them equal byte for byte. Contracts see the list of definitions.
 pub struct Scope {
     alloc: Global,
-    exact: IndexMap<Vec<u8>, Entry>,
+    exact: IndexMap<Ident, Entry>,
     folded: Folded,
 }
 
@@ -59,9 +59,9 @@ impl Model for Scope {
 
     ghost Value = { List Definition };
 
-    ghost view = { λ s. map (λ e. record { name = e.0.items; id = e.1.id; place = e.1.place }) s.exact.entries };
+    ghost view = { λ s. map (λ e. record { name = e.0; id = e.1.id; place = e.1.place }) s.exact.entries };
 
-    ghost invariant = { λ s. (name : List ℕ) → noted_in s.folded name ≡ noted name (map (λ e. record { name = e.0.items; id = e.1.id }) s.exact.entries) };
+    ghost invariant = { λ s. (name : List ℕ) → noted_in s.folded name ≡ noted name (map (λ e. record { name = e.0; id = e.1.id }) s.exact.entries) };
 }
 
 impl Scope {
@@ -82,11 +82,10 @@ impl Scope {
         ensures ok { IfOk result (λ defined. Defines self.old (record { name = name.now; id = id; place = place }) self.new defined) }
         ensures err { OnErr result (self.new ≡ self.old) }
     {
-        let bytes = name.as_slice();
-        if let Some(earlier) = self.exact.get(bytes) {
+        if let Some(earlier) = self.exact.get(name) {
             return Ok(Defined::Earlier(earlier.place));
         }
-        let key = Vec::from_slice(self.alloc, bytes)?;
+        let key = name.copy(self.alloc)?;
         self.exact.reserve(1)?;
         self.folded.add(self.alloc, name, id)?;
         self.exact.insert(key, Entry { id, place }).unwrap();
@@ -98,8 +97,7 @@ impl Scope {
     pub fn meant(&self, name: &Ident) -> Meant
         ensures { Says self.now (meant (names self.now) name.now) result }
     {
-        let bytes = name.as_slice();
-        if let Some(entry) = self.exact.get(bytes) {
+        if let Some(entry) = self.exact.get(name) {
             return Meant::Found(entry.id);
         }
         match self.folded.get(name) {

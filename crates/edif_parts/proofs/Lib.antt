@@ -3,6 +3,7 @@ pub mod NameForms
 pub mod NameLists
 pub mod NameTables
 pub mod NamedForms
+pub mod OwnLemmas
 pub mod PartLemmas
 pub mod PortForms
 pub mod PortLists

@@ -4,7 +4,7 @@ use Rattle.std.specs.List.{All, AllZip, AllByRecursion}
 use Rattle.std.proofs.lemmas.List.{map-append}
 use Rattle.std.proofs.lemmas.List.Elements.{All-from_recursion}
 use Rattle.netlist_schema.proofs.Lists.{all_push}
-use Rattle.spelling_spec.specs.Tree.{Bare, Placed, bare}
+use Rattle.edif_spelling_spec.specs.Tree.{Bare, Placed, bare}
 use Rattle.netlist_schema.specs.Names.{AreDistinct}
 use Rattle.edif_spec.specs.Faults.{Repeats, those_of, defined}
 use Rattle.edif_spec.specs.Rows.{has_keyword, those, Each}

@@ -1,7 +1,7 @@
 -- The fixed arguments of a form that fits, at the nodes that are lent of it.
 use Rattle.std.proofs.Common.{◌≡◌, ℕ, List, [], ◌∷◌, length, map, refl, sym, ap, ◌∙◌, subst, true, Some}
 use Rattle.std.specs.Prelude.{slice_get}
-use Rattle.spelling_spec.specs.Tree.{Placed, bare}
+use Rattle.edif_spelling_spec.specs.Tree.{Placed, bare}
 use Rattle.edif_spec.specs.Keyword.{row, Takes, Choice, Follower}
 use Rattle.edif_spec.specs.Rows.{is_one_of, IsFormOf}
 use Rattle.edif_spec.specs.Faults.{arguments, followers, token_kind}

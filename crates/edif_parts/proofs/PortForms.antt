@@ -2,7 +2,7 @@
 use Rattle.std.proofs.Common.{◌≡◌, ◌≤◌, ◌<◌, ◌^◌, ℕ, ℤ, pos, negsuc, nat_abs, List, [], ◌∷◌, map, length, refl, sym, ap, ◌∙◌, subst, inl, inr, Bool, true, false, Option, None, Some, arith}
 use Rattle.std.specs.Prelude.{IfSome, IfNone, IsSome, slice_get, ◌||◌}
 use Rattle.std.specs.Int.{FitsUnsignedBits}
-use Rattle.spelling_spec.specs.Tree.{Bare, Placed, Word', Integer', integer, bare}
+use Rattle.edif_spelling_spec.specs.Tree.{Bare, Placed, Word', Integer', integer, bare}
 use Rattle.netlist_schema.specs.Typed.{IsTypedName}
 use Rattle.netlist_schema.specs.Types.{Direction, Name, Port}
 use Rattle.netlist_schema.specs.Width.{IsWidth}
@@ -11,12 +11,13 @@ use Rattle.edif_spec.specs.Keyword.{same, identifier, Choice, Follower, Many, On
 use Rattle.edif_spec.specs.Keyword as table
 use Rattle.edif_spec.specs.Means.{MeansName, MeansBusName, MeansDirection, MeansText, MeansProperties, MeansPort}
 use Rattle.edif_spec.specs.Rows.{Perhaps, those, has_keyword, is_choice, is_one_of, IsFormOf}
-use Rattle.edif_spec.specs.Faults.{InPart, arguments, name_of, followers, those_of}
+use Rattle.edif_spec.specs.Faults.{InPart, arguments, name_of, is_size, followers, those_of}
 use Rattle.edif_spec.specs.Stands.{is_direction, DirectionFault, SizeFault}
 use Rattle.edif_spec.specs.Stands as stands
 use Rattle.edif_spec.specs.declared.fault.Kind.TheVariants.{BadForm, BadIndex}
 use Rattle.edif_spec.specs.declared.fault.MeaningFault.TheVariants.{At}
 use Rattle.edif_spec.specs.declared.keyword.Keyword.TheVariants as keywords
+use Rattle.edif_spec.proofs.FaultsApart.{plain_gives, width_is_size}
 use Rattle.edif_spec.proofs.KnownRows.{follow_none}
 use Rattle.edif_grammar.specs.Forms.{ArePartsOf}
 use Rattle.edif_parts.specs.Ports.{ReadBusName, bus_name}
@@ -50,7 +51,7 @@ array_means t u v x q z width place k g a m y d e s w =
     let P : Placed → Type 0 = λ x. IsFormOf keywords.Array (bare t) (bare u ∷ bare x ∷ []) [] in
     let Q : ℤ → Type 0 = λ x. IsFormOf keywords.Array (bare t) (bare u ∷ integer x ∷ []) [] in
     let f : P v = follow_none keywords.Array (name_definition ∷ table.integer ∷ []) (bare t) (bare u ∷ bare v ∷ []) (map bare (followers keywords.Array t)) refl g in
-    record { means = (bare u, subst Q s (subst P e f), m, w); typed = y; width = w; at = array_names t u k a ∙ d }
+    record { means = (bare u, subst Q s (subst P e f), m, w); typed = y; width = w; at = array_names t u z (x.id, place) (ap is_size s ∙ width_is_size width w) k (subst P e f) a d }
 
 pub size_fault : (t v : Placed) (q : ℕ) (z : ℤ) → slice_get (arguments t) 1 ≡ Some v → v ≡ Integer' q z → ((w : ℕ) → z ≡ pos w → IsWidth w → ⊥) → InPart 1 SizeFault t (At BadIndex q)
 size_fault t v q z a e h = (v, a, (z, q, e, h, refl))
@@ -85,7 +86,7 @@ plain_choice t h n = go (is_choice table.AnIdentifier t) (has_keyword keywords.R
     go false false false h n = h
 
 pub plain_means : (t : Placed) (x : Name) (place : ℕ) → MeansName (bare t) x → IsTypedName x → name_of t ≡ Some (x.id, place) → ReadBusName t (record { name = x; array = None; place = place })
-plain_means t x place m y d = record { means = m; typed = y; width = tt; at = d }
+plain_means t x place m y d = record { means = m; typed = y; width = tt; at = plain_gives t (x.id, place) d }
 
 -- ports
 abbrev pub port_followers : List Follower

@@ -4,7 +4,7 @@ use Rattle.std.specs.Prelude.{sum_by, slice_get}
 use Rattle.std.specs.List.{AllZip, fold}
 use Rattle.std.proofs.lemmas.List.Elements.{All-from_recursion}
 use Rattle.std.proofs.lemmas.List.Sums.{sum_by-append}
-use Rattle.spelling_spec.specs.Tree.{Placed, bare}
+use Rattle.edif_spelling_spec.specs.Tree.{Placed, bare}
 use Rattle.netlist_schema.specs.Design.{port_width}
 use Rattle.netlist_schema.specs.Names.{HasDistinctKeys}
 use Rattle.netlist_schema.specs.Typed.{IsTypedPort}

@@ -1,6 +1,6 @@
 -- What a property means.
 use Rattle.std.proofs.Common.{◌≤◌, List, [], ◌∷◌, map, length, refl, inl}
-use Rattle.spelling_spec.specs.Tree.{Placed, bare}
+use Rattle.edif_spelling_spec.specs.Tree.{Placed, bare}
 use Rattle.netlist_schema.specs.Types.{Property}
 use Rattle.edif_spec.specs.Keyword.{Follower, Many, One, name_definition}
 use Rattle.edif_spec.specs.Means.{MeansName, MeansValue, MeansText, MeansProperty}

@@ -3,7 +3,7 @@ use Rattle.std.proofs.Common.{◌≡◌, ℕ, ℤ, List, [], ◌∷◌, map, ref
 use Rattle.std.specs.Prelude.{FitsSigned, IsTrue, slice_get, ◌||◌}
 use Rattle.std.specs.Int.{w32}
 use Rattle.std.proofs.lemmas.Bool.{or_cases}
-use Rattle.spelling_spec.specs.Tree.{Bare, Placed, Integer', bare}
+use Rattle.edif_spelling_spec.specs.Tree.{Bare, Placed, Integer', bare}
 use Rattle.netlist_schema.specs.declared.property.Num.{Num}
 use Rattle.netlist_schema.specs.declared.property.Num.TheVariants as numbers
 use Rattle.netlist_schema.specs.declared.property.Value.TheVariants as values

@@ -1,7 +1,7 @@
 -- Names in order, each with the place where it is defined.
 use Rattle.std.specs.Prelude.{◌≡◌, ℕ, suc, List, [], ◌∷◌, ◌++◌, map, Option, None, Some}
 use Rattle.std.specs.List.{Contains, AllZip}
-use Rattle.spelling_spec.specs.Tree.{Placed}
+use Rattle.edif_spelling_spec.specs.Tree.{Placed}
 use Rattle.edif_spec.specs.Faults.{defined}
 use Rattle.edif_spec.specs.Means.{Found, Absent, Several}
 use Rattle.edif_spec.specs.Means as edif

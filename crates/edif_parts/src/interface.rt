@@ -1,6 +1,6 @@
 //! The interface of a cell: its ports, and properties of its own.
 ghost use Rattle.std.specs.Prelude.{◌≡◌, ◌+◌, ◌<◌, ◌≤◌, ◌⊎◌, IfErr, List, [], OnOk, length, true};
-ghost use Rattle.spelling_spec.specs.Tree.{bare};
+ghost use Rattle.edif_spelling_spec.specs.Tree.{bare};
 ghost use Rattle.netlist_schema.specs.Design.{port_width};
 ghost use Rattle.netlist_schema.specs.declared.limits.TheConstants.{MOST_BITS, MOST_PORTS};
 ghost use Rattle.edif_spec.specs.Faults.{those_of};
@@ -14,7 +14,7 @@ ghost use Rattle.edif_parts.specs.Reading.{Answers, Names as FailsBy};
 
 use crate::error::{EdifError, over_limit};
 use crate::names::Names;
-use crate::parts::read_parts;
+use crate::parts::{read_parts, room_for};
 use crate::ports::{PortAt, read_port};
 use crate::properties::read_properties;
 use bus_members::width;
@@ -84,7 +84,7 @@ fn add_ports(alloc: Global, inner: Nodes<'_>, names: &mut Names) -> Result<Row<P
     requires { names.old ≡ [] }
     ensures { Answers (λ ps. ReadPorts (all inner.entry) (record { ports = ps; names = names.new })) (PortsFault (those_of PortWord (all inner.entry))) result }
 {
-    let mut ports = Vec::new(alloc);
+    let mut ports = room_for(alloc, inner, Keyword::Port)?;
     let mut bits = 0;
     for node in inner.iter() {
         if is_form_of(node, Keyword::Port) {

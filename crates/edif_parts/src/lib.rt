@@ -4,6 +4,7 @@
 pub mod error;
 pub mod interface;
 pub mod names;
+pub mod own_names;
 pub mod parts;
 pub mod ports;
 pub mod properties;

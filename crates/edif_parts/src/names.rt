@@ -1,6 +1,6 @@
 //! Names, and the names of a list of forms.
 ghost use Rattle.std.specs.Prelude.{◌≡◌, [], Some, IfErr, IfOk, OnErr, OnOk, IsTrue, true};
-ghost use Rattle.spelling_spec.specs.Tree.{bare};
+ghost use Rattle.edif_spelling_spec.specs.Tree.{bare};
 ghost use Rattle.netlist_schema.specs.Typed.{IsTypedName};
 ghost use Rattle.edif_spec.specs.Faults.{RowFault, name_of};
 ghost use Rattle.edif_spec.specs.Keyword.{name_definition};

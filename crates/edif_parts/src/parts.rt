@@ -1,7 +1,7 @@
 //! The parts of a form whose keyword is known, and tokens in their places.
-ghost use Rattle.std.specs.Prelude.{◌≡◌, FitsSigned, IsTrue, true};
+ghost use Rattle.std.specs.Prelude.{◌≡◌, [], FitsSigned, IfOk, IsTrue, true};
 ghost use Rattle.std.specs.Int.{w64};
-ghost use Rattle.spelling_spec.specs.Tree.{Word', Integer', String', bare};
+ghost use Rattle.edif_spelling_spec.specs.Tree.{Word', Integer', String', bare};
 ghost use Rattle.netlist_schema.specs.Ident.{IsIdentifier};
 ghost use Rattle.netlist_schema.specs.Typed.{IsBytes};
 ghost use Rattle.edif_spec.specs.Faults.{RowFault};
@@ -13,10 +13,10 @@ ghost use Rattle.edif_grammar.specs.Forms.{ArePartsOf};
 ghost use Rattle.edif_parts.specs.Reading.{Answers};
 
 use crate::error::{EdifError, bad_form};
-use edif_grammar::{Breach, Form, parts_as};
+use edif_grammar::{Breach, Form, is_form_of, parts_as};
 use edif_spec::{Keyword, MeaningFault};
-use edif_tree::{Node, Shape};
-use netlist_schema::{Ident, Text};
+use edif_tree::{Node, Nodes, Shape};
+use netlist_schema::{Ident, NoMemory, Text};
 use std::alloc::Global;
 
 /// The parts of a form with this keyword. Takes memory for a fault alone.
@@ -36,6 +36,19 @@ pub fn read_parts<'a>(
         }
         Err(Breach::BadForm { place }) => Err(bad_form(place)),
     }
+}
+
+/// An empty list with room for a value of each form of this keyword.
+pub fn room_for<T>(alloc: Global, nodes: Nodes<'_>, keyword: Keyword) -> Result<Vec<T>, NoMemory>
+    ensures { IfOk result (λ list. list.items ≡ []) }
+{
+    let mut count: usize = 0;
+    for node in nodes.iter() {
+        if is_form_of(node, keyword) {
+            count = count.saturating_add(1);
+        }
+    }
+    Ok(Vec::with_capacity(alloc, count)?)
 }
 
 /// The word at a node where a word stands. Takes no memory.

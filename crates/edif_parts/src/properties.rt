@@ -1,7 +1,7 @@
 //! The properties of an owner.
 ghost use Rattle.std.specs.Prelude.{◌≡◌, ◌⊎◌, Some, List, [], map, true};
 ghost use Rattle.std.specs.List.{All};
-ghost use Rattle.spelling_spec.specs.Tree.{bare};
+ghost use Rattle.edif_spelling_spec.specs.Tree.{bare};
 ghost use Rattle.netlist_schema.specs.Names.{HasDistinctKeys};
 ghost use Rattle.netlist_schema.specs.Typed.{IsTypedProperty};
 ghost use Rattle.edif_spec.specs.Design as design;
@@ -15,8 +15,9 @@ ghost use Rattle.edif_parts.specs.Adding.{Adds, DefinesAgain};
 ghost use Rattle.edif_parts.specs.Reading.{Answers};
 
 use crate::error::EdifError;
-use crate::names::{NameAt, Names, read_name};
-use crate::parts::read_parts;
+use crate::names::{NameAt, read_name};
+use crate::own_names::Keys;
+use crate::parts::{read_parts, room_for};
 use crate::texts::read_text_among;
 use crate::values::read_value;
 use edif_grammar::is_form_of;
@@ -52,7 +53,7 @@ pub fn read_property(alloc: Global, node: Node<'_>) -> Result<PropertyAt, EdifEr
 fn add_property(
     alloc: Global,
     node: Node<'_>,
-    names: &mut Names,
+    names: &mut Keys,
     properties: &mut Vec<Property>,
 ) -> Result<(), EdifError>
     requires { has_keyword PropertyWord (bare (here node)) ≡ true }
@@ -68,12 +69,12 @@ fn add_property(
 fn add_properties(
     alloc: Global,
     inner: Nodes<'_>,
-    names: &mut Names,
+    names: &mut Keys,
 ) -> Result<Row<Property>, EdifError>
     requires { names.old ≡ [] }
     ensures { Answers (λ ps. MeansProperties (map bare (all inner.entry)) ps × All IsTypedProperty ps × HasDistinctKeys ps) (PropertiesFault (those_of PropertyWord (all inner.entry))) result }
 {
-    let mut properties = Vec::new(alloc);
+    let mut properties = room_for(alloc, inner, Keyword::Property)?;
     for node in inner.iter() {
         if is_form_of(node, Keyword::Property) {
             add_property(alloc, node, names, &mut properties)?;
@@ -86,6 +87,6 @@ fn add_properties(
 pub fn read_properties(alloc: Global, inner: Nodes<'_>) -> Result<Row<Property>, EdifError>
     ensures { Answers (λ ps. MeansProperties (map bare (all inner.entry)) ps × All IsTypedProperty ps × HasDistinctKeys ps) (PropertiesFault (those_of PropertyWord (all inner.entry))) result }
 {
-    let mut names = Names::new(alloc);
+    let mut names = Keys::new(alloc);
     add_properties(alloc, inner, &mut names)
 }

@@ -1,6 +1,6 @@
 //! Forms of one string.
 ghost use Rattle.std.specs.Prelude.{◌≡◌, ◌⊎◌, ◌≤◌, IfSome, IsTrue, List, length, map, true};
-ghost use Rattle.spelling_spec.specs.Tree.{bare};
+ghost use Rattle.edif_spelling_spec.specs.Tree.{bare};
 ghost use Rattle.netlist_schema.specs.Typed.{IsBytes};
 ghost use Rattle.edif_spec.specs.Faults.{Among, RowFault, those_of};
 ghost use Rattle.edif_spec.specs.Means.{MeansText};

@@ -1,7 +1,7 @@
 //! The values of properties.
 ghost use Rattle.std.specs.Prelude.{◌≡◌, FitsSigned, IsTrue, true};
 ghost use Rattle.std.specs.Int.{w64};
-ghost use Rattle.spelling_spec.specs.Tree.{bare};
+ghost use Rattle.edif_spelling_spec.specs.Tree.{bare};
 ghost use Rattle.netlist_schema.specs.Typed.{IsTypedNum, IsTypedValue};
 ghost use Rattle.netlist_schema.specs.declared.property.Value.TheVariants as values;
 ghost use Rattle.edif_spec.specs.Means.{MeansNumber, MeansValue};

@@ -21,8 +21,8 @@ use Rattle.edif_spec.specs.Arranged.{first_ready, order_from, order_of, orders_f
 use Rattle.edif_spec.specs.Defined.{AllAfter}
 use Rattle.edif_spec.specs.Design as design
 use Rattle.edif_spec.proofs.CellPlaces.{some_and, lib_of_cell, cell_found}
-use Rattle.order_spec.proofs.Ready.{StepReady, order_covers, order_ready}
-use Rattle.order_spec.proofs.WholeOrder.{IsNew, new_after, valid_rank, id_at}
+use Rattle.netlist_order_spec.proofs.Ready.{StepReady, order_covers, order_ready}
+use Rattle.netlist_order_spec.proofs.WholeOrder.{IsNew, new_after, valid_rank, id_at}
 
 -- each slot of the order has a cell
 abbrev pub AllThere : List design.CellBody → List ℕ → Type 0

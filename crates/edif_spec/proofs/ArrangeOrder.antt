@@ -15,8 +15,8 @@ use Rattle.edif_spec.specs.Design as design
 use Rattle.edif_spec.proofs.Arrange.{AllThere, AreWhole, valid_whole, place_found, new_there, own_order, cell_moved, insts_new, arranged_valid}
 use Rattle.edif_spec.proofs.CellPlaces.{get_after, length_last, lib_of_cell, cell_found}
 use Rattle.edif_spec.proofs.Order.{ArePlaced, EachPlaced, stays}
-use Rattle.order_spec.proofs.Ready.{StepReady, order_ready}
-use Rattle.order_spec.proofs.WholeOrder.{id_at}
+use Rattle.netlist_order_spec.proofs.Ready.{StepReady, order_ready}
+use Rattle.netlist_order_spec.proofs.WholeOrder.{id_at}
 
 place_front : (s : ℕ) (w r : List ℕ) → list_any (nat_eq s) w ≡ true → place_in s (w ++ r) ≡ place_in s w
 place_front s [] r h = absurd (cc h)

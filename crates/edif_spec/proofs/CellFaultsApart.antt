@@ -8,7 +8,7 @@ use Rattle.netlist_schema.specs.Design.{insts_of, ends_of}
 use Rattle.netlist_schema.specs.Design as schema
 use Rattle.netlist_schema.specs.Limits.{IsCellWithinLimits}
 use Rattle.netlist_schema.specs.Names.{AreDistinct, HasDistinctKeys, HasDistinctNamesInCell}
-use Rattle.spelling_spec.specs.Tree.{Bare, Placed, word, bare}
+use Rattle.edif_spelling_spec.specs.Tree.{Bare, Placed, word, bare}
 use Rattle.edif_spec.specs.Keyword.{same}
 use Rattle.edif_spec.specs.Rows.{those, Each, Just}
 use Rattle.edif_spec.specs.Canonical.{kind_word}

@@ -3,10 +3,8 @@ use Rattle.std.proofs.Common.{◌≡◌, ◌∙◌, ℕ, suc, List, [], ◌∷�
 use Rattle.std.specs.Prelude.{IsSomeAnd}
 use Rattle.std.specs.Option.{option_map_or}
 use Rattle.std.specs.List.{AllByRecursion}
-use Rattle.std.proofs.lemmas.Option.{slice_get_within}
-use Rattle.netlist_schema.proofs.Lists.{some_of, get_there, all_weaker}
-pub use Rattle.order_spec.proofs.Places.{any_append}
-use Rattle.order_spec.proofs.WholeOrder.{id_at}
+pub use Rattle.netlist_order_spec.proofs.Places.{any_append}
+use Rattle.netlist_order_spec.proofs.WholeOrder.{id_at}
 use Rattle.edif_spec.specs.Design as design
 
 pub get_after : {A : Type 0} (front : List A) (x : A) (rest : List A) → slice_get (front ++ x ∷ rest) (length front) ≡ Some x

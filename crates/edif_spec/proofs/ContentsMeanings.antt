@@ -3,7 +3,7 @@ use Rattle.std.proofs.Common.{◌≡◌, ℕ, ◌<◌, List, [], ◌∷◌, map,
 use Rattle.std.specs.Prelude.{IsTrue, IfSome, IsSome, IsSomeAnd, codes, slice_get, option_map, unwrap_or}
 use Rattle.std.specs.List.{AllByRecursion}
 use Rattle.netlist_schema.proofs.Lists.{some_of, get_there, get_mapped, all_weaker, all_at}
-use Rattle.spelling_spec.specs.Tree.{Bare, word}
+use Rattle.edif_spelling_spec.specs.Tree.{Bare, word}
 use Rattle.edif_spec.proofs.CellPlaces.{lib_of_cell}
 use Rattle.edif_spec.proofs.ArrangeOrder.{zip_all}
 use Rattle.edif_spec.specs.Keyword.{Many, One, AnIdentifier, AForm}

@@ -3,7 +3,7 @@ use Rattle.std.proofs.Common.{◌≡◌, ℕ, zero, suc, List, [], ◌∷◌, �
 use Rattle.std.specs.Prelude.{IsSome, cond, slice_get, option_map, unwrap_or, nat_eq, count_by, filter}
 use Rattle.std.specs.List.{AllByRecursion}
 use Rattle.std.specs.Option.{option_map_or}
-use Rattle.spelling_spec.specs.Tree.{Bare}
+use Rattle.edif_spelling_spec.specs.Tree.{Bare}
 use Rattle.edif_spec.specs.Keyword.{same}
 use Rattle.edif_spec.specs.Rows.{those, Each, Perhaps, EachAfter, Just}
 use Rattle.edif_spec.specs.Means.{Found, Several, meant, equal, equal_or, only_place, first_place, MeansInst, MeansContents, MeansView, MeansCell, MeansLibrary, MeansFile, is_library}

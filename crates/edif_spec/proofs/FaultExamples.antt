@@ -2,8 +2,8 @@
 use Rattle.std.proofs.Common.{◌≡◌, ℕ, zero, suc, ◌+◌, ◌*◌, ◌<◌, pos, List, [], ◌∷◌, ◌++◌, refl, sym, ap, ◌∙◌, subst, inl, inr, false, Some, None, arith}
 use Rattle.std.specs.Prelude.{codes, FitsSigned, slice_get}
 use Rattle.std.specs.Int.{w32}
-use Rattle.spelling_spec.specs.Tree.{Placed, Word', Integer', bare, word, form, items, trees}
-use Rattle.bus_spec.specs.Members.{member_id}
+use Rattle.edif_spelling_spec.specs.Tree.{Placed, Word', Integer', bare, word, form, items, trees}
+use Rattle.netlist_bus_spec.specs.Members.{member_id}
 use Rattle.std.proofs.lemmas.Fmt.{decimal_digit}
 use Rattle.edif_spec.specs.Nets.{Stretch, end_of}
 use Rattle.edif_spec.specs.Means.{MeansBusName, MeansPort, MeansEnd, MeansCell, MeansCellRef, MeansLibrary}

@@ -7,7 +7,7 @@ use Rattle.std.proofs.lemmas.Option.{slice_get_within}
 use Rattle.std.proofs.lemmas.List.{length-map}
 use Rattle.netlist_schema.specs.Names.{AreDistinct}
 use Rattle.netlist_schema.proofs.Lists.{drop_front, map_drop, get_mapped, get_unmapped, zip_length}
-use Rattle.spelling_spec.specs.Tree.{Bare, Placed, Trees, Form', Word', Integer', String', End, More, form, word, items, bare, bares}
+use Rattle.edif_spelling_spec.specs.Tree.{Bare, Placed, Trees, Form', Word', Integer', String', End, More, form, word, items, bare, bares}
 use Rattle.edif_spec.specs.Keyword.{row, Row, Takes, Skips, Choice, Follower, Many, One}
 use Rattle.edif_spec.specs.Rows.{has_keyword, those, is_one_of, is_follower, AtMostOnce, FitsRow, IsFormOf, Each, EachAfter, Perhaps, Just}
 use Rattle.edif_spec.specs.Faults.{AtOne, AtTwo, place_of, arguments, fixed_count, followers, those_of, parts, Among, FixedFault, FollowerFault, SecondFault, second, Breaches, RowFault, token_kind, misplaced, Beyond, defined, SameName, Repeats}

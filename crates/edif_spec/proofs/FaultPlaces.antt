@@ -1,7 +1,7 @@
 -- A fault at a place of a list is among the list: for those who go over the list from its front.
 use Rattle.std.proofs.Common.{◌≡◌, ℕ, zero, suc, ◌+◌, ◌<◌, List, [], ◌∷◌, ◌++◌, map, refl, ap, sym, subst, inl, inr, Some, arith, append-nil}
 use Rattle.std.specs.Prelude.{slice_get}
-use Rattle.spelling_spec.specs.Tree.{Bare, Placed, bare}
+use Rattle.edif_spelling_spec.specs.Tree.{Bare, Placed, bare}
 use Rattle.edif_spec.specs.Rows.{EachAfter}
 use Rattle.edif_spec.specs.Faults.{AtOne, AtTwo, declared_width, BeyondBits}
 use Rattle.edif_spec.specs.Stands.{AmongAfter}

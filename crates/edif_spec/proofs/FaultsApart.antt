@@ -1,5 +1,5 @@
 -- No fault stands in a form that means something: from names to interfaces.
-use Rattle.std.proofs.Common.{◌≡◌, ℕ, ◌+◌, ◌<◌, ◌≤◌, ℤ, pos, List, [], ◌∷◌, ◌++◌, map, length, refl, ap, sym, ◌∙◌, subst, ◌⊎◌, inl, inr, Bool, true, false, Option, Some, None, arith}
+use Rattle.std.proofs.Common.{◌≡◌, ℕ, ◌+◌, ◌<◌, ◌≤◌, ℤ, pos, List, [], ◌∷◌, map, length, refl, ap, sym, ◌∙◌, subst, ◌⊎◌, inl, inr, Bool, true, false, Option, Some, None, arith}
 use Rattle.std.proofs.lemmas.Bool.Decides.{nat_tests}
 use Rattle.std.specs.Prelude.{IsTrue, cond, ◌&&◌, ◌||◌, nat_le, slice_get, IfSome, sum_by, FitsSigned, unwrap_or}
 use Rattle.std.specs.Int.{w32}
@@ -8,13 +8,13 @@ use Rattle.std.proofs.lemmas.Bool.{or_right, or_left}
 use Rattle.std.proofs.lemmas.List.{length-map}
 use Rattle.netlist_schema.specs.Names.{AreDistinct, HasDistinctKeys}
 use Rattle.netlist_schema.specs.Design.{port_width}
-use Rattle.spelling_spec.specs.Tree.{Bare, Placed, Form', Word', Integer', String', End, More, form, word, integer, string, bare, bares}
+use Rattle.edif_spelling_spec.specs.Tree.{Bare, Placed, Form', Word', Integer', String', End, More, word, integer, string, bare}
 use Rattle.edif_spec.specs.Keyword.{same, spelling_of}
 use Rattle.edif_spec.specs.Rows.{has_keyword, those, IsFormOf, Each, Perhaps}
 use Rattle.edif_spec.specs.Canonical.{direction_word}
 use Rattle.edif_spec.specs.Means.{MeansName, MeansText, MeansBoolean, MeansNumber, MeansValue, MeansProperty, MeansDirection, MeansBusName, MeansPort, MeansInterface}
 use Rattle.netlist_schema.specs.Width.{IsWidth}
-use Rattle.edif_spec.specs.Faults.{arguments, parts, Among, RowFault, holds_name, name_of, defined, BeyondBits, counted, width_with, width_of, first_width, declared_width}
+use Rattle.edif_spec.specs.Faults.{arguments, parts, Among, RowFault, renamed, name_of, is_size, arrayed, bus_name_of, may_be_array, first_name, defined, BeyondBits, counted, width_with, width_of, first_width, declared_width}
 use Rattle.edif_spec.specs.Stands.{WordFault, NameFault, BooleanFault, NumberFault, InValue, PropertyFault, PropertiesFault, is_direction, DirectionFault, BusNameFault, PortFault, ports_in, InterfaceFault}
 use Rattle.edif_spec.specs.Stands as stands
 use Rattle.edif_spec.specs.Design as design
@@ -27,7 +27,7 @@ use Rattle.netlist_schema.specs.declared.property.Num.TheVariants as numbers
 use Rattle.netlist_schema.specs.declared.property.Value.TheVariants as values
 use Rattle.netlist_schema.specs.declared.cell.Direction.TheVariants as directions
 use Rattle.edif_spec.proofs.Groups.{same_left}
-use Rattle.edif_spec.proofs.FaultForms.{part_is, part_there, parts_are, row_apart, each_apart, perhaps_apart, each_length, beyond_apart, each_with, IsNamed, repeats_apart}
+use Rattle.edif_spec.proofs.FaultForms.{arguments_are, part_is, part_there, parts_are, row_apart, each_apart, perhaps_apart, each_length, beyond_apart, each_with, IsNamed, repeats_apart}
 
 -- a form that means something has its keyword
 pub keyword_of : (k : Keyword) (t : Bare) (fixed inner : List Bare) → IsFormOf k t fixed inner → has_keyword k t ≡ true
@@ -58,59 +58,109 @@ word_named (Form' p ts) w e = absurd (cc e)
 word_named (Integer' p z) w e = absurd (cc e)
 word_named (String' p s) w e = absurd (cc e)
 
--- a rename or an array has the name of its first argument
-inner_named : (k : Keyword) (t u : Placed) (n : List ℕ) (fixed inner : List Bare) → holds_name (spelling_of k) ≡ true → IsFormOf k (bare t) fixed inner → slice_get (arguments t) 0 ≡ Some u → (p : ℕ) × (name_of u ≡ Some (n, p)) → (p : ℕ) × (name_of t ≡ Some (n, p))
-inner_named k (Form' p (More (Word' q s) (More v vs))) u n fixed inner g h e r =
-    let w : v ≡ u = cc e in
-    let c : Form' tt (More (Word' tt s) (More (bare v) (bares vs))) ≡ form (word h.spelled ∷ (fixed ++ inner)) = h.is in
-    let d : s ≡ h.spelled = cc c in
-    let a : same s (spelling_of k) ≡ true = ap (λ x. same x (spelling_of k)) d ∙ h.keyword in
-    let b : holds_name s ≡ true = holds s (spelling_of k) a ∙ g in
-    (r.0, ap (λ x. cond x (name_of v) None) b ∙ (ap name_of w ∙ r.1))
-  where
-    holds : (a b : List ℕ) → same a b ≡ true → holds_name a ≡ holds_name b
-    holds a b e = ap (λ x. x || same a (spelling_of keywords.Array)) (same_left a b (spelling_of keywords.Rename) e) ∙ ap (λ x. same b (spelling_of keywords.Rename) || x) (same_left a b (spelling_of keywords.Array) e)
-inner_named k (Form' p (More (Word' q s) End)) u n fixed inner g h e r = absurd (cc e)
-inner_named k (Form' p (More (Form' q us) ts)) u n fixed inner g h e r = let c : form (word h.spelled ∷ (fixed ++ inner)) ≡ bare (Form' p (More (Form' q us) ts)) = sym h.is in absurd (cc c)
-inner_named k (Form' p (More (Integer' q z) ts)) u n fixed inner g h e r = let c : form (word h.spelled ∷ (fixed ++ inner)) ≡ bare (Form' p (More (Integer' q z) ts)) = sym h.is in absurd (cc c)
-inner_named k (Form' p (More (String' q z) ts)) u n fixed inner g h e r = let c : form (word h.spelled ∷ (fixed ++ inner)) ≡ bare (Form' p (More (String' q z) ts)) = sym h.is in absurd (cc c)
-inner_named k (Form' p End) u n fixed inner g h e r = absurd (cc e)
-inner_named k (Word' p w) u n fixed inner g h e r = absurd (cc e)
-inner_named k (Integer' p z) u n fixed inner g h e r = absurd (cc e)
-inner_named k (String' p s) u n fixed inner g h e r = absurd (cc e)
+-- a rename has the identifier before its text
+pub rename_listed : (ts : List Placed) (w text : List ℕ) → map bare ts ≡ word w ∷ string text ∷ [] → (p : ℕ) × (slice_get ts 0 ≡ Some (Word' p w)) × (renamed ts ≡ Some (w, p))
+rename_listed (Word' p n ∷ String' q s ∷ []) w text e = let f : n ≡ w = cc e in (p, ap (λ v. Some (Word' p v)) f, ap (λ v. Some (v, p)) f)
+rename_listed [] w text e = absurd (cc e)
+rename_listed (Form' p ts ∷ us) w text e = absurd (cc e)
+rename_listed (Integer' p z ∷ us) w text e = absurd (cc e)
+rename_listed (String' p s ∷ us) w text e = absurd (cc e)
+rename_listed (Word' p n ∷ []) w text e = absurd (cc e)
+rename_listed (Word' p n ∷ Form' q ts ∷ us) w text e = absurd (cc e)
+rename_listed (Word' p n ∷ Word' q m ∷ us) w text e = absurd (cc e)
+rename_listed (Word' p n ∷ Integer' q z ∷ us) w text e = absurd (cc e)
+rename_listed (Word' p n ∷ String' q s ∷ u ∷ us) w text e = absurd (cc e)
+
+pub rename_gives : (t : Placed) (n : List ℕ × ℕ) → has_keyword keywords.Rename (bare t) ≡ true → renamed (arguments t) ≡ Some n → name_of t ≡ Some n
+rename_gives (Form' p ts) n k e = ap (λ b. cond b (renamed (arguments (Form' p ts))) None) k ∙ e
+rename_gives (Word' p w) n k e = absurd (cc k)
+rename_gives (Integer' p z) n k e = absurd (cc k)
+rename_gives (String' p s) n k e = absurd (cc k)
 
 pub name_named : (t : Placed) (n : design.Name) → MeansName (bare t) n → (p : ℕ) × (name_of t ≡ Some (n.id, p))
 name_named t n (inl h) = word_named t n.id h.0
 name_named t n (inr h) =
-    let u = part_there keywords.Rename t (word n.id ∷ string h.0 ∷ []) [] 0 (word n.id) h.1 refl in
-    inner_named keywords.Rename t u.0 n.id (word n.id ∷ string h.0 ∷ []) [] refl h.1 u.1 (word_named u.0 n.id u.2)
+    let r = rename_listed (arguments t) n.id h.0 (arguments_are keywords.Rename t (word n.id ∷ string h.0 ∷ []) [] h.1) in
+    (r.0, rename_gives t (n.id, r.0) (keyword_of keywords.Rename (bare t) (word n.id ∷ string h.0 ∷ []) [] h.1) r.2)
 
-pub port_name_named : (t : Placed) (n : design.Name) (o : Option ℕ) → MeansBusName (bare t) n o → (p : ℕ) × (name_of t ≡ Some (n.id, p))
-port_name_named t n None h = name_named t n h
+-- an array has the name before its size
+pub width_is_size : (w : ℕ) → IsWidth w → is_size (pos w) ≡ true
+width_is_size w h = let l : 1 ≤ w = h.0 in let m : w ≤ 65536 = h.1 in grind (arith, nat_tests)
+
+pub array_listed : (ts : List Placed) (b : Bare) (z : ℤ) → is_size z ≡ true → map bare ts ≡ b ∷ integer z ∷ [] → (u : Placed) × (slice_get ts 0 ≡ Some u) × (bare u ≡ b) × (arrayed ts ≡ name_of u)
+array_listed (u ∷ Integer' p y ∷ []) b z s e = let w : y ≡ z = cc e in (u, refl, cc e, ap (λ c. cond c (name_of u) None) (ap is_size w ∙ s))
+array_listed [] b z s e = absurd (cc e)
+array_listed (u ∷ []) b z s e = absurd (cc e)
+array_listed (u ∷ Form' q ts ∷ us) b z s e = absurd (cc e)
+array_listed (u ∷ Word' q m ∷ us) b z s e = absurd (cc e)
+array_listed (u ∷ String' q x ∷ us) b z s e = absurd (cc e)
+array_listed (u ∷ Integer' q y ∷ v ∷ us) b z s e = absurd (cc e)
+
+pub array_gives : (t : Placed) (n : List ℕ × ℕ) → has_keyword keywords.Array (bare t) ≡ true → arrayed (arguments t) ≡ Some n → bus_name_of t ≡ Some n
+array_gives t n k e = ap (λ b. cond b (arrayed (arguments t)) (name_of t)) k ∙ e
+
+-- a name definition is no array
+renames_no_array : (t : Placed) → has_keyword keywords.Rename (bare t) ≡ true → has_keyword keywords.Array (bare t) ≡ false
+renames_no_array (Form' p (More (Word' q w) ts)) k = same_left w (spelling_of keywords.Rename) (spelling_of keywords.Array) k
+renames_no_array (Form' p (More (Form' q us) ts)) k = absurd (cc k)
+renames_no_array (Form' p (More (Integer' q z) ts)) k = absurd (cc k)
+renames_no_array (Form' p (More (String' q s) ts)) k = absurd (cc k)
+renames_no_array (Form' p End) k = absurd (cc k)
+renames_no_array (Word' p w) k = absurd (cc k)
+renames_no_array (Integer' p z) k = absurd (cc k)
+renames_no_array (String' p s) k = absurd (cc k)
+
+pub plain_gives : (t : Placed) (n : List ℕ × ℕ) → name_of t ≡ Some n → bus_name_of t ≡ Some n
+plain_gives (Word' p w) n e = e
+plain_gives (Integer' p z) n e = absurd (cc e)
+plain_gives (String' p s) n e = absurd (cc e)
+plain_gives (Form' p ts) n e = go (has_keyword keywords.Rename (bare (Form' p ts))) refl e
+  where
+    go : (b : Bool) → has_keyword keywords.Rename (bare (Form' p ts)) ≡ b → cond {A = Option (List ℕ × ℕ)} b (renamed (arguments (Form' p ts))) None ≡ Some n → bus_name_of (Form' p ts) ≡ Some n
+    go true k f = ap (λ b. cond b (arrayed (arguments (Form' p ts))) (name_of (Form' p ts))) (renames_no_array (Form' p ts) k) ∙ e
+    go false k f = absurd (cc f)
+
+pub port_name_named : (t : Placed) (n : design.Name) (o : Option ℕ) → MeansBusName (bare t) n o → (p : ℕ) × (bus_name_of t ≡ Some (n.id, p))
+port_name_named t n None h = let r = name_named t n h in (r.0, plain_gives t (n.id, r.0) r.1)
 port_name_named t n (Some w) h =
-    let u = part_there keywords.Array t (h.0 ∷ integer (pos w) ∷ []) [] 0 h.0 h.1 refl in
-    inner_named keywords.Array t u.0 n.id (h.0 ∷ integer (pos w) ∷ []) [] refl h.1 u.1 (name_named u.0 n (subst (λ v. MeansName v n) (sym u.2) h.2))
+    let u = array_listed (arguments t) h.0 (pos w) (width_is_size w h.3) (arguments_are keywords.Array t (h.0 ∷ integer (pos w) ∷ []) [] h.1) in
+    let r = name_named u.0 n (subst (λ v. MeansName v n) (sym u.2) h.2) in
+    (r.0, array_gives t (n.id, r.0) (keyword_of keywords.Array (bare t) (h.0 ∷ integer (pos w) ∷ []) [] h.1) (u.3 ∙ r.1))
 
-pub defined_first : (t u : Placed) → slice_get (arguments t) 0 ≡ Some u → defined t ≡ name_of u
-defined_first (Form' p (More k (More v vs))) u e = let w : v ≡ u = cc e in ap name_of w
-defined_first (Form' p (More k End)) u e = absurd (cc e)
-defined_first (Form' p End) u e = absurd (cc e)
-defined_first (Word' p w) u e = absurd (cc e)
-defined_first (Integer' p z) u e = absurd (cc e)
-defined_first (String' p s) u e = absurd (cc e)
+-- a form defines the identifier of its first argument
+first_plain : (array : Bool) (ts : List Placed) (u : Placed) (n : List ℕ × ℕ) → slice_get ts 0 ≡ Some u → name_of u ≡ Some n → first_name array ts ≡ Some n
+first_plain array [] u n a e = absurd (cc a)
+first_plain true (v ∷ ts) u n a e = let w : v ≡ u = cc a in ap bus_name_of w ∙ plain_gives u n e
+first_plain false (v ∷ ts) u n a e = let w : v ≡ u = cc a in ap name_of w ∙ e
+
+pub defined_first : (t u : Placed) (n : List ℕ × ℕ) → slice_get (arguments t) 0 ≡ Some u → name_of u ≡ Some n → defined t ≡ Some n
+defined_first t u n a e = first_plain (may_be_array (bare t)) (arguments t) u n a e
+
+first_bus : (ts : List Placed) (u : Placed) (n : List ℕ × ℕ) → slice_get ts 0 ≡ Some u → bus_name_of u ≡ Some n → first_name true ts ≡ Some n
+first_bus [] u n a e = absurd (cc a)
+first_bus (v ∷ ts) u n a e = let w : v ≡ u = cc a in ap bus_name_of w ∙ e
+
+pub defined_bus : (t u : Placed) (n : List ℕ × ℕ) → may_be_array (bare t) ≡ true → slice_get (arguments t) 0 ≡ Some u → bus_name_of u ≡ Some n → defined t ≡ Some n
+defined_bus t u n k a e = ap (λ b. first_name b (arguments t)) k ∙ first_bus (arguments t) u n a e
+
+pub port_may : (t : Placed) → has_keyword keywords.Port (bare t) ≡ true → may_be_array (bare t) ≡ true
+port_may t k = or_left (has_keyword keywords.Port (bare t)) (has_keyword keywords.Net (bare t)) k
+
+pub net_may : (t : Placed) → has_keyword keywords.Net (bare t) ≡ true → may_be_array (bare t) ≡ true
+net_may t k = or_right (has_keyword keywords.Port (bare t)) (has_keyword keywords.Net (bare t)) k
 
 -- a form whose first argument means a name defines its identifier
 pub form_named : (k : Keyword) (t : Placed) (part : Bare) (fixed inner : List Bare) (n : design.Name) → IsFormOf k (bare t) (part ∷ fixed) inner → MeansName part n → IsNamed t n.id
 form_named k t part fixed inner n h m =
     let u = part_there k t (part ∷ fixed) inner 0 part h refl in
     let r = name_named u.0 n (subst (λ v. MeansName v n) (sym u.2) m) in
-    (r.0, defined_first t u.0 u.1 ∙ r.1)
+    (r.0, defined_first t u.0 (n.id, r.0) u.1 r.1)
 
 pub port_named : (t : Placed) (p : design.Port) → MeansPort (bare t) p → IsNamed t p.name.id
 port_named t p h =
     let u = part_there keywords.Port t (h.name_part ∷ []) h.inner 0 h.name_part h.form refl in
     let r = port_name_named u.0 p.name p.array (subst (λ v. MeansBusName v p.name p.array) (sym u.2) h.name) in
-    (r.0, defined_first t u.0 u.1 ∙ r.1)
+    (r.0, defined_bus t u.0 (p.name.id, r.0) (port_may t (keyword_of keywords.Port (bare t) (h.name_part ∷ []) h.inner h.form)) u.1 r.1)
 
 -- properties
 boolean_apart : (t : Placed) (b : Bool) (f : MeaningFault) → MeansBoolean (bare t) b → BooleanFault t f → ⊥

@@ -10,7 +10,7 @@ use Rattle.netlist_schema.specs.Hierarchy.{IsCell}
 use Rattle.netlist_schema.specs.Names.{AreDistinct, HasDistinctKeys, note_key, cell_names}
 use Rattle.netlist_schema.specs.Valid.{IsValid}
 use Rattle.netlist_schema.proofs.Lists.{map_drop, get_mapped, all_at, all_from_places}
-use Rattle.spelling_spec.specs.Tree.{Bare, Placed, form, word, integer, bare}
+use Rattle.edif_spelling_spec.specs.Tree.{Bare, Placed, form, word, integer, bare}
 use Rattle.edif_spec.specs.Keyword.{same, spelling_of, the}
 use Rattle.edif_spec.specs.Rows.{has_keyword, those, is_one_of, is_follower, IsFormOf, EachAfter}
 use Rattle.edif_spec.specs.Canonical.{library_keyword}

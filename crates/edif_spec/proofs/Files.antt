@@ -5,7 +5,7 @@ use Rattle.std.specs.List.{list_all}
 use Rattle.std.proofs.lemmas.List.Elements.{filter-append}
 use Rattle.std.proofs.Math.Seq.{take-length}
 use Rattle.std.proofs.lemmas.List.{length-map}
-use Rattle.spelling_spec.specs.Tree.{Bare, form, word, integer}
+use Rattle.edif_spelling_spec.specs.Tree.{Bare, form, word, integer}
 use Rattle.edif_spec.specs.Keyword.{Follower, Many, One, name_definition}
 use Rattle.edif_spec.specs.Rows.{has_keyword, those, is_follower, is_one_of, IsFormOf, Perhaps, EachAfter}
 use Rattle.edif_spec.specs.Canonical.{make, perhaps, name_tree, cell_tree, library_tree, library_keyword, zero_tree, design_tree, tree_of}

@@ -18,10 +18,10 @@ use Rattle.netlist_schema.specs.declared.property.Num.TheVariants as numbers
 use Rattle.netlist_schema.specs.declared.property.Value.TheVariants as values
 use Rattle.netlist_schema.proofs.Cells.{All-slice_get, All-cell_at}
 use Rattle.netlist_schema.proofs.Lists.{all_weaker, all_at, all_from_places, some_of}
-use Rattle.spelling_spec.specs.Names.{is_name}
-use Rattle.spelling_spec.specs.Spelling.{Spells}
-use Rattle.spelling_spec.specs.Tree.{Bare, form, word, integer, string, trees, depth, depths}
-use Rattle.spelling_spec.proofs.RowLemmas.{identifier-from_is_name}
+use Rattle.edif_spelling_spec.specs.Names.{is_name}
+use Rattle.edif_spelling_spec.specs.Spelling.{Spells}
+use Rattle.edif_spelling_spec.specs.Tree.{Bare, form, word, integer, string, trees, depth, depths}
+use Rattle.edif_spelling_spec.proofs.RowLemmas.{identifier-from_is_name}
 use Rattle.edif_spec.proofs.ArrangeOrder.{zip_all}
 use Rattle.edif_spec.specs.Canonical.{make, perhaps, name_tree, name_with, number_tree, boolean_tree, value_tree, text_tree, property_tree, direction_word, direction_tree, port_name_tree, port_tree, cell_ref_tree, inst_tree, ports_of_end, bit_tree, bits_tree, end_tree, net_tree, contents_tree, kind_word, interface_tree, view_tree, cell_tree, zero_tree, library_keyword, library_tree, note_tree, design_tree, tree_of, text_as_listed}
 use Rattle.edif_spec.specs.Design as design

@@ -2,7 +2,7 @@
 use Rattle.std.proofs.Common.{◌≡◌, ◌≤◌, List, [], ◌∷◌, ◌++◌, map, length, refl, ap, Bool, true, false, Option, Some, None, arith}
 use Rattle.std.specs.Prelude.{IsTrue, filter}
 use Rattle.std.specs.List.{list_all, AllByRecursion}
-use Rattle.spelling_spec.specs.Tree.{Bare}
+use Rattle.edif_spelling_spec.specs.Tree.{Bare}
 use Rattle.edif_spec.specs.Rows.{Each, Perhaps}
 use Rattle.edif_spec.specs.Canonical.{perhaps}
 use Rattle.edif_spec.proofs.Both.{both, and_true}

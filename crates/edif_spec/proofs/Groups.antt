@@ -5,7 +5,7 @@ use Rattle.std.specs.List.{list_all, AllByRecursion}
 use Rattle.std.proofs.lemmas.Bool.Decides.{nat_tests}
 use Rattle.std.proofs.lemmas.List.Elements.{filter-append}
 use Rattle.std.specs.Char.{to_ascii_lowercase}
-use Rattle.spelling_spec.specs.Tree.{Bare, Form', Word', Integer', String', End, More}
+use Rattle.edif_spelling_spec.specs.Tree.{Bare, Form', Word', Integer', String', End, More}
 use Rattle.edif_spec.specs.Rows.{has_keyword, those, is_follower}
 use Rattle.edif_spec.specs.Keyword.{Follower, Many, One, same, spelling_of}
 use Rattle.edif_spec.specs.declared.keyword.Keyword.{Keyword}

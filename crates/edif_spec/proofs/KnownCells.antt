@@ -9,7 +9,7 @@ use Rattle.std.proofs.lemmas.List.{length-map}
 use Rattle.netlist_schema.specs.Design.{insts_of, nets_of as nets_of_cell, insts_in as insts_inside, nets_in as nets_inside}
 use Rattle.netlist_schema.specs.Names.{AreDistinct, HasDistinctKeys}
 use Rattle.netlist_schema.specs.Typed.{IsBytes, IsTypedName, IsTypedProperty, IsTypedPort, IsTypedInst, IsTypedNet, IsTypedContents, IsTypedCell}
-use Rattle.spelling_spec.specs.Tree.{Bare, Placed, Form', Word', Integer', String', word, integer, bare}
+use Rattle.edif_spelling_spec.specs.Tree.{Bare, Placed, Form', Word', Integer', String', word, integer, bare}
 use Rattle.edif_spec.specs.Keyword.{same, Choice, AnIdentifier, AnInteger, AForm, Follower, Many, One, name_definition, bus_name, identifier, the}
 use Rattle.edif_spec.specs.Keyword as keyword
 use Rattle.edif_spec.specs.Rows.{has_keyword, those, is_one_of, IsFormOf, Each, Perhaps, Just}

@@ -11,7 +11,7 @@ use Rattle.netlist_schema.specs.Typed.{IsTypedName, IsTypedProperty, IsTypedCell
 use Rattle.netlist_schema.specs.Valid.{IsValid, IsNoteBelow}
 use Rattle.netlist_schema.proofs.Lists.{some_of, all_weaker}
 use Rattle.netlist_schema.proofs.WithCell.{IfSome-weaker}
-use Rattle.spelling_spec.specs.Tree.{Bare, Placed, bare}
+use Rattle.edif_spelling_spec.specs.Tree.{Bare, Placed, bare}
 use Rattle.edif_spec.specs.Keyword.{Choice, Many, One, name_definition, the}
 use Rattle.edif_spec.specs.Rows.{has_keyword, those, is_one_of, IsFormOf, EachAfter, Perhaps}
 use Rattle.edif_spec.specs.Means.{MeansLibrary, is_library, is_note, MeansDesign, MeansCellRef, before_design, libs_before_design, MeansFile}

@@ -7,7 +7,7 @@ use Rattle.std.proofs.lemmas.Bool.Decides.{nat_tests}
 use Rattle.std.proofs.lemmas.Bool.{cases_Bool}
 use Rattle.std.proofs.lemmas.List.{length-map, map-append}
 use Rattle.netlist_schema.specs.Names.{AreDistinct}
-use Rattle.spelling_spec.specs.Tree.{Bare, Placed, Trees, Form', Word', Integer', String', End, More, form, word, trees, items, bare, bares}
+use Rattle.edif_spelling_spec.specs.Tree.{Bare, Placed, Trees, Form', Word', Integer', String', End, More, form, word, trees, items, bare, bares}
 use Rattle.edif_spec.specs.Keyword.{row, Row, Takes, Choice, AnIdentifier, AnInteger, AString, AForm, Follower, Many, One}
 use Rattle.edif_spec.specs.Rows.{has_keyword, those, is_one_of, is_follower, AtMostOnce, FitsRow, IsFormOf, Each, EachAfter, Perhaps}
 use Rattle.edif_spec.specs.Writable.{IsWritable, AreWritable}

@@ -12,7 +12,7 @@ use Rattle.netlist_schema.specs.Typed.{IsTypedCell, IsTypedInst}
 use Rattle.netlist_schema.specs.Valid.{IsValidCell, HasBit, IsEndAt, IsEndOf, IsNoteBelow}
 use Rattle.netlist_schema.proofs.Cells.{cell_of_inst, ranked_has_no_cycle}
 use Rattle.netlist_schema.proofs.Lists.{some_of, all_weaker, all_at, all_append}
-use Rattle.spelling_spec.specs.Tree.{Bare}
+use Rattle.edif_spelling_spec.specs.Tree.{Bare}
 use Rattle.edif_spec.proofs.CellPlaces.{lib_of_cell}
 use Rattle.edif_spec.specs.Rows.{those, Each, EachAfter, Perhaps, Just}
 use Rattle.edif_spec.specs.Canonical.{ports_of_end}

@@ -8,13 +8,13 @@ use Rattle.std.specs.List.{list_all}
 use Rattle.std.proofs.lemmas.Bool.Decides.{nat_tests}
 use Rattle.std.proofs.lemmas.Fmt.{decimal_is_IsNumeral}
 use Rattle.netlist_schema.specs.Ident.{IsIdentifier}
-use Rattle.spelling_spec.specs.Bytes.{is_space, is_word_byte, EndsRun}
-use Rattle.spelling_spec.specs.Grammar.{BeginsWithNoDigit, SpellsName, SpellsInteger, SpellsToken, EndsBefore}
-use Rattle.spelling_spec.specs.Spelling.{SpellsTokens, IsForm, Spells}
-use Rattle.spelling_spec.specs.Tree.{Bare, Trees, Form', Word', Integer', String', End, More, listing, listings, depth}
-use Rattle.spelling_spec.specs.declared.token.TokenKind.{TokenKind}
-use Rattle.spelling_spec.specs.declared.token.TokenKind.TheVariants.{LeftParen, RightParen, Word, Integer, String}
-use Rattle.spelling_spec.proofs.FaultLemmas.{all_append}
+use Rattle.edif_spelling_spec.specs.Bytes.{is_space, is_word_byte, EndsRun}
+use Rattle.edif_spelling_spec.specs.Grammar.{BeginsWithNoDigit, SpellsName, SpellsInteger, SpellsToken, EndsBefore}
+use Rattle.edif_spelling_spec.specs.Spelling.{SpellsTokens, IsForm, Spells}
+use Rattle.edif_spelling_spec.specs.Tree.{Bare, Trees, Form', Word', Integer', String', End, More, listing, listings, depth}
+use Rattle.edif_spelling_spec.specs.declared.token.TokenKind.{TokenKind}
+use Rattle.edif_spelling_spec.specs.declared.token.TokenKind.TheVariants.{LeftParen, RightParen, Word, Integer, String}
+use Rattle.edif_spelling_spec.proofs.FaultLemmas.{all_append}
 use Rattle.edif_spec.specs.Canonical.{name_text, string_text, new_line, layout, layouts, on_line}
 use Rattle.edif_spec.specs.Writable.{IsWritable, AreWritable}
 use Rattle.edif_spec.proofs.StringLemmas.{string_spelled}

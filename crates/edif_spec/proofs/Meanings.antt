@@ -2,7 +2,7 @@
 use Rattle.std.proofs.Common.{◌≡◌, ℕ, pos, List, [], ◌∷◌, map, refl, inl, inr, Bool, true, false, Option, Some, None, arith}
 use Rattle.std.specs.Prelude.{IsTrue, IfSome, codes}
 use Rattle.std.specs.List.{list_all, AllByRecursion}
-use Rattle.spelling_spec.specs.Tree.{Bare, word, integer, string}
+use Rattle.edif_spelling_spec.specs.Tree.{Bare, word, integer, string}
 use Rattle.edif_spec.specs.Keyword.{spelling_of, same, row, Follower, Many, One, AnIdentifier, AnInteger, AForm, name_definition}
 use Rattle.edif_spec.specs.Rows.{has_keyword, is_follower, is_one_of, FitsRow, Each, Perhaps}
 use Rattle.edif_spec.specs.Canonical.{zero_tree, interface_tree, contents_tree, view_tree, kind_word, cell_tree, make, perhaps, name_tree, name_with, number_tree, boolean_tree, value_tree, text_tree, property_tree, direction_word, direction_tree, port_name_tree, port_tree}

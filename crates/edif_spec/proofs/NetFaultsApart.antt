@@ -3,7 +3,7 @@ use Rattle.std.proofs.Common.{◌≡◌, ℕ, ◌<◌, pos, List, [], ◌∷◌,
 use Rattle.std.specs.Prelude.{IsTrue, cond, IfSome}
 use Rattle.std.specs.List.{AllZip, AllByRecursion, flat_map, list_all}
 use Rattle.netlist_schema.specs.Names.{HasDistinctKeys}
-use Rattle.spelling_spec.specs.Tree.{Bare, Placed, Word', Integer', word, integer, bare}
+use Rattle.edif_spelling_spec.specs.Tree.{Bare, Placed, Word', Integer', word, integer, bare}
 use Rattle.edif_spec.proofs.KnownForms.{only}
 use Rattle.edif_spec.specs.Keyword.{Many}
 use Rattle.edif_spec.specs.Rows.{has_keyword, those, is_follower, IsFormOf, Each, Perhaps}
@@ -21,7 +21,7 @@ use Rattle.edif_spec.proofs.Both.{both}
 use Rattle.edif_spec.proofs.Once.{perhaps_once, word_no_form, port_name_once}
 use Rattle.edif_spec.proofs.OnceFile.{library_ref_once, cell_ref_once, inst_ref_once, end_once}
 use Rattle.edif_spec.proofs.FaultForms.{part_is, part_there, parts_are, row_apart, each_apart, perhaps_apart, each_with, IsNamed}
-use Rattle.edif_spec.proofs.FaultsApart.{defined_first, keyword_of, word_no_keyword, name_apart, name_width, port_name_apart, port_name_named, texts_apart, properties_apart, form_named, free_all}
+use Rattle.edif_spec.proofs.FaultsApart.{defined_bus, net_may, keyword_of, word_no_keyword, name_apart, name_width, port_name_apart, port_name_named, texts_apart, properties_apart, form_named, free_all}
 
 -- references
 pub dangles_apart : (scope : List (List ℕ)) (u : Placed) (w : List ℕ) (i : ℕ) (f : MeaningFault) → bare u ≡ word w → meant scope w ≡ Found i → Dangles scope u f → ⊥
@@ -184,7 +184,7 @@ pub net_named : (libs : List design.Lib) (ports : List design.Port) (insts : Lis
 net_named libs ports insts t x h =
     let u = part_there keywords.Net t (h.name_part ∷ h.joined_part ∷ []) h.inner 0 h.name_part h.form refl in
     let r = port_name_named u.0 x.name x.array (subst (λ v. MeansBusName v x.name x.array) (sym u.2) h.name) in
-    (r.0, defined_first t u.0 u.1 ∙ r.1)
+    (r.0, defined_bus t u.0 (x.name.id, r.0) (net_may t (keyword_of keywords.Net (bare t) (h.name_part ∷ h.joined_part ∷ []) h.inner h.form)) u.1 r.1)
 
 pub net_declares : (libs : List design.Lib) (ports : List design.Port) (insts : List design.Inst) (t : Placed) (x : NetForm) → MeansNet libs ports insts (bare t) x → declared_width t ≡ row_size x.array
 net_declares libs ports insts t x h =

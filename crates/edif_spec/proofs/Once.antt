@@ -1,7 +1,7 @@
 -- A tree means one design at most.
 use Rattle.std.proofs.Common.{◌≡◌, ℕ, ℤ, pos, List, [], ◌∷◌, ◌++◌, length, refl, ap, sym, ◌∙◌, subst, inl, inr, Bool, true, false, Option, Some, None, arith}
 use Rattle.std.specs.Prelude.{IsTrue}
-use Rattle.spelling_spec.specs.Tree.{Bare, form, word, integer, string, trees, items, Form'}
+use Rattle.edif_spelling_spec.specs.Tree.{Bare, form, word, integer, string, trees, items, Form'}
 use Rattle.edif_spec.specs.Keyword.{spelling_of, same, row, Row, Takes, Skips}
 use Rattle.edif_spec.specs.Rows.{those, is_one_of, FitsRow, IsFormOf, Each, Perhaps, EachAfter}
 use Rattle.edif_spec.specs.Means.{MeansName, MeansText, MeansBoolean, MeansNumber, MeansValue, MeansProperty, MeansProperties, MeansDirection, MeansBusName, MeansPort}

@@ -1,7 +1,7 @@
 -- A tree means one design at most: from interfaces to whole files.
 use Rattle.std.proofs.Common.{◌≡◌, ℕ, pos, List, [], ◌∷◌, ◌++◌, length, refl, ap, sym, ◌∙◌, subst, inl, inr, Bool, true, false, Option, Some, None}
 use Rattle.std.specs.Prelude.{IfNone, filter, slice_get}
-use Rattle.spelling_spec.specs.Tree.{Bare, form, word, integer}
+use Rattle.edif_spelling_spec.specs.Tree.{Bare, form, word, integer}
 use Rattle.edif_spec.specs.Keyword.{same}
 use Rattle.edif_spec.specs.Rows.{those, IsFormOf, Each, Perhaps, EachAfter, Just}
 use Rattle.edif_spec.specs.Means.{MeansName, MeansText, MeansProperty, MeansPort, MeansInterface, MeansLibraryRef, MeansCellRef, MeansViewRef, MeansBusName, MeansInst, MeansInstRef, MeansBits, MeansEnd, MeansNet, MeansContents, MeansView, MeansKind, MeansCell, MeansLibrary, MeansPath, MeansNote, MeansDesign, MeansFile, Found, meant, width_at, is_library, libs_before_design, is_note}

@@ -9,7 +9,7 @@ use Rattle.netlist_schema.specs.Design.{insts_in}
 use Rattle.netlist_schema.proofs.Lists.{some_of}
 use Rattle.edif_spec.specs.Arranged.{is_written, is_ready, first_ready, order_from, order_of, orders_from, place_in, new_id, new_inst, new_contents, new_cell, new_top, new_cells, new_libs, arranged}
 use Rattle.edif_spec.specs.Defined.{AllAfter, DefinedBefore}
-use Rattle.order_spec.proofs.Places.{range}
+use Rattle.netlist_order_spec.proofs.Places.{range}
 use Rattle.edif_spec.specs.Design as design
 use Rattle.edif_spec.proofs.CellPlaces.{get_after, length_last, any_append, lib_of_cell}
 

@@ -2,9 +2,9 @@
 use Rattle.std.proofs.Common.{◌≡◌, List, subst}
 use Prim.Native.Nat.{ℕ}
 use Rattle.netlist_schema.specs.Valid.{IsValid}
-use Rattle.spelling_spec.specs.Spelling.{Spells}
-use Rattle.spelling_spec.specs.Tree.{Bare}
-use Rattle.spelling_spec.proofs.SpelledTokens.{same_tree}
+use Rattle.edif_spelling_spec.specs.Spelling.{Spells}
+use Rattle.edif_spelling_spec.specs.Tree.{Bare}
+use Rattle.edif_spelling_spec.proofs.SpelledTokens.{same_tree}
 use Rattle.edif_spec.specs.Arranged.{arranged, canonical_text}
 use Rattle.edif_spec.specs.Canonical.{tree_of}
 use Rattle.edif_spec.specs.Design.{Design}

@@ -6,13 +6,13 @@ use Rattle.std.proofs.Math.Nat.{mul_comm, suc-mul}
 use Rattle.std.proofs.lemmas.List.{length-map, length-replicate}
 use Rattle.std.proofs.lemmas.Grind.{flat_map-append}
 use Rattle.netlist_schema.specs.Names.{HasDistinctKeys}
-use Rattle.netlist_schema.specs.Typed.{IsTypedName, IsTypedNet, IsTypedProperty}
+use Rattle.netlist_schema.specs.Typed.{IsTypedName, IsTypedNet}
 use Rattle.netlist_schema.specs.Width.{IsWidth}
 use Rattle.netlist_schema.proofs.Lists.{all_append}
-use Rattle.spelling_spec.specs.Tree.{Bare, Placed, integer, bare}
+use Rattle.edif_spelling_spec.specs.Tree.{Bare, Placed, integer, bare}
 use Rattle.std.specs.Prelude.{pos}
-use Rattle.bus_spec.specs.Members.{numbered}
-use Rattle.bus_spec.proofs.MemberNames.{member_typed}
+use Rattle.netlist_bus_spec.specs.Members.{numbered}
+use Rattle.netlist_bus_spec.proofs.MemberNames.{member_typed}
 use Rattle.edif_spec.proofs.CellPlaces.{all_append_parts}
 use Rattle.edif_spec.specs.Faults.{declared_width, defined, repeated}
 use Rattle.edif_spec.specs.Means.{MeansBusName, MeansEnd, MeansNet}

@@ -6,11 +6,11 @@ use Rattle.std.specs.List.{AllByRecursion}
 use Rattle.std.proofs.lemmas.List.Elements.{All-from_recursion, recursion_from_All}
 use Rattle.netlist_schema.specs.Ident.{IsIdentifier}
 use Rattle.netlist_schema.specs.Typed.{IsBytes}
-use Rattle.spelling_spec.specs.Grammar.{SpellsToken, SpellsString, StandsFor, IsCodes}
-use Rattle.spelling_spec.specs.Spelling.{SpellsTokens, Spells}
-use Rattle.spelling_spec.specs.Tree.{Bare, Trees, Form', Word', Integer', String', End, More, listing, listings}
-use Rattle.spelling_spec.specs.declared.token.TokenKind.{TokenKind}
-use Rattle.spelling_spec.specs.declared.token.TokenKind.TheVariants.{LeftParen, RightParen, Word, Integer, String}
+use Rattle.edif_spelling_spec.specs.Grammar.{SpellsToken, SpellsString, StandsFor, IsCodes}
+use Rattle.edif_spelling_spec.specs.Spelling.{SpellsTokens, Spells}
+use Rattle.edif_spelling_spec.specs.Tree.{Bare, Trees, Form', Word', Integer', String', End, More, listing, listings}
+use Rattle.edif_spelling_spec.specs.declared.token.TokenKind.{TokenKind}
+use Rattle.edif_spelling_spec.specs.declared.token.TokenKind.TheVariants.{LeftParen, RightParen, Word, Integer, String}
 use Rattle.edif_spec.specs.Writable.{IsWritable, AreWritable}
 
 -- bytes, by recursion

@@ -9,9 +9,9 @@ use Rattle.std.proofs.lemmas.Bool.Decides.{nat_tests}
 use Rattle.std.proofs.lemmas.Fmt.{decimal_is_IsNumeral}
 use Rattle.std.proofs.lemmas.List.Elements.{recursion_from_All}
 use Rattle.netlist_schema.specs.Typed.{IsBytes}
-use Rattle.spelling_spec.specs.Bytes.{is_quote, is_percent, is_unquoted, has_no_percent}
-use Rattle.spelling_spec.specs.Grammar.{EndsCode, IsCodes, StandsFor, SpellsString}
-use Rattle.spelling_spec.proofs.FaultLemmas.{all_append}
+use Rattle.edif_spelling_spec.specs.Bytes.{is_quote, is_percent, is_unquoted, has_no_percent}
+use Rattle.edif_spelling_spec.specs.Grammar.{EndsCode, IsCodes, StandsFor, SpellsString}
+use Rattle.edif_spelling_spec.proofs.FaultLemmas.{all_append}
 use Rattle.edif_spec.specs.Canonical.{string_text, plain_text, coded_text, is_plain}
 
 -- The codes that are open go on in these bytes, and end with a `%`, behind which stands what the rest stands for.

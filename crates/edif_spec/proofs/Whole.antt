@@ -4,7 +4,7 @@ use Rattle.std.specs.Prelude.{IfSome, codes, slice_get, option_map, unwrap_or, f
 use Rattle.std.specs.List.{AllByRecursion}
 use Rattle.std.proofs.lemmas.List.Elements.{filter-append}
 use Rattle.netlist_schema.proofs.Lists.{some_of, get_mapped, all_at}
-use Rattle.spelling_spec.specs.Tree.{Bare, word}
+use Rattle.edif_spelling_spec.specs.Tree.{Bare, word}
 use Rattle.edif_spec.proofs.CellPlaces.{lib_of_cell}
 use Rattle.edif_spec.specs.Keyword.{Many}
 use Rattle.edif_spec.specs.Rows.{Perhaps}

@@ -5,10 +5,10 @@ use Rattle.std.specs.List.{AllByRecursion, flat_map}
 use Rattle.std.proofs.lemmas.Bool.Decides.{nat_tests}
 use Rattle.netlist_schema.specs.Typed.{IsTypedName}
 use Rattle.netlist_schema.specs.Width.{IsWidth}
-use Rattle.bus_spec.specs.Members.{numbered}
-use Rattle.bus_spec.specs.Runs.{row_net, run_name, run_width, with_bit}
-use Rattle.bus_spec.proofs.Fronts.{Front, front_there}
-use Rattle.bus_spec.proofs.MemberNames.{run_name_typed}
+use Rattle.netlist_bus_spec.specs.Members.{numbered}
+use Rattle.netlist_bus_spec.specs.Runs.{row_net, run_name, run_width, with_bit}
+use Rattle.netlist_bus_spec.proofs.Fronts.{Front, front_there}
+use Rattle.netlist_bus_spec.proofs.MemberNames.{run_name_typed}
 use Rattle.edif_spec.proofs.KnownForms.{split}
 use Rattle.edif_spec.specs.Design as design
 use Rattle.edif_spec.specs.Nets.{NetForm, Stretch, bit_of, end_of, form_of, forms_behind, name_at, net_at, net_forms, nets_of, run_form, single_form, whole_of}

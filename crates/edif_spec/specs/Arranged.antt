@@ -1,6 +1,6 @@
 -- The design with the cells of each library in the order in which they are written, and the ids renumbered to fit.
 use Rattle.std.specs.Prelude.{ℕ, suc, List, [], ◌∷◌, map, filter_map, slice_get, option_map, unwrap_or, nat_eq, if◌then◌else◌}
-pub use Rattle.order_spec.specs.Order.{is_written, is_ready, first_ready, order_from, order_of}
+pub use Rattle.netlist_order_spec.specs.Order.{is_written, is_ready, first_ready, order_from, order_of}
 use Rattle.edif_spec.specs.Canonical.{text_as_listed}
 use Rattle.edif_spec.specs.Design as design
 

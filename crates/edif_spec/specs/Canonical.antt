@@ -1,7 +1,7 @@
 -- The canonical text of a design: its tree, and how a tree is laid out in lines.
 use Rattle.std.specs.Prelude.{ℕ, zero, suc, pos, Bool, true, false, ◌&&◌, ◌||◌, nat_eq, nat_le, if◌then◌else◌, List, [], ◌∷◌, ◌++◌, map, replicate, Option, Some, None, option_map, unwrap_or, slice_get, decimal, codes}
 use Rattle.std.specs.Fmt.{signed_decimal}
-use Rattle.spelling_spec.specs.Tree.{Bare, Trees, Form', Word', Integer', String', End, More, form, word, integer, string}
+use Rattle.edif_spelling_spec.specs.Tree.{Bare, Trees, Form', Word', Integer', String', End, More, form, word, integer, string}
 use Rattle.std.specs.Char.{is_ascii_alphabetic}
 use Rattle.edif_spec.specs.Keyword.{spelling_of, same}
 use Rattle.edif_spec.specs.declared.keyword.Keyword.{Keyword}

@@ -1,7 +1,7 @@
 -- Cells that are defined before they are placed.
 use Rattle.std.specs.Prelude.{[], ◌∷◌, ◌++◌, IsSome}
 use Rattle.std.specs.List.{AllByRecursion}
-pub use Rattle.order_spec.specs.After.{AllAfter}
+pub use Rattle.netlist_order_spec.specs.After.{AllAfter}
 use Rattle.edif_spec.specs.Design as design
 
 -- Each cell that is placed is defined before the cell that places it.

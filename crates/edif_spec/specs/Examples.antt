@@ -1,6 +1,6 @@
 -- Small files as trees with places. A part of a file is named by the file in which it stands first, and its place.
 use Rattle.std.specs.Prelude.{ℕ, zero, suc, ◌+◌, ◌*◌, ◌/◌, ◌%◌, pos, codes, List, [], ◌∷◌}
-use Rattle.spelling_spec.specs.Tree.{Placed, Form', Word', Integer', String', End, More, trees}
+use Rattle.edif_spelling_spec.specs.Tree.{Placed, Form', Word', Integer', String', End, More, trees}
 
 -- `(edifVersion 2 0 1)`, at byte 8
 abbrev pub bad_version_8 : Placed

@@ -1,9 +1,9 @@
 -- What may be wrong with a form by itself: breaches of its row, names that repeat, limits. Places are the numbers beside the nodes.
-use Rattle.std.specs.Prelude.{◌≡◌, ℕ, ◌+◌, ◌<◌, ◌≤◌, ◌⊎◌, pos, List, [], ◌∷◌, length, filter, drop, replicate, Bool, true, false, ◌&&◌, ◌||◌, nat_le, Option, Some, None, IsTrue, slice_get, if◌then◌else◌}
+use Rattle.std.specs.Prelude.{◌≡◌, ℕ, ◌+◌, ◌<◌, ◌≤◌, ◌⊎◌, ℤ, pos, negsuc, List, [], ◌∷◌, length, filter, drop, replicate, Bool, true, false, ◌&&◌, ◌||◌, nat_le, Option, Some, None, IsTrue, slice_get, if◌then◌else◌}
 use Rattle.std.specs.List.{list_any, flat_map}
 use Rattle.netlist_schema.specs.declared.limits.TheConstants.{MOST_WIDTH}
-use Rattle.spelling_spec.specs.Tree.{Bare, Placed, Trees, Form', Word', Integer', String', End, More, bare, items}
-use Rattle.edif_spec.specs.Keyword.{spelling_of, same, row, Row, Takes, Skips, Choice, Follower, Many, One}
+use Rattle.edif_spelling_spec.specs.Tree.{Bare, Placed, Form', Word', Integer', String', More, bare, items}
+use Rattle.edif_spec.specs.Keyword.{row, Row, Takes, Skips, Choice, Follower, Many, One}
 use Rattle.edif_spec.specs.Rows.{has_keyword, is_one_of, is_follower}
 use Rattle.edif_spec.specs.declared.keyword.Keyword.{Keyword}
 use Rattle.edif_spec.specs.declared.keyword.Keyword.TheVariants as keywords
@@ -116,25 +116,43 @@ Breaches kind (Takes choices fs) t f = FixedFault (misplaced kind (Takes choices
 abbrev pub RowFault : Keyword → Placed → MeaningFault → Type 0
 RowFault k t f = Breaches (token_kind k) (row k) t f
 
--- `rename` and `array` have a name definition as their first argument
-abbrev pub holds_name : List ℕ → Bool
-holds_name k = same k (spelling_of keywords.Rename) || same k (spelling_of keywords.Array)
+-- the identifier that a rename has before its text, and the identifier's place
+abbrev pub renamed : List Placed → Option (List ℕ × ℕ)
+renamed (Word' p name ∷ String' q text ∷ []) = Some (name, p)
+renamed _ = None
 
--- the identifier of a name definition, and its place
-abbrev mutual
-  pub name_of : Placed → Option (List ℕ × ℕ)
-  name_of (Word' p name) = Some (name, p)
-  name_of (Form' p (More (Word' q k) ts)) = if holds_name k then first_name ts else None
-  name_of _ = None
+-- the identifier of a name definition, and its place: an identifier by itself, or that of a rename
+abbrev pub name_of : Placed → Option (List ℕ × ℕ)
+name_of (Word' p name) = Some (name, p)
+name_of t = if has_keyword keywords.Rename (bare t) then renamed (arguments t) else None
 
-  pub first_name : Trees ℕ → Option (List ℕ × ℕ)
-  first_name End = None
-  first_name (More t ts) = name_of t
+-- a size that the array of a port or of a net may have
+abbrev pub is_size : ℤ → Bool
+is_size (pos n) = nat_le 1 n && nat_le n MOST_WIDTH
+is_size (negsuc n) = false
 
--- the identifier that a form defines, and its place: that of its first argument
+-- the identifier of the name definition that an array has before its size, and the identifier's place
+abbrev pub arrayed : List Placed → Option (List ℕ × ℕ)
+arrayed (t ∷ Integer' p size ∷ []) = if is_size size then name_of t else None
+arrayed _ = None
+
+-- the same of the name of a port or of a net: a name definition, or an array
+abbrev pub bus_name_of : Placed → Option (List ℕ × ℕ)
+bus_name_of t = if has_keyword keywords.Array (bare t) then arrayed (arguments t) else name_of t
+
+-- a port and a net may have the name of an array
+abbrev pub may_be_array : Bare → Bool
+may_be_array t = has_keyword keywords.Port t || has_keyword keywords.Net t
+
+-- the identifier of the first argument as a name, which may be that of an array or not
+abbrev pub first_name : Bool → List Placed → Option (List ℕ × ℕ)
+first_name array [] = None
+first_name true (t ∷ ts) = bus_name_of t
+first_name false (t ∷ ts) = name_of t
+
+-- the identifier that a form defines, and its place: that of its first argument, where this is a name definition
 abbrev pub defined : Placed → Option (List ℕ × ℕ)
-defined (Form' p (More k ts)) = first_name ts
-defined _ = None
+defined t = first_name (may_be_array (bare t)) (arguments t)
 
 -- two definitions of one name, at the identifier of the later one
 abbrev pub SameName : MeaningFault → Placed → Placed → Type 0

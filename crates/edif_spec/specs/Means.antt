@@ -1,7 +1,7 @@
 -- What a tree means as a design: a definition for each row of the table of forms.
 use Rattle.std.specs.Prelude.{◌≡◌, ℕ, suc, ◌<◌, pos, FitsSigned, List, [], ◌∷◌, ◌++◌, take, length, filter, count_by, Bool, true, false, ◌||◌, ◌&&◌, Option, Some, None, IsTrue, option_map, unwrap_or, slice_get, ◌⊎◌, codes, nat_eq, if◌then◌else◌}
 use Rattle.std.specs.List.{AllByRecursion, flat_map}
-use Rattle.spelling_spec.specs.Tree.{Bare, Form', Word', More, form, word, integer, string}
+use Rattle.edif_spelling_spec.specs.Tree.{Bare, Form', Word', More, form, word, integer, string}
 use Rattle.edif_spec.specs.Keyword.{spelling_of, same}
 use Rattle.edif_spec.specs.Rows.{has_keyword, those, IsFormOf, Each, EachAfter, Perhaps, Just}
 use Rattle.edif_spec.specs.declared.keyword.Keyword.{Keyword}

@@ -4,8 +4,8 @@ use Rattle.std.specs.List.{All}
 use Rattle.netlist_schema.specs.Names.{HasDistinctKeys}
 use Rattle.netlist_schema.specs.Typed.{IsTypedName, IsTypedProperty}
 use Rattle.netlist_schema.specs.Width.{IsWidth}
-use Rattle.bus_spec.specs.Members.{member_name, numbered}
-use Rattle.bus_spec.specs.Runs.{run_name, run_width}
+use Rattle.netlist_bus_spec.specs.Members.{member_name, numbered}
+use Rattle.netlist_bus_spec.specs.Runs.{run_name, run_width}
 use Rattle.edif_spec.specs.Design as design
 use Rattle.edif_spec.specs.declared.nets.NetForm as net_form_type
 use Rattle.edif_spec.specs.declared.nets.Stretch as stretch_type

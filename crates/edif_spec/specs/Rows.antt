@@ -1,7 +1,7 @@
 -- When a form fits the row of its keyword, and words for what its followers mean.
 use Rattle.std.specs.Prelude.{◌≡◌, ℕ, ◌≤◌, List, [], ◌∷◌, ◌++◌, length, filter, Bool, true, false, ◌||◌, Option, Some, None, IsTrue}
 use Rattle.std.specs.List.{list_all, AllZip}
-use Rattle.spelling_spec.specs.Tree.{Bare, Form', Word', Integer', String', More, form, word}
+use Rattle.edif_spelling_spec.specs.Tree.{Bare, Form', Word', Integer', String', More, form, word}
 use Rattle.edif_spec.specs.Keyword.{spelling_of, same, row, Row, Takes, Skips, Choice, AnIdentifier, AnInteger, AString, AForm, Follower, Many, One}
 use Rattle.edif_spec.specs.declared.keyword.Keyword.{Keyword}
 

@@ -3,7 +3,7 @@
 use Rattle.std.specs.Prelude.{◌≡◌, ◌≢◌, ℕ, ◌<◌, ◌⊎◌, pos, ℤ, FitsSigned, List, [], ◌∷◌, ◌++◌, map, length, filter, drop, Bool, true, false, ◌||◌, Option, Some, None, IsTrue, slice_get, codes, if◌then◌else◌}
 use Rattle.std.specs.Int.{w32}
 use Rattle.std.specs.List.{flat_map}
-use Rattle.spelling_spec.specs.Tree.{Bare, Placed, Word', Integer', bare, word}
+use Rattle.edif_spelling_spec.specs.Tree.{Bare, Placed, Word', Integer', bare, word}
 use Rattle.netlist_schema.specs.Width.{IsWidth}
 use Rattle.netlist_schema.specs.declared.limits.TheConstants.{MOST_LIBS, MOST_CELLS, MOST_PORTS, MOST_BITS, MOST_INSTS, MOST_NETS, MOST_ENDS, MOST_NOTES}
 use Rattle.edif_spec.specs.Keyword.{same, identifier, the, Choice, Row, Takes}
@@ -13,7 +13,7 @@ use Rattle.edif_spec.specs.Means.{meant, Found, Absent, Several, width_at, is_li
 use Rattle.edif_spec.specs.Faults.{AtTwo, place_of, arguments, followers, parts, Among, InPart, InForm, misplaced, FixedFault, FollowerFault, RowFault, declared_width, defined, repeated, Repeats, SameOfTwo, Beyond, BeyondBits}
 use Rattle.edif_spec.specs.Design as design
 use Rattle.edif_spec.specs.Nets.{Stretch, end_of, row_size}
-use Rattle.bus_spec.specs.Members.{member_id, numbered}
+use Rattle.netlist_bus_spec.specs.Members.{member_id, numbered}
 use Rattle.edif_spec.specs.declared.keyword.Keyword.{Keyword}
 use Rattle.edif_spec.specs.declared.keyword.Keyword.TheVariants as keywords
 use Rattle.edif_spec.specs.declared.fault.Kind.{Kind}

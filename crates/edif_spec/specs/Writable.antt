@@ -3,7 +3,7 @@ use Rattle.std.specs.Prelude.{FitsSigned}
 use Rattle.std.specs.Int.{w64}
 use Rattle.netlist_schema.specs.Ident.{IsIdentifier}
 use Rattle.netlist_schema.specs.Typed.{IsBytes}
-use Rattle.spelling_spec.specs.Tree.{Bare, Trees, Form', Word', Integer', String', End, More}
+use Rattle.edif_spelling_spec.specs.Tree.{Bare, Trees, Form', Word', Integer', String', End, More}
 
 -- its words are identifiers, its integers fit 64 bits, and its strings are of bytes
 abbrev mutual

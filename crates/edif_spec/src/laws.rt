@@ -1,8 +1,8 @@
 //! The text of a design and its meaning together.
 ghost use Rattle.std.specs.Prelude.{◌≡◌};
 ghost use Rattle.netlist_schema.specs.Valid.{IsValid};
-ghost use Rattle.spelling_spec.specs.Spelling.{Spells};
-ghost use Rattle.spelling_spec.specs.Tree.{Bare};
+ghost use Rattle.edif_spelling_spec.specs.Spelling.{Spells};
+ghost use Rattle.edif_spelling_spec.specs.Tree.{Bare};
 ghost use Rattle.edif_spec.specs.Arranged.{arranged, canonical_text};
 ghost use Rattle.edif_spec.specs.Canonical.{tree_of};
 ghost use Rattle.edif_spec.specs.Design.{Design};

@@ -1,7 +1,7 @@
 //! Laws on what a tree means.
 ghost use Rattle.std.specs.Prelude.{◌≡◌};
 ghost use Rattle.netlist_schema.specs.Valid.{IsValid};
-ghost use Rattle.spelling_spec.specs.Tree.{Bare};
+ghost use Rattle.edif_spelling_spec.specs.Tree.{Bare};
 ghost use Rattle.edif_spec.specs.Canonical.{tree_of};
 ghost use Rattle.edif_spec.specs.Defined.{DefinedBefore};
 ghost use Rattle.edif_spec.specs.Design.{Design};

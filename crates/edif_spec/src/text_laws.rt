@@ -6,8 +6,8 @@ ghost use Rattle.edif_spec.specs.Defined.{DefinedBefore};
 ghost use Rattle.edif_spec.specs.Design.{Design};
 ghost use Rattle.edif_spec.specs.Writable.{IsWritable};
 ghost use Rattle.netlist_schema.specs.Valid.{IsValid};
-ghost use Rattle.spelling_spec.specs.Spelling.{IsForm, Spells};
-ghost use Rattle.spelling_spec.specs.Tree.{Bare, depth};
+ghost use Rattle.edif_spelling_spec.specs.Spelling.{IsForm, Spells};
+ghost use Rattle.edif_spelling_spec.specs.Tree.{Bare, depth};
 
 /// The layout of a form in lines spells the form, where its words, integers and strings can be written and no form in it
 /// is deeper than level 256.

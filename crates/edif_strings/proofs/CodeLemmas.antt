@@ -6,7 +6,7 @@ use Rattle.std.proofs.lemmas.Str.Parse.{tells_all_ascii_digits, IsNumeralModel, 
 use Rattle.std.specs.Result.{result_ok}
 use Rattle.std.specs.Str.{all_ascii_digits, IsAscii, IsUtf8}
 use Rattle.std.specs.Str.Parse.{ParsesUnsigned, digits_value}
-use Rattle.spelling_spec.specs.Strings.{is_code}
+use Rattle.edif_spelling_spec.specs.Strings.{is_code}
 
 pub IsAscii-from_digits : (ds : List ℕ) → all_ascii_digits ds ≡ true → IsAscii ds
 IsAscii-from_digits [] h i = lit< tt

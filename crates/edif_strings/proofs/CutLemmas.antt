@@ -5,9 +5,9 @@ use Rattle.std.proofs.lemmas.List.{take_rest}
 use Rattle.std.proofs.lemmas.List.Sums.{fails_before_first}
 use Rattle.std.proofs.lemmas.List.Splits.{slice_split_first, slice_split_none}
 use Rattle.std.specs.List.{slice_split, position, position_or_len}
-use Rattle.spelling_spec.specs.Bytes.{is_space}
-use Rattle.spelling_spec.specs.Strings.{are_codes, codes_of, is_escape, codes}
-use Rattle.spelling_spec.proofs.EscapeLemmas.{are_codes-cons, codes_of-cons}
+use Rattle.edif_spelling_spec.specs.Bytes.{is_space}
+use Rattle.edif_spelling_spec.specs.Strings.{are_codes, codes_of, is_escape, codes}
+use Rattle.edif_spelling_spec.proofs.EscapeLemmas.{are_codes-cons, codes_of-cons}
 
 cond_some : (t : Bool) (k n : ℕ) → cond t (Some k) None ≡ Some n → (t ≡ true) × (k ≡ n)
 cond_some true k n e = (refl, cc)

@@ -3,8 +3,8 @@ ghost use Rattle.std.specs.Prelude.{◌≡◌, ◌+◌, ◌<◌, ◌∷◌, ◌+
 ghost use Rattle.std.specs.Option.{option_map_or};
 ghost use Rattle.std.specs.List.{slice_split, position};
 ghost use Rattle.std.specs.Str.Parse.{digits_value};
-ghost use Rattle.spelling_spec.specs.Bytes.{is_space, is_percent};
-ghost use Rattle.spelling_spec.specs.Strings.{segments, is_code, are_codes, codes_of, is_escape, codes, value, escape_fault};
+ghost use Rattle.edif_spelling_spec.specs.Bytes.{is_space, is_percent};
+ghost use Rattle.edif_spelling_spec.specs.Strings.{segments, is_code, are_codes, codes_of, is_escape, codes, value, escape_fault};
 
 use netlist_schema::Text;
 use std::alloc::{AllocError, Global};

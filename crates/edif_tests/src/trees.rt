@@ -2,8 +2,8 @@
 use crate::checks::same;
 use crate::lexing::{HEAD, read_two, tokens_of};
 use edif_lexer::Token;
+use edif_spelling_spec::TreeKind;
 use edif_tree::{Shape, Tree, TreeError, TreeMaker, read_tree};
-use spelling_spec::TreeKind;
 use std::alloc::{AllocError, Global};
 use std::test::Fail;
 

@@ -1,11 +1,11 @@
 -- The first fault, token by token.
 use Rattle.std.proofs.Common.{◌≡◌, ℕ, zero, suc, ◌<◌, ◌≤◌, List, [], ◌∷◌, ◌++◌, Option, None, refl, ap, ◌∙◌, arith, append_assoc, ltb}
 use Rattle.std.proofs.lemmas.Bool.{lt-ltb, le-ltb, cond-true, cond-false}
-use Rattle.spelling_spec.specs.TreeFaults.{token_at, TreeFault, fault_at, fault_within, tree_fault}
-use Rattle.spelling_spec.specs.declared.token.Token.{Token}
-use Rattle.spelling_spec.specs.declared.token.TokenKind.{TokenKind}
-use Rattle.spelling_spec.specs.declared.token.TokenKind.TheVariants.{LeftParen, RightParen, Word, Integer, String}
-use Rattle.spelling_spec.specs.declared.tree_fault.TreeKind.TheVariants.{NotForm, ExtraClose, TooDeep, Trailing, Unended}
+use Rattle.edif_spelling_spec.specs.TreeFaults.{token_at, TreeFault, fault_at, fault_within, tree_fault}
+use Rattle.edif_spelling_spec.specs.declared.token.Token.{Token}
+use Rattle.edif_spelling_spec.specs.declared.token.TokenKind.{TokenKind}
+use Rattle.edif_spelling_spec.specs.declared.token.TokenKind.TheVariants.{LeftParen, RightParen, Word, Integer, String}
+use Rattle.edif_spelling_spec.specs.declared.tree_fault.TreeKind.TheVariants.{NotForm, ExtraClose, TooDeep, Trailing, Unended}
 use Rattle.edif_tree.specs.Making.{IsLeaf, fault_from}
 
 -- the faults of what follows one more token

@@ -1,10 +1,10 @@
 -- What a maker that was fed tokens has read, and what it answers at the end.
 use Rattle.std.proofs.Common.{◌≡◌, ℕ, List, [], ◌∷◌, ◌++◌, Result, Ok, Err, None, length, inl, inr, ⊎_elim, refl, sym, ap, ◌∙◌, arith, append-nil}
 use Rattle.std.specs.Prelude.{IfOk, IfErr}
-use Rattle.spelling_spec.specs.Tree.{Placed}
-use Rattle.spelling_spec.specs.TreeFaults.{Lists, fault_at, tree_fault}
-use Rattle.spelling_spec.specs.declared.token.Token.{Token}
-use Rattle.spelling_spec.specs.declared.tree_fault.TreeKind.TheVariants.{Unended}
+use Rattle.edif_spelling_spec.specs.Tree.{Placed}
+use Rattle.edif_spelling_spec.specs.TreeFaults.{Lists, fault_at, tree_fault}
+use Rattle.edif_spelling_spec.specs.declared.token.Token.{Token}
+use Rattle.edif_spelling_spec.specs.declared.tree_fault.TreeKind.TheVariants.{Unended}
 use Rattle.edif_tree.specs.Making.{Level, HasRead, fault_from}
 use Rattle.edif_tree.specs.Maker.{HaveNone, Finishes}
 use Rattle.edif_tree.specs.Nodes.{IsAt, Table}

@@ -8,7 +8,7 @@ use Rattle.std.specs.Cmp.Lexicographic.{pointwise, same_text}
 use Rattle.std.proofs.lemmas.List.{map-append, length-map, get_or_append_left}
 use Rattle.std.proofs.lemmas.Option.{slice_get_within, slice_get-map, slice_get_read}
 use Rattle.indexmap.specs.IndexSet.{insert_key}
-use Rattle.spelling_spec.specs.Tree.{Placed, Form', Word', Integer', String'}
+use Rattle.edif_spelling_spec.specs.Tree.{Placed, Form', Word', Integer', String'}
 use Rattle.edif_tree.specs.Nodes.{FormOf, WordOf, IntegerOf, StringOf, Seen, Row, Stores, shape_of, row_of, IsWithin, AreWithin, IsAt, place_of}
 use Rattle.edif_tree.specs.declared.stored.NodeId.{NodeId}
 use Rattle.edif_tree.specs.declared.stored.StoredNode.{StoredNode}

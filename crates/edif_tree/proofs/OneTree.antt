@@ -1,7 +1,7 @@
 -- One tree at most stands at a node.
 use Rattle.std.proofs.Common.{◌≡◌, ℕ, List, [], ◌∷◌, Option, Some, refl, sym, ap, ◌∙◌, subst}
 use Rattle.std.specs.Prelude.{slice_get}
-use Rattle.spelling_spec.specs.Tree.{Placed, Trees, Form', Word', Integer', String', End, More}
+use Rattle.edif_spelling_spec.specs.Tree.{Placed, Trees, Form', Word', Integer', String', End, More}
 use Rattle.edif_tree.specs.Nodes.{Seen, FormOf, WordOf, IntegerOf, StringOf, Row, IsAt, AreAt}
 use Rattle.edif_tree.specs.declared.stored.NodeId.{NodeId}
 

@@ -3,9 +3,9 @@ use Rattle.std.proofs.Common.{◌≡◌, ◌+◌, ℕ, zero, suc, true, List, []
 use Rattle.std.specs.Prelude.{nat_lt}
 use Rattle.std.specs.List.{list_all}
 use Rattle.std.proofs.lemmas.Bool.{lt-ltb, and_parts, and_from}
-use Rattle.spelling_spec.specs.Tree.{Placed, Trees, End, More}
-use Rattle.spelling_spec.specs.declared.token.TokenKind.{TokenKind}
-use Rattle.spelling_spec.specs.declared.token.TokenKind.TheVariants.{LeftParen, RightParen, Word, Integer, String}
+use Rattle.edif_spelling_spec.specs.Tree.{Placed, Trees, End, More}
+use Rattle.edif_spelling_spec.specs.declared.token.TokenKind.{TokenKind}
+use Rattle.edif_spelling_spec.specs.declared.token.TokenKind.TheVariants.{LeftParen, RightParen, Word, Integer, String}
 use Rattle.edif_tree.specs.Nodes.{Row, IsAt, AreAt}
 use Rattle.edif_tree.specs.Making.{leaf_of}
 use Rattle.edif_tree.specs.Order.{in_order_at, in_order_from, is_node}

@@ -1,14 +1,14 @@
 -- What a maker that has read tokens says of the next one, and of an end.
 use Rattle.std.proofs.Common.{true, ◌≡◌, ℕ, ◌<◌, ◌≤◌, ⊎_elim, List, [], ◌∷◌, ◌++◌, length, Some, None, refl, sym, ap, ◌∙◌, subst, arith, append-nil}
 use Rattle.std.specs.Prelude.{slice_get}
-use Rattle.spelling_spec.specs.Tree.{Placed}
-use Rattle.spelling_spec.specs.TreeFaults.{token_at, Lists, IsFile, fault_at, tree_fault}
-use Rattle.spelling_spec.specs.declared.token.Token.{Token}
-use Rattle.spelling_spec.specs.declared.token.TokenKind.{TokenKind}
-use Rattle.spelling_spec.specs.declared.token.TokenKind.TheVariants.{LeftParen, RightParen}
-use Rattle.spelling_spec.specs.declared.tree_fault.TreeKind.TheVariants.{NotForm, ExtraClose, TooDeep, Trailing, Unended}
-use Rattle.spelling_spec.proofs.TreeFaultLemmas.{tree_of_none}
-use Rattle.spelling_spec.proofs.PlacedListings.{one_placed}
+use Rattle.edif_spelling_spec.specs.Tree.{Placed}
+use Rattle.edif_spelling_spec.specs.TreeFaults.{token_at, Lists, IsFile, fault_at, tree_fault}
+use Rattle.edif_spelling_spec.specs.declared.token.Token.{Token}
+use Rattle.edif_spelling_spec.specs.declared.token.TokenKind.{TokenKind}
+use Rattle.edif_spelling_spec.specs.declared.token.TokenKind.TheVariants.{LeftParen, RightParen}
+use Rattle.edif_spelling_spec.specs.declared.tree_fault.TreeKind.TheVariants.{NotForm, ExtraClose, TooDeep, Trailing, Unended}
+use Rattle.edif_spelling_spec.proofs.TreeFaultLemmas.{tree_of_none}
+use Rattle.edif_spelling_spec.proofs.PlacedListings.{one_placed}
 use Rattle.edif_tree.specs.Nodes.{Row, IsAt}
 use Rattle.edif_tree.specs.Order.{in_order_from}
 use Rattle.edif_tree.specs.Making.{Level, InForms, HasRead, fault_from}

@@ -1,6 +1,6 @@
 -- The trees that are left.
 use Rattle.std.specs.Prelude.{List}
-use Rattle.spelling_spec.specs.Tree.{Placed}
+use Rattle.edif_spelling_spec.specs.Tree.{Placed}
 use Rattle.edif_tree.specs.Handles.{all}
 use Rattle.edif_tree.specs.declared.each.Each.{Each}
 

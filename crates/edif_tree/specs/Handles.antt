@@ -1,6 +1,6 @@
 -- What stands at a node of a tree.
 use Rattle.std.specs.Prelude.{◌≡◌, List, map}
-use Rattle.spelling_spec.specs.Tree.{Placed, Form', Word', Integer', String', trees}
+use Rattle.edif_spelling_spec.specs.Tree.{Placed, Form', Word', Integer', String', trees}
 use Rattle.edif_tree.specs.Nodes.{place_of}
 use Rattle.edif_tree.specs.Here.{tree_at}
 use Rattle.edif_tree.specs.declared.node.Node.{Node}

@@ -1,9 +1,9 @@
 -- What a maker of trees was fed, and what its calls answer.
 use Rattle.std.specs.Prelude.{◌≡◌, ◌⊎◌, ℕ, List, ◌++◌, Option, None, Result, Ok, Err}
-use Rattle.spelling_spec.specs.Tree.{Placed}
-use Rattle.spelling_spec.specs.TreeFaults.{IsFile, fault_at, tree_fault}
-use Rattle.spelling_spec.specs.declared.token.Token.{Token}
-use Rattle.spelling_spec.specs.declared.tree_fault.TreeKind.TheVariants.{Unended}
+use Rattle.edif_spelling_spec.specs.Tree.{Placed}
+use Rattle.edif_spelling_spec.specs.TreeFaults.{IsFile, fault_at, tree_fault}
+use Rattle.edif_spelling_spec.specs.declared.token.Token.{Token}
+use Rattle.edif_spelling_spec.specs.declared.tree_fault.TreeKind.TheVariants.{Unended}
 use Rattle.edif_tree.specs.Making.{HasRead}
 use Rattle.edif_tree.specs.Nodes.{IsAt, Table}
 use Rattle.edif_tree.specs.TreeError.{Names}

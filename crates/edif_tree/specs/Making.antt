@@ -1,10 +1,10 @@
 -- What stands in a tree that is being made, after some tokens.
 use Rattle.std.specs.Prelude.{◌≡◌, ◌<◌, ◌⊎◌, ℕ, zero, suc, List, [], ◌∷◌, ◌++◌, length, Option, true}
-use Rattle.spelling_spec.specs.Tree.{Placed, Trees}
-use Rattle.spelling_spec.specs.TreeFaults.{token_at, Lists, ListsAll, TreeFault, fault_within, tree_fault}
-use Rattle.spelling_spec.specs.declared.token.Token.{Token}
-use Rattle.spelling_spec.specs.declared.token.TokenKind.{TokenKind}
-use Rattle.spelling_spec.specs.declared.token.TokenKind.TheVariants.{LeftParen, RightParen, Word, Integer, String}
+use Rattle.edif_spelling_spec.specs.Tree.{Placed, Trees}
+use Rattle.edif_spelling_spec.specs.TreeFaults.{token_at, Lists, ListsAll, TreeFault, fault_within, tree_fault}
+use Rattle.edif_spelling_spec.specs.declared.token.Token.{Token}
+use Rattle.edif_spelling_spec.specs.declared.token.TokenKind.{TokenKind}
+use Rattle.edif_spelling_spec.specs.declared.token.TokenKind.TheVariants.{LeftParen, RightParen, Word, Integer, String}
 use Rattle.netlist_schema.specs.declared.limits.TheConstants.{MOST_LEVELS}
 use Rattle.edif_tree.specs.Nodes.{FormOf, IntegerOf, StringOf, WordOf, Seen, Row, IsAt, AreAt}
 use Rattle.edif_tree.specs.Order.{in_order_from}

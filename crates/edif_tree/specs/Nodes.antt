@@ -1,7 +1,7 @@
 -- Which tree stands at a node of a list of nodes.
 use Rattle.std.specs.Prelude.{◌≡◌, ◌<◌, FitsSigned, ℕ, ℤ, pos, List, [], ◌∷◌, Some, get_or, length, slice_get}
 use Rattle.std.specs.Int.{w64}
-use Rattle.spelling_spec.specs.Tree.{Placed, Trees, Form', Word', Integer', String', End, More}
+use Rattle.edif_spelling_spec.specs.Tree.{Placed, Trees, Form', Word', Integer', String', End, More}
 use Rattle.edif_tree.specs.declared.stored.NodeId.{NodeId}
 use Rattle.edif_tree.specs.declared.stored.StoredNode.{StoredNode}
 use Rattle.edif_tree.specs.declared.stored.StoredKind.{StoredKind}

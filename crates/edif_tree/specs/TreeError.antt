@@ -1,6 +1,6 @@
 -- What a tree error says.
 use Rattle.std.specs.Prelude.{◌≡◌, Option}
-use Rattle.spelling_spec.specs.TreeFaults.{TreeFault, fault_at}
+use Rattle.edif_spelling_spec.specs.TreeFaults.{TreeFault, fault_at}
 use Rattle.edif_tree.specs.declared.errors.TreeError.{TreeError}
 use Rattle.edif_tree.specs.declared.errors.TreeError.TheVariants.{At, NoMemory}
 

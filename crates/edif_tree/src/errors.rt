@@ -2,8 +2,8 @@
 ghost use Rattle.std.specs.Prelude.{◌≡◌};
 ghost use Rattle.edif_tree.specs.declared.errors.TreeError.TheVariants.{NoMemory};
 
+use edif_spelling_spec::TreeKind;
 use netlist_schema::NoMemory;
-use spelling_spec::TreeKind;
 
 /// What ended the reading of tokens.
 #[derive(Clone, Copy, Debug, PartialEq, Eq)]

@@ -1,6 +1,6 @@
 //! What the definition of standing says of every list of nodes.
 ghost use Rattle.std.specs.Prelude.{◌≡◌, List};
-ghost use Rattle.spelling_spec.specs.Tree.{Placed};
+ghost use Rattle.edif_spelling_spec.specs.Tree.{Placed};
 ghost use Rattle.edif_tree.specs.Nodes.{Row, IsAt};
 ghost use Rattle.edif_tree.specs.declared.stored.NodeId.{NodeId};
 

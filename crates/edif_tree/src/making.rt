@@ -1,9 +1,9 @@
 //! A tree as it is made, token by token.
 ghost use Rattle.std.specs.Prelude.{◌≡◌, ◌<◌, ℕ, List, ◌∷◌, ◌++◌, [], length, Some, None, IfOk, IfErr, OnOk, IfSome, IfNone};
-ghost use Rattle.spelling_spec.specs.Tree.{Placed};
-ghost use Rattle.spelling_spec.specs.TreeFaults.{token_at, fault_at, tree_fault, Lists};
-ghost use Rattle.spelling_spec.specs.declared.token.Token.{Token};
-ghost use Rattle.spelling_spec.specs.declared.token.TokenKind.TheVariants.{LeftParen, RightParen};
+ghost use Rattle.edif_spelling_spec.specs.Tree.{Placed};
+ghost use Rattle.edif_spelling_spec.specs.TreeFaults.{token_at, fault_at, tree_fault, Lists};
+ghost use Rattle.edif_spelling_spec.specs.declared.token.Token.{Token};
+ghost use Rattle.edif_spelling_spec.specs.declared.token.TokenKind.TheVariants.{LeftParen, RightParen};
 ghost use Rattle.edif_tree.specs.Making.{IsLeaf, HasRead, CanCome};
 ghost use Rattle.edif_tree.specs.Nodes.{IsAt};
 ghost use Rattle.edif_tree.specs.TreeError.{Names};
@@ -13,9 +13,9 @@ use crate::node_lists::range;
 use crate::store::Store;
 use crate::stored::NodeId;
 use crate::tree::Tree;
+use edif_spelling_spec::{Token, TokenKind, TreeKind};
 use netlist_schema::NoMemory;
 use netlist_schema::limits::MOST_LEVELS;
-use spelling_spec::{Token, TokenKind, TreeKind};
 use std::alloc::Global;
 
 /// A form whose `)` is to come.

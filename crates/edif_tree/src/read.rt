@@ -1,15 +1,15 @@
 //! `read_tree`: tokens to a tree.
 ghost use Rattle.std.specs.Prelude.{◌≡◌, None, IfOk, IfErr};
-ghost use Rattle.spelling_spec.specs.Tree.{Placed};
-ghost use Rattle.spelling_spec.specs.TreeFaults.{tree_fault, IsFile};
+ghost use Rattle.edif_spelling_spec.specs.Tree.{Placed};
+ghost use Rattle.edif_spelling_spec.specs.TreeFaults.{tree_fault, IsFile};
 ghost use Rattle.edif_tree.specs.Nodes.{IsAt};
 ghost use Rattle.edif_tree.specs.TreeError.{Names};
 
 use crate::errors::TreeError;
 use crate::making::Making;
 use crate::tree::Tree;
+use edif_spelling_spec::{Token, TokenKind};
 use netlist_schema::{Copied, NoMemory};
-use spelling_spec::{Token, TokenKind};
 use std::alloc::Global;
 
 /// The tree of the tokens of an input with so many bytes, where they have no tree fault, and else their first tree fault. At the

@@ -5,9 +5,9 @@ ghost use Rattle.edif_tree.specs.Nodes.{FormOf, IntegerOf, StringOf, WordOf, see
 
 use crate::node_lists::NodeLists;
 use crate::stored::{NodeId, StoredKind, StoredNode, StoredShape};
+use edif_spelling_spec::TokenKind;
 use indexmap::IndexSet;
 use netlist_schema::{Ident, NoMemory, Text};
-use spelling_spec::TokenKind;
 use std::alloc::Global;
 use std::marker::Model;
 

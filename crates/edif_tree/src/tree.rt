@@ -1,6 +1,6 @@
 //! A tree as a list of nodes.
 ghost use Rattle.std.specs.Prelude.{◌≡◌, ◌<◌, length, option_map, slice_get, Some, true};
-ghost use Rattle.spelling_spec.specs.Tree.{Placed};
+ghost use Rattle.edif_spelling_spec.specs.Tree.{Placed};
 ghost use Rattle.edif_tree.specs.Nodes.{IsAt, seen};
 ghost use Rattle.edif_tree.specs.Order.{is_node};
 ghost use Rattle.edif_tree.specs.Handles.{here};

@@ -1,13 +1,13 @@
 //! `TreeMaker`: tokens that come in pieces to a tree.
 ghost use Rattle.std.specs.Prelude.{◌≡◌, ◌≢◌, [], ℕ, List, Ok, Err, Some, None, IfErr};
-ghost use Rattle.spelling_spec.specs.declared.token.Token.{Token};
+ghost use Rattle.edif_spelling_spec.specs.declared.token.Token.{Token};
 ghost use Rattle.edif_tree.specs.Maker.{Feeds, Finishes, HasTaken};
 ghost use Rattle.edif_tree.specs.declared.errors.TreeError.{TreeError};
 
 use crate::errors::TreeError;
 use crate::making::Making;
 use crate::tree::Tree;
-use spelling_spec::Token;
+use edif_spelling_spec::Token;
 use std::alloc::Global;
 use std::marker::Model;
 
@@ -20,7 +20,7 @@ pub struct TreeMaker {
 
 impl Model for TreeMaker {
     ghost use Rattle.std.specs.Prelude.{◌≡◌, List, None};
-    ghost use Rattle.spelling_spec.specs.declared.token.Token.{Token};
+    ghost use Rattle.edif_spelling_spec.specs.declared.token.Token.{Token};
     ghost use Rattle.edif_tree.specs.Making.{HasRead};
     ghost use Rattle.edif_tree.specs.Maker.{Maker};
 

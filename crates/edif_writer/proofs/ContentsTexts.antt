@@ -2,7 +2,7 @@
 use Rattle.std.proofs.Common.{◌≡◌, ℕ, suc, pos, List, [], ◌∷◌, ◌++◌, map, Option, Some, None, refl, ap, sym, ◌∙◌, append_assoc, append-nil, slice_get}
 use Rattle.std.specs.Prelude.{codes, option_map, unwrap_or}
 use Rattle.std.specs.Fmt.{signed_decimal}
-use Rattle.spelling_spec.specs.Tree.{Bare, word}
+use Rattle.edif_spelling_spec.specs.Tree.{Bare, word}
 use Rattle.edif_spec.specs.Canonical.{head_of, large_forms, layout, make, new_line, name_text, name_tree, perhaps, text_tree, property_tree, bit_tree, bits_tree, inst_tree, cell_ref_tree, port_name_tree, ports_of_end, end_tree, net_tree, contents_tree, note_tree, design_tree}
 use Rattle.edif_spec.specs.Design as design
 use Rattle.edif_spec.specs.Keyword.{spelling_of}

@@ -5,7 +5,7 @@ use Rattle.std.specs.Prelude.{unwrap_or}
 use Rattle.std.proofs.lemmas.Grind.{take_at_read}
 use Rattle.std.proofs.lemmas.List.{map-append}
 use Rattle.std.proofs.lemmas.Grind.{flat_map-append}
-use Rattle.spelling_spec.specs.Tree.{Bare, trees}
+use Rattle.edif_spelling_spec.specs.Tree.{Bare, trees}
 use Rattle.edif_spec.specs.Canonical.{layout, layouts, make, name_text, large_forms, head_of, count, new_line}
 use Rattle.edif_spec.specs.Keyword.{spelling_of}
 use Rattle.edif_spec.specs.declared.keyword.Keyword.{Keyword}

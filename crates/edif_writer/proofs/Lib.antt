@@ -1,5 +1,6 @@
 pub mod ContentsTexts
 pub mod FormTexts
+pub mod Lines
 pub mod ListTexts
 pub mod NetForms
 pub mod Places

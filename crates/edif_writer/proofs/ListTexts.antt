@@ -1,7 +1,7 @@
 -- The texts of forms with lists of arguments.
 use Rattle.std.proofs.Common.{◌≡◌, ℕ, suc, List, [], ◌∷◌, ◌++◌, map, Option, Some, None, refl, ap, sym, ◌∙◌, append_assoc, append-nil}
 use Rattle.std.specs.Prelude.{codes}
-use Rattle.spelling_spec.specs.Tree.{word}
+use Rattle.edif_spelling_spec.specs.Tree.{word}
 use Rattle.edif_spec.specs.Canonical.{layout, make, new_line, contents_tree, name_tree, port_name_tree, direction_tree, port_tree, interface_tree, view_tree, cell_tree, kind_word, value_tree, property_tree, perhaps, text_tree}
 use Rattle.edif_spec.specs.Design as design
 use Rattle.edif_spec.specs.declared.keyword.Keyword.TheVariants as keywords

@@ -3,11 +3,11 @@ use Rattle.std.proofs.Common.{◌≡◌, ◌≤◌, ◌<◌, ℕ, zero, suc, pre
 use Rattle.std.specs.Prelude.{cond, nat_le, ◌-◌}
 use Rattle.std.proofs.lemmas.Bool.Decides.{nat_tests}
 use Rattle.std.proofs.lemmas.List.{take_all}
-use Rattle.spelling_spec.specs.Tree.{Bare}
+use Rattle.edif_spelling_spec.specs.Tree.{Bare}
 use Rattle.netlist_schema.specs.Design.{Design}
 use Rattle.netlist_schema.specs.Types.{Inst, Net, Port}
-use Rattle.bus_spec.specs.Runs.{greatest, is_run, run_width}
-use Rattle.bus_spec.proofs.Told.{greatest_passes}
+use Rattle.netlist_bus_spec.specs.Runs.{greatest, is_run, run_width}
+use Rattle.netlist_bus_spec.proofs.Told.{greatest_passes}
 use Rattle.bus_members.specs.Widths.{ports_among}
 use Rattle.edif_spec.specs.Canonical.{layout, new_line, ports_of_end}
 use Rattle.edif_spec.specs.Nets.{NetForm, form_of, forms_behind, net_forms, run_form, single_form}

@@ -14,8 +14,8 @@ use Rattle.edif_spec.specs.Canonical.{ports_of_end}
 use Rattle.edif_spec.specs.Design as design
 use Rattle.edif_spec.proofs.Arrange.{there_from}
 use Rattle.edif_spec.proofs.CellPlaces.{some_and, all_append_parts, cell_found}
-use Rattle.order_spec.proofs.Ready.{order_ready}
-use Rattle.order_spec.proofs.WholeOrder.{id_at}
+use Rattle.netlist_order_spec.proofs.Ready.{order_ready}
+use Rattle.netlist_order_spec.proofs.WholeOrder.{id_at}
 use Rattle.edif_writer.specs.Placed.{HasInstAt, IsAt, IsPlaced}
 
 some_bit : (ports : List Port) (port bit : ℕ) → HasBit ports port bit → IsSome (slice_get ports port)

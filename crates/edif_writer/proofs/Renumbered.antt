@@ -4,7 +4,7 @@ use Rattle.std.specs.Prelude.{codes, IsSome, option_map, unwrap_or, IfSome}
 use Rattle.std.specs.List.{AllByRecursion}
 use Rattle.std.proofs.lemmas.Option.{slice_get-map}
 use Rattle.netlist_schema.proofs.Lists.{all_at, some_of}
-use Rattle.spelling_spec.specs.Tree.{Bare, word}
+use Rattle.edif_spelling_spec.specs.Tree.{Bare, word}
 use Rattle.edif_spec.specs.Arranged.{order_of, orders_from, new_id, new_inst, new_contents, new_cell, new_cells, new_libs}
 use Rattle.edif_spec.specs.Canonical.{make, perhaps, name_tree, text_tree, property_tree, cell_ref_tree, inst_tree, bits_tree, port_name_tree, ports_of_end, end_tree, net_tree, contents_tree, interface_tree, kind_word, cell_tree}
 use Rattle.edif_spec.specs.Design as design

@@ -2,11 +2,11 @@
 use Rattle.std.proofs.Common.{◌≡◌, ℕ, suc, ℤ, pos, true, false, List, [], ◌∷◌, ◌++◌, Option, Some, None, refl, ap, sym, ◌∙◌, append_assoc, append-nil}
 use Rattle.std.specs.Prelude.{codes, cond}
 use Rattle.std.specs.Fmt.{signed_decimal}
-use Rattle.spelling_spec.specs.Tree.{word}
+use Rattle.edif_spelling_spec.specs.Tree.{word}
 use Rattle.edif_spec.specs.Canonical.{layout, make, name_tree, port_name_tree, kind_word, name_with, number_tree, value_tree, name_text, string_text}
 use Rattle.edif_spec.specs.Design as design
-use Rattle.bus_spec.specs.Runs.{array_name}
-use Rattle.bus_spec.specs.Same.{same_bytes}
+use Rattle.netlist_bus_spec.specs.Runs.{array_name}
+use Rattle.netlist_bus_spec.specs.Same.{same_bytes}
 use Rattle.edif_writer.specs.Lines.{enclosed}
 use Rattle.edif_spec.specs.declared.keyword.Keyword.TheVariants as keywords
 use Rattle.netlist_schema.specs.declared.cell.CellKind.TheVariants as kinds

@@ -3,7 +3,7 @@ use Rattle.std.proofs.Common.{Option, ◌≡◌, ◌<◌, ◌+◌, ℕ, suc, pos
 use Rattle.std.specs.Prelude.{codes, slice_get}
 use Rattle.std.proofs.lemmas.Fmt.{decimal_digit}
 use Rattle.std.proofs.lemmas.Option.{slice_get_cases}
-use Rattle.spelling_spec.specs.Tree.{Bare, word, integer, form}
+use Rattle.edif_spelling_spec.specs.Tree.{Bare, word, integer, form}
 use Rattle.edif_spec.specs.Canonical.{layout, make, new_line, name_text, name_tree, zero_tree, library_keyword, library_tree, cell_tree, design_tree, perhaps, text_as_listed, head_of, large_forms}
 use Rattle.edif_spec.specs.Design as design
 use Rattle.edif_spec.specs.Keyword.{spelling_of}

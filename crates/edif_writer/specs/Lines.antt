@@ -1,7 +1,7 @@
 -- The arguments of a form, as they are written one after another.
 use Rattle.std.specs.Prelude.{ℕ, suc, List, [], ◌∷◌, ◌++◌, Option, Some, None}
 use Rattle.std.specs.List.{flat_map}
-use Rattle.spelling_spec.specs.Tree.{Bare, word}
+use Rattle.edif_spelling_spec.specs.Tree.{Bare, word}
 use Rattle.edif_spec.specs.Canonical.{layout, make, new_line, string_text}
 use Rattle.edif_spec.specs.Design as design
 use Rattle.edif_spec.specs.declared.keyword.Keyword.TheVariants as keywords

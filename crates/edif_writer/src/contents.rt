@@ -4,7 +4,7 @@ ghost use Rattle.std.specs.Option.{option_copied};
 ghost use Rattle.edif_spec.specs.Canonical.{layout, name_text, perhaps, inst_tree, bit_tree, port_ref_tree, name_tree, port_name_tree, whole_port_tree, ports_of_end, end_tree, net_tree, contents_tree};
 ghost use Rattle.edif_spec.specs.Design as design;
 ghost use Rattle.edif_spec.specs.Nets.{bit_of, form_of, net_forms, run_form, single_form, whole_of};
-ghost use Rattle.bus_spec.specs.Runs.{array_name, run_width, stem};
+ghost use Rattle.netlist_bus_spec.specs.Runs.{array_name, run_width, stem};
 ghost use Rattle.netlist_schema.specs.Hierarchy.{IsCell};
 ghost use Rattle.edif_writer.specs.Lines.{spaced, lined, instance_ref_tree};
 ghost use Rattle.edif_writer.specs.Placed.{HasInstAt, IsAt, IsPlaced};
@@ -15,7 +15,7 @@ use crate::small::{write_name, write_properties, write_text_form};
 use crate::spelled::{put_bytes, put_ident, put_line, put_name, put_number};
 use bus_members::{run_from, stem};
 use netdb_outside::{BufferedSink, Sink};
-use netlist_schema::{Contents, End, Inst, Name, Net, Port, Row, Shown, Text};
+use netlist_schema::{Contents, End, Inst, Name, Net, Port, Row, Shared, Shown, Text};
 use std::alloc::Global;
 
 /// The level of the instances and nets of contents.
@@ -51,7 +51,7 @@ fn write_inst<S: Shown, K: Sink>(
 fn write_inst_lines<S: Shown, K: Sink>(
     alloc: Global,
     design: &S,
-    insts: &Row<Inst>,
+    insts: &Row<Shared<Inst>>,
     page: &mut BufferedSink,
     out: &mut K,
 )
@@ -68,7 +68,7 @@ fn write_inst_lines<S: Shown, K: Sink>(
 fn port_of_end<'a, S: Shown>(
     design: &'a S,
     own: &'a Row<Port>,
-    insts: &Row<Inst>,
+    insts: &Row<Shared<Inst>>,
     end: &End,
 ) -> Option<&'a Port>
     ensures { option_copied result ≡ slice_get (ports_of_end (S.design design.now).libs own.now insts.now end.now.inst) end.now.port }
@@ -109,7 +109,7 @@ fn write_end_bit<S: Shown, K: Sink>(
     alloc: Global,
     design: &S,
     own: &Row<Port>,
-    insts: &Row<Inst>,
+    insts: &Row<Shared<Inst>>,
     end: &End,
     page: &mut BufferedSink,
     out: &mut K,
@@ -126,7 +126,7 @@ fn write_end_bit<S: Shown, K: Sink>(
 /// Writes a reference to an instance.
 fn write_inst_ref<K: Sink>(
     alloc: Global,
-    insts: &Row<Inst>,
+    insts: &Row<Shared<Inst>>,
     place: u32,
     page: &mut BufferedSink,
     out: &mut K,
@@ -144,7 +144,7 @@ fn write_inst_ref<K: Sink>(
 /// Writes a reference to the instance of an end behind a blank, where the end is at one.
 fn write_end_inst<K: Sink>(
     alloc: Global,
-    insts: &Row<Inst>,
+    insts: &Row<Shared<Inst>>,
     place: Option<u32>,
     page: &mut BufferedSink,
     out: &mut K,
@@ -163,7 +163,7 @@ fn write_port_of_end<S: Shown, K: Sink>(
     alloc: Global,
     design: &S,
     own: &Row<Port>,
-    insts: &Row<Inst>,
+    insts: &Row<Shared<Inst>>,
     end: &End,
     page: &mut BufferedSink,
     out: &mut K,
@@ -182,7 +182,7 @@ fn write_whole_end<S: Shown, K: Sink>(
     alloc: Global,
     design: &S,
     own: &Row<Port>,
-    insts: &Row<Inst>,
+    insts: &Row<Shared<Inst>>,
     end: &End,
     page: &mut BufferedSink,
     out: &mut K,
@@ -202,7 +202,7 @@ fn write_whole_ends<S: Shown, K: Sink>(
     alloc: Global,
     design: &S,
     own: &Row<Port>,
-    insts: &Row<Inst>,
+    insts: &Row<Shared<Inst>>,
     ends: &Row<End>,
     page: &mut BufferedSink,
     out: &mut K,
@@ -222,7 +222,7 @@ fn write_end<S: Shown, K: Sink>(
     alloc: Global,
     design: &S,
     own: &Row<Port>,
-    insts: &Row<Inst>,
+    insts: &Row<Shared<Inst>>,
     end: &End,
     page: &mut BufferedSink,
     out: &mut K,
@@ -241,7 +241,7 @@ fn write_ends<S: Shown, K: Sink>(
     alloc: Global,
     design: &S,
     own: &Row<Port>,
-    insts: &Row<Inst>,
+    insts: &Row<Shared<Inst>>,
     ends: &Row<End>,
     page: &mut BufferedSink,
     out: &mut K,
@@ -260,7 +260,7 @@ fn write_net<S: Shown, K: Sink>(
     alloc: Global,
     design: &S,
     own: &Row<Port>,
-    insts: &Row<Inst>,
+    insts: &Row<Shared<Inst>>,
     net: &Net,
     page: &mut BufferedSink,
     out: &mut K,
@@ -337,7 +337,7 @@ fn write_run<S: Shown, K: Sink>(
     alloc: Global,
     design: &S,
     own: &Row<Port>,
-    insts: &Row<Inst>,
+    insts: &Row<Shared<Inst>>,
     net: &Net,
     width: u32,
     page: &mut BufferedSink,
@@ -360,7 +360,7 @@ fn write_form<S: Shown, K: Sink>(
     alloc: Global,
     design: &S,
     own: &Row<Port>,
-    insts: &Row<Inst>,
+    insts: &Row<Shared<Inst>>,
     net: &Net,
     width: u32,
     page: &mut BufferedSink,
@@ -377,7 +377,12 @@ fn write_form<S: Shown, K: Sink>(
 }
 
 /// The width of the greatest run that begins with the first of these nets: 1 where none does.
-fn width_from<S: Shown>(design: &S, own: &Row<Port>, insts: &Row<Inst>, nets: &[Net]) -> u32
+fn width_from<S: Shown>(
+    design: &S,
+    own: &Row<Port>,
+    insts: &Row<Shared<Inst>>,
+    nets: &[Shared<Net>],
+) -> u32
     requires { 0 < length nets.now }
     ensures width { result ≡ run_width (ports_of_end (S.design design.now).libs own.now insts.now) nets.now }
     ensures least { 1 ≤ result }
@@ -413,7 +418,7 @@ pub fn write_contents_line<S: Shown, K: Sink>(
     alloc: Global,
     design: &S,
     own: &Row<Port>,
-    contents: &Option<Contents>,
+    contents: &Option<Shared<Contents>>,
     page: &mut BufferedSink,
     out: &mut K,
 )

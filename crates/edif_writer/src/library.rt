@@ -12,8 +12,8 @@ ghost use Rattle.netlist_schema.specs.Valid.{IsValid};
 
 use crate::cell::write_cell;
 use crate::small::write_name;
-use cell_order::cell_order;
 use netdb_outside::{BufferedSink, Sink};
+use netlist_order::cell_order;
 use netlist_schema::{CellId, LibId, Shown};
 use std::alloc::Global;
 

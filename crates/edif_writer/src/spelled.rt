@@ -58,8 +58,22 @@ impl Appended for SpelledInteger {
     }
 }
 
+/// A line feed, and some blanks.
+static LINE: [u8; 17] = *b"\n                ";
+
 /// Begins a line: a line feed, and as many blanks as its level.
 pub fn put_line<K: Sink>(level: usize, page: &mut BufferedSink, out: &mut K)
+    ensures { Writes K.written K.faults out.old page.old out.new page.new (new_line level) }
+{
+    if level < LINE.len() {
+        page.put(&LINE[..level + 1], out);
+        return;
+    }
+    put_far(level, page, out);
+}
+
+/// Begins a line, blank by blank.
+fn put_far<K: Sink>(level: usize, page: &mut BufferedSink, out: &mut K)
     ensures { Writes K.written K.faults out.old page.old out.new page.new (new_line level) }
 {
     page.put(b"\n", out);

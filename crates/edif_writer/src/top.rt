@@ -2,7 +2,7 @@
 ghost use Rattle.std.specs.Prelude.{◌≡◌, ℕ, map, option_map};
 ghost use Rattle.edif_spec.specs.Arranged.{arranged};
 ghost use Rattle.edif_spec.specs.Canonical.{layout, perhaps, note_tree, design_tree};
-ghost use Rattle.spelling_spec.specs.Tree.{word};
+ghost use Rattle.edif_spelling_spec.specs.Tree.{word};
 ghost use Rattle.edif_writer.specs.Lines.{spaced, lined};
 ghost use Rattle.netdb_outside.specs.Buffered.{Writes};
 

@@ -12,22 +12,22 @@ use Rattle.netlist_schema.specs.Ident.{IsIdentifier}
 use Rattle.netlist_schema.specs.Types.{CellBody, CellId, Inst, LibId, Object}
 use Rattle.netlist_schema.specs.Valid.{IsValid}
 use Rattle.netlist_schema.specs.declared.ids.Object.TheVariants.{Directory}
-use Rattle.edit_core.specs.Edit.{edited, Edit, fresh, IsChanged, IsChangedBy, IsMade, AllGoLast, AllPlaceOld, AllFindOld}
-use Rattle.edit_core.specs.Find.{is_same, lib_named}
-use Rattle.edit_core.specs.Local.{IsLocal}
-use Rattle.edit_core.specs.Objects.{AgreesOn, face_object, contents_object}
-use Rattle.edit_core.specs.Reading.{IsForLib}
-use Rattle.edit_core.specs.Rule.{first, refuse, too_many}
-use Rattle.edit_core.specs.declared.reply.CellName.{CellName}
-use Rattle.edit_core.specs.declared.reply.Reply.{Reply}
-use Rattle.edit_core.specs.declared.reply.Reply.TheVariants.{Taken, TooMany, NoLib}
+use Rattle.edit_rules_spec.specs.Edit.{edited, Edit, fresh, IsChanged, IsChangedBy, IsMade, AllGoLast, AllPlaceOld, AllFindOld}
+use Rattle.edit_rules_spec.specs.Find.{is_same, lib_named}
+use Rattle.edit_rules_spec.specs.Local.{IsLocal}
+use Rattle.edit_rules_spec.specs.Objects.{AgreesOn, face_object, contents_object}
+use Rattle.edit_rules_spec.specs.Reading.{IsForLib}
+use Rattle.edit_rules_spec.specs.Rule.{first, refuse, too_many}
+use Rattle.edit_rules_spec.specs.declared.reply.CellName.{CellName}
+use Rattle.edit_rules_spec.specs.declared.reply.Reply.{Reply}
+use Rattle.edit_rules_spec.specs.declared.reply.Reply.TheVariants.{Taken, TooMany, NoLib}
 use Rattle.edit_spec.specs.AddCell.{names_in, new_port, new_cell, has_twice, add_cell, add_cell_of, add_cell_needs}
 use Rattle.edit_spec.specs.Typed.{IsTypedPortDecl}
 use Rattle.edit_spec.specs.declared.ops.PortDecl.{PortDecl}
-use Rattle.edit_core.proofs.Refusals.{first_none, not_refused}
-use Rattle.edit_core.proofs.Same.{both_ways, names_of_directory, lib_named_same}
+use Rattle.edit_rules_spec.proofs.Refusals.{first_none, not_refused}
+use Rattle.edit_rules_spec.proofs.Same.{both_ways, names_of_directory, lib_named_same}
 use Rattle.edit_spec.proofs.NewCellValid.{nothing_inside, new_edit, new_valid}
-use Rattle.edit_core.proofs.There.{named_lib_there}
+use Rattle.edit_rules_spec.proofs.There.{named_lib_there}
 
 pub add_cell_done : (d : Design) (cell : CellName) (leaf : Bool) (ports : List PortDecl) → IsIdentifier cell.cell → All IsTypedPortDecl ports → IsValid d → first (add_cell_of cell leaf ports d).refusals ≡ None → IsValid (edited d (add_cell_of cell leaf ports d).edits)
 add_cell_done d cell leaf ports identifier typed valid allowed =

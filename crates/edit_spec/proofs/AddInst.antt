@@ -10,30 +10,30 @@ use Rattle.netlist_schema.specs.Ident.{IsIdentifier}
 use Rattle.netlist_schema.specs.Names.{cell_names}
 use Rattle.netlist_schema.specs.Types.{CellBody, CellId, Contents, LibId, Object}
 use Rattle.netlist_schema.specs.Valid.{IsValid}
-use Rattle.edit_core.specs.Edit.{inner, edited, Edit, IsChanged, AllGoLast, AllPlaceOld, AllFindOld}
-use Rattle.edit_core.specs.Find.{cell_named, is_same, place_of, cell_in, lib_named}
-use Rattle.edit_core.specs.Local.{IsLocal}
-use Rattle.edit_core.specs.Objects.{AgreesOn, contents_object}
-use Rattle.edit_core.specs.Paths.{same_cell, is_below, is_cyclic}
-use Rattle.edit_core.specs.Reading.{IsForName, IsForPlacing}
-use Rattle.edit_core.specs.Rule.{first, no_lib, no_cell, refuse, is_leaf, too_many}
-use Rattle.edit_core.specs.Seen.{Named, named, inside, contents_at, holder}
-use Rattle.edit_core.specs.declared.reply.CellName.{CellName}
-use Rattle.edit_core.specs.declared.reply.Reply.{Reply}
-use Rattle.edit_core.specs.declared.reply.Reply.TheVariants.{Taken, LaterLibrary, IsCyclic, TooMany}
+use Rattle.edit_rules_spec.specs.Edit.{inner, edited, Edit, IsChanged, AllGoLast, AllPlaceOld, AllFindOld}
+use Rattle.edit_rules_spec.specs.Find.{cell_named, is_same, place_of, cell_in, lib_named}
+use Rattle.edit_rules_spec.specs.Local.{IsLocal}
+use Rattle.edit_rules_spec.specs.Objects.{AgreesOn, contents_object}
+use Rattle.edit_rules_spec.specs.Paths.{same_cell, is_below, is_cyclic}
+use Rattle.edit_rules_spec.specs.Reading.{IsForName, IsForPlacing}
+use Rattle.edit_rules_spec.specs.Rule.{first, no_lib, no_cell, refuse, is_leaf, too_many}
+use Rattle.edit_rules_spec.specs.Seen.{Named, named, inside, contents_at, holder}
+use Rattle.edit_rules_spec.specs.declared.reply.CellName.{CellName}
+use Rattle.edit_rules_spec.specs.declared.reply.Reply.{Reply}
+use Rattle.edit_rules_spec.specs.declared.reply.Reply.TheVariants.{Taken, LaterLibrary, IsCyclic, TooMany}
 use Rattle.edit_spec.specs.AddInst.{is_later, taken_inst, with_inst, add_inst, add_inst_of, add_inst_needs}
-use Rattle.edit_core.proofs.Closed.{is_cell_found}
-use Rattle.edit_core.proofs.Filled.{filled}
-use Rattle.edit_core.proofs.Levels.{below_is_found, same_cell-refl}
-use Rattle.edit_core.proofs.Named.{cell_there}
-use Rattle.edit_core.proofs.Reached.{either_same, iff_trans, cyclic_same, placing_needs_same, holder_same}
-use Rattle.edit_core.proofs.Refusals.{first_none, not_refused}
-use Rattle.edit_core.proofs.Same.{both_ways, named_same, name_needs_same, cell_named_same}
+use Rattle.edit_rules_spec.proofs.Closed.{is_cell_found}
+use Rattle.edit_rules_spec.proofs.Filled.{filled}
+use Rattle.edit_rules_spec.proofs.Levels.{below_is_found, same_cell-refl}
+use Rattle.edit_rules_spec.proofs.Named.{cell_there}
+use Rattle.edit_rules_spec.proofs.Reached.{either_same, iff_trans, cyclic_same, placing_needs_same, holder_same}
+use Rattle.edit_rules_spec.proofs.Refusals.{first_none, not_refused}
+use Rattle.edit_rules_spec.proofs.Same.{both_ways, named_same, name_needs_same, cell_named_same}
 use Rattle.edit_spec.proofs.Changed.{insts_there, more_insts}
 use Rattle.edit_spec.proofs.InsideStep.{inside_of, contents_edit}
 use Rattle.edit_spec.proofs.InstValid.{more_good, more_valid}
 use Rattle.edit_spec.proofs.JoinValid.{there}
-use Rattle.edit_core.proofs.There.{named_cell_there}
+use Rattle.edit_rules_spec.proofs.There.{named_cell_there}
 
 -- an instance is added
 lib_slot : (lib : LibId) (place : Option ℕ) (id : CellId) → option_map (λ slot. let c : CellId = record { lib = lib; slot = slot } in c) place ≡ Some id → lib ≡ id.lib

@@ -4,18 +4,18 @@ use Rattle.netlist_schema.specs.Design.{Design, insts_in, nets_in}
 use Rattle.netlist_schema.specs.Ident.{IsIdentifier}
 use Rattle.netlist_schema.specs.Types.{Contents}
 use Rattle.netlist_schema.specs.Valid.{IsValid}
-use Rattle.edit_core.specs.Edit.{inner, edited}
-use Rattle.edit_core.specs.Find.{cell_named}
-use Rattle.edit_core.specs.Local.{IsLocal}
-use Rattle.edit_core.specs.Rule.{first}
-use Rattle.edit_core.specs.Seen.{named, inside}
-use Rattle.edit_core.specs.declared.reply.CellName.{CellName}
+use Rattle.edit_rules_spec.specs.Edit.{inner, edited}
+use Rattle.edit_rules_spec.specs.Find.{cell_named}
+use Rattle.edit_rules_spec.specs.Local.{IsLocal}
+use Rattle.edit_rules_spec.specs.Rule.{first}
+use Rattle.edit_rules_spec.specs.Seen.{named, inside}
+use Rattle.edit_rules_spec.specs.declared.reply.CellName.{CellName}
 use Rattle.edit_spec.specs.AddNet.{with_net, no_new_net, add_net, add_net_of, add_net_needs}
-use Rattle.edit_core.proofs.Same.{cell_needs_same}
+use Rattle.edit_rules_spec.proofs.Same.{cell_needs_same}
 use Rattle.edit_spec.proofs.Changed.{of_cell, nets_written, one_last, one_places, insts_there, one_finds}
 use Rattle.edit_spec.proofs.InsideStep.{nets_step, after_cell}
 use Rattle.edit_spec.proofs.Valid.{good_before, add_net_good}
-use Rattle.edit_core.proofs.There.{named_cell_there}
+use Rattle.edit_rules_spec.proofs.There.{named_cell_there}
 
 pub add_net_done : (d : Design) (cell : CellName) (net : List ℕ) → IsIdentifier net → IsValid d → first (add_net_of cell net d).refusals ≡ None → IsValid (edited d (add_net_of cell net d).edits)
 add_net_done d cell net identifier valid allowed =

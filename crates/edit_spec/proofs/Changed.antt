@@ -9,19 +9,19 @@ use Rattle.netlist_schema.specs.Hierarchy.{IsCell, insts_at}
 use Rattle.netlist_schema.specs.Types.{CellId, Contents, Net, Note, Inst, Object, Port, Property}
 use Rattle.netlist_schema.specs.declared.ids.Object.TheVariants.{Notes}
 use Rattle.netlist_schema.proofs.Lists.{all_append}
-use Rattle.edit_core.specs.Edit.{Edit, inner, noted, IsChanged, GoesLast, AllGoLast, PlacesOld, AllPlaceOld, changed_at, FindsOld, AllFindOld}
-use Rattle.edit_core.specs.Objects.{AgreesOn, Grown, IsClosed, contents_object}
-use Rattle.edit_core.specs.Reading.{IsInside, IsForCell, IsForEnd}
-use Rattle.edit_core.specs.Rule.{Rule}
-use Rattle.edit_core.specs.Seen.{Named, named, contents_at, inside, end_ports}
-use Rattle.edit_core.specs.declared.reply.CellName.{CellName}
-use Rattle.edit_core.specs.declared.reply.EndName.{EndName}
+use Rattle.edit_rules_spec.specs.Edit.{Edit, inner, noted, IsChanged, GoesLast, AllGoLast, PlacesOld, AllPlaceOld, changed_at, FindsOld, AllFindOld}
+use Rattle.edit_rules_spec.specs.Objects.{AgreesOn, Grown, IsClosed, contents_object}
+use Rattle.edit_rules_spec.specs.Reading.{IsInside, IsForCell, IsForEnd}
+use Rattle.edit_rules_spec.specs.Rule.{Rule}
+use Rattle.edit_rules_spec.specs.Seen.{Named, named, contents_at, inside, end_ports}
+use Rattle.edit_rules_spec.specs.declared.reply.CellName.{CellName}
+use Rattle.edit_rules_spec.specs.declared.reply.EndName.{EndName}
 use Rattle.edit_spec.specs.AddInst.{new_inst, with_inst}
 use Rattle.edit_spec.specs.Inside.{set_nets, set_insts}
 use Rattle.edit_spec.specs.SetProp.{set_property}
-use Rattle.edit_core.proofs.Closed.{All-from_contained}
-use Rattle.edit_core.proofs.Lists.{All-drop, All-changed_at}
-use Rattle.edit_core.proofs.Same.{named_same, inside_same, end_ports_same, by_name}
+use Rattle.edit_rules_spec.proofs.Closed.{All-from_contained}
+use Rattle.edit_rules_spec.proofs.Lists.{All-drop, All-changed_at}
+use Rattle.edit_rules_spec.proofs.Same.{named_same, inside_same, end_ports_same, by_name}
 use Rattle.edit_spec.proofs.Shown.{insts_found}
 
 -- an operation on one cell

@@ -10,13 +10,13 @@ use Rattle.netlist_schema.specs.Typed.{IsTypedNet, IsTypedProperty}
 use Rattle.netlist_schema.specs.Types.{CellBody, End, Net, Property}
 use Rattle.netlist_schema.specs.Valid.{IsEndOf}
 use Rattle.netlist_schema.proofs.Lists.{all_append, all_behind}
-use Rattle.edit_core.specs.Edit.{changed_at}
-use Rattle.edit_core.specs.Find.{is_name, property_place}
+use Rattle.edit_rules_spec.specs.Edit.{changed_at}
+use Rattle.edit_rules_spec.specs.Find.{is_name, property_place}
 use Rattle.edit_spec.specs.Cut.{is_end, net_without_end, without_end}
 use Rattle.edit_spec.specs.SetProp.{set_property}
-use Rattle.edit_core.proofs.Edits.{map-changed_at}
-use Rattle.edit_core.proofs.Lists.{Apart, apart_of, distinct_of, each_left, All-changed_at, length-changed_at, All-drop, apart_drop, apart_filter, apart_more, apart_rest, apart_right, each_filter, filter_both, found_key, length_drop, length_filter, map_drop, missing_key}
-use Rattle.edit_core.proofs.Refusals.{is_name-refl, same_name}
+use Rattle.edit_rules_spec.proofs.Edits.{map-changed_at}
+use Rattle.edit_rules_spec.proofs.Lists.{Apart, apart_of, distinct_of, each_left, All-changed_at, length-changed_at, All-drop, apart_drop, apart_filter, apart_more, apart_rest, apart_right, each_filter, filter_both, found_key, length_drop, length_filter, map_drop, missing_key}
+use Rattle.edit_rules_spec.proofs.Refusals.{is_name-refl, same_name}
 use Rattle.edit_spec.proofs.Joined.{ends_of_nets}
 use Rattle.edit_spec.proofs.Valid.{AreGoodNets}
 

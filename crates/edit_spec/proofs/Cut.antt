@@ -2,24 +2,24 @@
 use Rattle.std.proofs.Common.{◌≡◌, None, inl, inr}
 use Rattle.netlist_schema.specs.Design.{Design, insts_in, nets_in}
 use Rattle.netlist_schema.specs.Valid.{IsValid}
-use Rattle.edit_core.specs.Edit.{inner, edited}
-use Rattle.edit_core.specs.Find.{cell_named}
-use Rattle.edit_core.specs.Local.{IsLocal}
-use Rattle.edit_core.specs.Objects.{AgreesOn}
-use Rattle.edit_core.specs.Reading.{IsForCell}
-use Rattle.edit_core.specs.Rule.{first}
-use Rattle.edit_core.specs.Seen.{named, inside, end_ports}
-use Rattle.edit_core.specs.declared.reply.CellName.{CellName}
-use Rattle.edit_core.specs.declared.reply.EndName.{EndName}
+use Rattle.edit_rules_spec.specs.Edit.{inner, edited}
+use Rattle.edit_rules_spec.specs.Find.{cell_named}
+use Rattle.edit_rules_spec.specs.Local.{IsLocal}
+use Rattle.edit_rules_spec.specs.Objects.{AgreesOn}
+use Rattle.edit_rules_spec.specs.Reading.{IsForCell}
+use Rattle.edit_rules_spec.specs.Rule.{first}
+use Rattle.edit_rules_spec.specs.Seen.{named, inside, end_ports}
+use Rattle.edit_rules_spec.specs.declared.reply.CellName.{CellName}
+use Rattle.edit_rules_spec.specs.declared.reply.EndName.{EndName}
 use Rattle.edit_spec.specs.Cut.{without_end, cut, cut_of, cut_needs}
 use Rattle.edit_spec.specs.Ends.{end_named}
-use Rattle.edit_core.proofs.Reached.{either_same}
-use Rattle.edit_core.proofs.Same.{cell_needs_same, end_needs_same}
+use Rattle.edit_rules_spec.proofs.Reached.{either_same}
+use Rattle.edit_rules_spec.proofs.Same.{cell_needs_same, end_needs_same}
 use Rattle.edit_spec.proofs.Changed.{of_end, nets_written, one_last, one_places, insts_there, one_finds}
 use Rattle.edit_spec.proofs.Changes.{cut_good}
 use Rattle.edit_spec.proofs.InsideStep.{nets_step}
 use Rattle.edit_spec.proofs.Valid.{good_before}
-use Rattle.edit_core.proofs.There.{named_cell_there}
+use Rattle.edit_rules_spec.proofs.There.{named_cell_there}
 
 pub cut_done : (d : Design) (cell : CellName) (end : EndName) → IsValid d → first (cut_of cell end d).refusals ≡ None → IsValid (edited d (cut_of cell end d).edits)
 cut_done d cell end valid allowed =

@@ -7,24 +7,24 @@ use Rattle.netlist_schema.specs.Design.{Design, insts_in}
 use Rattle.netlist_schema.specs.Hierarchy.{IsCell}
 use Rattle.netlist_schema.specs.Types.{CellId, Contents, Object, Note, TopHead}
 use Rattle.netlist_schema.specs.Valid.{IsValid}
-use Rattle.edit_core.specs.Edit.{inner, edited, edited_once, Edit, IsChanged, AllGoLast, AllPlaceOld, AllFindOld}
-use Rattle.edit_core.specs.Find.{cell_named, inst_place}
-use Rattle.edit_core.specs.Local.{IsLocal}
-use Rattle.edit_core.specs.Notes.{seen_if, other_notes}
-use Rattle.edit_core.specs.Objects.{AgreesOn}
-use Rattle.edit_core.specs.Reading.{IsForCell, IsForNotes}
-use Rattle.edit_core.specs.Rule.{first, no_lib, no_cell, no_inst}
-use Rattle.edit_core.specs.Seen.{named, inside}
-use Rattle.edit_core.specs.declared.reply.CellName.{CellName}
-use Rattle.edit_core.proofs.Edits.{changed-cases}
+use Rattle.edit_rules_spec.specs.Edit.{inner, edited, edited_once, Edit, IsChanged, AllGoLast, AllPlaceOld, AllFindOld}
+use Rattle.edit_rules_spec.specs.Find.{cell_named, inst_place}
+use Rattle.edit_rules_spec.specs.Local.{IsLocal}
+use Rattle.edit_rules_spec.specs.Notes.{seen_if, other_notes}
+use Rattle.edit_rules_spec.specs.Objects.{AgreesOn}
+use Rattle.edit_rules_spec.specs.Reading.{IsForCell, IsForNotes}
+use Rattle.edit_rules_spec.specs.Rule.{first, no_lib, no_cell, no_inst}
+use Rattle.edit_rules_spec.specs.Seen.{named, inside}
+use Rattle.edit_rules_spec.specs.declared.reply.CellName.{CellName}
+use Rattle.edit_rules_spec.proofs.Edits.{changed-cases}
 use Rattle.edit_spec.specs.DropInst.{without_inst, set_notes, drop_inst, drop_inst_of, drop_inst_needs}
-use Rattle.edit_core.proofs.Named.{cell_there}
-use Rattle.edit_core.proofs.Reached.{either_same, iff_trans, seen_others_same, seen_notes_same, for_notes_same}
-use Rattle.edit_core.proofs.Refusals.{first_none}
-use Rattle.edit_core.proofs.Same.{both_ways, named_same, inside_same, cell_needs_same, by_name, cell_named_same}
+use Rattle.edit_rules_spec.proofs.Named.{cell_there}
+use Rattle.edit_rules_spec.proofs.Reached.{either_same, iff_trans, seen_others_same, seen_notes_same, for_notes_same}
+use Rattle.edit_rules_spec.proofs.Refusals.{first_none}
+use Rattle.edit_rules_spec.proofs.Same.{both_ways, named_same, inside_same, cell_needs_same, by_name, cell_named_same}
 use Rattle.edit_spec.proofs.Changed.{insts_there, inside_written, is_notes, one_less, set_last, set_places, set_finds}
 use Rattle.edit_spec.proofs.DropValid.{drop_edit}
-use Rattle.edit_core.proofs.There.{named_cell_there}
+use Rattle.edit_rules_spec.proofs.There.{named_cell_there}
 
 pub drop_inst_done : (d : Design) (cell : CellName) (inst : List ℕ) → IsValid d → first (drop_inst_of cell inst d).refusals ≡ None → IsValid (edited d (drop_inst_of cell inst d).edits)
 drop_inst_done d cell inst valid allowed =

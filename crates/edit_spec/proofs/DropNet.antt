@@ -4,19 +4,19 @@ use Rattle.std.specs.Option.{option_map_or}
 use Rattle.netlist_schema.specs.Design.{Design, insts_in, nets_in, nets_of}
 use Rattle.netlist_schema.specs.Types.{CellBody}
 use Rattle.netlist_schema.specs.Valid.{IsValid}
-use Rattle.edit_core.specs.Edit.{inner, edited}
-use Rattle.edit_core.specs.Find.{cell_named, net_place}
-use Rattle.edit_core.specs.Local.{IsLocal}
-use Rattle.edit_core.specs.Rule.{first}
-use Rattle.edit_core.specs.Seen.{named, inside}
-use Rattle.edit_core.specs.declared.reply.CellName.{CellName}
+use Rattle.edit_rules_spec.specs.Edit.{inner, edited}
+use Rattle.edit_rules_spec.specs.Find.{cell_named, net_place}
+use Rattle.edit_rules_spec.specs.Local.{IsLocal}
+use Rattle.edit_rules_spec.specs.Rule.{first}
+use Rattle.edit_rules_spec.specs.Seen.{named, inside}
+use Rattle.edit_rules_spec.specs.declared.reply.CellName.{CellName}
 use Rattle.edit_spec.specs.DropNet.{without_net, drop_net, drop_net_of, drop_net_needs}
-use Rattle.edit_core.proofs.Same.{cell_needs_same}
+use Rattle.edit_rules_spec.proofs.Same.{cell_needs_same}
 use Rattle.edit_spec.proofs.Changed.{of_cell, nets_written, one_last, one_places, insts_there, one_finds}
 use Rattle.edit_spec.proofs.Changes.{drop_good}
 use Rattle.edit_spec.proofs.InsideStep.{nets_step}
 use Rattle.edit_spec.proofs.Valid.{AreGoodNets, good_before}
-use Rattle.edit_core.proofs.There.{named_cell_there}
+use Rattle.edit_rules_spec.proofs.There.{named_cell_there}
 
 dropped : (d : Design) (body : CellBody) (place : Option ℕ) → AreGoodNets d body (nets_of body) → AreGoodNets d body (option_map_or (λ i. remove (nets_of body) i) place (nets_of body))
 dropped d body None good = good

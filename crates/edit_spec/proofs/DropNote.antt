@@ -7,16 +7,16 @@ use Rattle.netlist_schema.specs.Names.{AreDistinct, note_key}
 use Rattle.netlist_schema.specs.Typed.{IsTypedNote}
 use Rattle.netlist_schema.specs.Types.{Note, TopHead, Object}
 use Rattle.netlist_schema.specs.Valid.{IsValid, IsNoteBelow}
-use Rattle.edit_core.specs.Edit.{edited, IsChanged, AllGoLast, AllPlaceOld, AllFindOld}
-use Rattle.edit_core.specs.Local.{IsLocal}
-use Rattle.edit_core.specs.Notes.{notes_seen, note_place, put_notes}
-use Rattle.edit_core.specs.Reading.{IsNotesBelow}
-use Rattle.edit_core.specs.Rule.{first}
+use Rattle.edit_rules_spec.specs.Edit.{edited, IsChanged, AllGoLast, AllPlaceOld, AllFindOld}
+use Rattle.edit_rules_spec.specs.Local.{IsLocal}
+use Rattle.edit_rules_spec.specs.Notes.{notes_seen, note_place, put_notes}
+use Rattle.edit_rules_spec.specs.Reading.{IsNotesBelow}
+use Rattle.edit_rules_spec.specs.Rule.{first}
 use Rattle.edit_spec.specs.DropNote.{drop_note, drop_note_of, drop_note_needs}
-use Rattle.edit_core.proofs.InnerValid.{AreGoodNotes, good_notes_before, notes_valid}
-use Rattle.edit_core.proofs.Lists.{All-drop, length_drop, map_drop, apart_drop, apart_of, distinct_of}
-use Rattle.edit_core.proofs.Reached.{top_notes_same}
-use Rattle.edit_core.proofs.Same.{both_ways}
+use Rattle.edit_rules_spec.proofs.InnerValid.{AreGoodNotes, good_notes_before, notes_valid}
+use Rattle.edit_rules_spec.proofs.Lists.{All-drop, length_drop, map_drop, apart_drop, apart_of, distinct_of}
+use Rattle.edit_rules_spec.proofs.Reached.{top_notes_same}
+use Rattle.edit_rules_spec.proofs.Same.{both_ways}
 use Rattle.netlist_schema.specs.declared.ids.Object.TheVariants.{Notes}
 
 -- a note is dropped

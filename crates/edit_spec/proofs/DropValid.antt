@@ -14,22 +14,22 @@ use Rattle.netlist_schema.specs.Typed.{IsTypedInst, IsTypedNet, IsTypedNote}
 use Rattle.netlist_schema.specs.Types.{CellBody, CellId, Contents, End, Inst, Net, Note, TopHead}
 use Rattle.netlist_schema.specs.Valid.{IsValid, IsValidCell, IsEndAt, IsEndOf, HasBit, IsNoteBelow}
 use Rattle.netlist_schema.proofs.Lists.{all_weaker, all_append}
-use Rattle.edit_core.specs.Edit.{inner, edited_once, noted, edited}
-use Rattle.edit_core.specs.Find.{is_name, inst_named, inst_place}
-use Rattle.edit_core.specs.Notes.{goes_on, other_notes, seen_if}
-use Rattle.edit_core.specs.Paths.{same_cell, goes_through}
-use Rattle.edit_core.specs.Rule.{no_inst}
-use Rattle.edit_core.specs.declared.reply.Reply.TheVariants.{NoInst}
+use Rattle.edit_rules_spec.specs.Edit.{inner, edited_once, noted, edited}
+use Rattle.edit_rules_spec.specs.Find.{is_name, inst_named, inst_place}
+use Rattle.edit_rules_spec.specs.Notes.{goes_on, other_notes, seen_if}
+use Rattle.edit_rules_spec.specs.Paths.{same_cell, goes_through}
+use Rattle.edit_rules_spec.specs.Rule.{no_inst}
+use Rattle.edit_rules_spec.specs.declared.reply.Reply.TheVariants.{NoInst}
 use Rattle.edit_spec.specs.DropInst.{end_moved, end_without_inst, net_without_inst, without_inst, set_notes}
 use Rattle.edit_spec.specs.Step.{step}
 use Rattle.netlist_schema.proofs.WithCell.{cases_cell}
-use Rattle.edit_core.proofs.Filled.{fill, filled, inner_filled, has_contents}
-use Rattle.edit_core.proofs.InnerValid.{AreGoodContents, AreGoodNotes, good_notes_before, with_both, inner_valid, inst_after, inst_here, inst_elsewhere, below_with_more}
-use Rattle.edit_core.proofs.Levels.{same_cell-refl}
-use Rattle.edit_core.proofs.Lists.{All-drop, length_drop, map_drop, apart_drop, length_filter, Apart, apart_of, distinct_of}
-use Rattle.edit_core.proofs.Named.{inst_at_place, leads, named_at}
-use Rattle.edit_core.proofs.Reached.{Contains-tail}
-use Rattle.edit_core.proofs.Refusals.{is_name-refl}
+use Rattle.edit_rules_spec.proofs.Filled.{fill, filled, inner_filled, has_contents}
+use Rattle.edit_rules_spec.proofs.InnerValid.{AreGoodContents, AreGoodNotes, good_notes_before, with_both, inner_valid, inst_after, inst_here, inst_elsewhere, below_with_more}
+use Rattle.edit_rules_spec.proofs.Levels.{same_cell-refl}
+use Rattle.edit_rules_spec.proofs.Lists.{All-drop, length_drop, map_drop, apart_drop, length_filter, Apart, apart_of, distinct_of}
+use Rattle.edit_rules_spec.proofs.Named.{inst_at_place, leads, named_at}
+use Rattle.edit_rules_spec.proofs.Reached.{Contains-tail}
+use Rattle.edit_rules_spec.proofs.Refusals.{is_name-refl}
 use Rattle.edit_spec.proofs.InsideStep.{inside_of}
 use Rattle.edit_spec.proofs.InstValid.{good_contents_before}
 use Rattle.edit_spec.proofs.JoinValid.{there}

@@ -1,7 +1,7 @@
 -- The worked examples compute.
 use Rattle.std.proofs.Common.{◌≡◌, map, refl}
 use Rattle.std.specs.Fmt.{digits}
-use Rattle.edit_core.specs.Paths.{most_cells}
+use Rattle.edit_rules_spec.specs.Paths.{most_cells}
 use Rattle.uniquify_spec.specs.Blocks.{trees_below}
 use Rattle.edit_spec.specs.Step.{run}
 use Rattle.edit_spec.specs.Worked.{ShownReply, ungroup_replies, worked_design, whole_replies}

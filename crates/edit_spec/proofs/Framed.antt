@@ -3,17 +3,17 @@ use Rattle.std.proofs.Common.{◌≡◌, List, [], ap, subst}
 use Rattle.netlist_schema.specs.Design.{Design}
 use Rattle.netlist_schema.specs.Types.{Object}
 use Rattle.netlist_schema.specs.Valid.{IsValid}
-use Rattle.edit_core.specs.Edit.{Edit, edited, IsChanged}
-use Rattle.edit_core.specs.Objects.{Agrees, AgreesOn, Grown, IsClosed}
-use Rattle.edit_core.specs.Rule.{IsRefusal}
+use Rattle.edit_rules_spec.specs.Edit.{Edit, edited, IsChanged}
+use Rattle.edit_rules_spec.specs.Objects.{Agrees, AgreesOn, Grown, IsClosed}
+use Rattle.edit_rules_spec.specs.Rule.{IsRefusal}
 use Rattle.edit_spec.specs.Frame.{ChangesNothing, IsFramed}
 use Rattle.edit_spec.specs.Needs.{Needs, Writes}
 use Rattle.edit_spec.specs.Rows.{outcome, row_of}
 use Rattle.edit_spec.specs.Step.{step}
 use Rattle.edit_spec.specs.Typed.{IsTypedOp}
 use Rattle.edit_spec.specs.declared.ops.Op.{Op}
-use Rattle.edit_core.proofs.Framed.{local_frame, local_agrees, local_stays, local_closed, local_valid, local_refused}
-use Rattle.edit_core.proofs.Growing.{edited_is_grown}
+use Rattle.edit_rules_spec.proofs.Framed.{local_frame, local_agrees, local_stays, local_closed, local_valid, local_refused}
+use Rattle.edit_rules_spec.proofs.Growing.{edited_is_grown}
 use Rattle.edit_spec.proofs.Local.{local}
 
 pub step_stays : (d : Design) (op : Op) → AgreesOn d (step d op).design (λ o. ¬ Writes d op o)

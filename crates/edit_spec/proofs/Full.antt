@@ -5,11 +5,11 @@ use Rattle.std.specs.Option.{option_map, option_to_list}
 use Rattle.std.specs.Prelude.{nat_lt, sum_by}
 use Rattle.netlist_schema.specs.Design.{Design, port_width}
 use Rattle.netlist_schema.specs.Types.{LibId}
-use Rattle.edit_core.specs.Edit.{fresh}
-use Rattle.edit_core.specs.Find.{is_same}
-use Rattle.edit_core.specs.Rule.{ruled, unless, first, refuse, too_many}
-use Rattle.edit_core.specs.declared.reply.CellName.{CellName}
-use Rattle.edit_core.specs.declared.reply.Reply.TheVariants.{Done, NoLib, Taken, TooMany}
+use Rattle.edit_rules_spec.specs.Edit.{fresh}
+use Rattle.edit_rules_spec.specs.Find.{is_same}
+use Rattle.edit_rules_spec.specs.Rule.{ruled, unless, first, refuse, too_many}
+use Rattle.edit_rules_spec.specs.declared.reply.CellName.{CellName}
+use Rattle.edit_rules_spec.specs.declared.reply.Reply.TheVariants.{Done, NoLib, Taken, TooMany}
 use Rattle.edit_spec.specs.AddCell.{names_in, new_port, new_cell, has_twice, add_cell}
 use Rattle.edit_spec.specs.WorkedLimits.{IsFullLibrary}
 use Rattle.edit_spec.specs.declared.ops.PortDecl.{PortDecl}

@@ -4,16 +4,16 @@ use Rattle.std.specs.Option.{option_map, option_and_then, option_to_list}
 use Rattle.netlist_schema.specs.Design.{Design, cell_at, insts_in, insts_of, nets_in, nets_of}
 use Rattle.netlist_schema.specs.Types.{CellBody, CellId, Contents, Net, Inst}
 use Rattle.netlist_schema.specs.Valid.{IsValid}
-use Rattle.edit_core.specs.Edit.{inner, edited, edited_once}
-use Rattle.edit_core.specs.Find.{cell_named}
-use Rattle.edit_core.specs.Rule.{first, no_lib, no_cell}
-use Rattle.edit_core.specs.Seen.{Named, named, inside, contents_at}
-use Rattle.edit_core.specs.declared.reply.CellName.{CellName}
-use Rattle.edit_core.specs.declared.reply.Reply.{Reply}
+use Rattle.edit_rules_spec.specs.Edit.{inner, edited, edited_once}
+use Rattle.edit_rules_spec.specs.Find.{cell_named}
+use Rattle.edit_rules_spec.specs.Rule.{first, no_lib, no_cell}
+use Rattle.edit_rules_spec.specs.Seen.{Named, named, inside, contents_at}
+use Rattle.edit_rules_spec.specs.declared.reply.CellName.{CellName}
+use Rattle.edit_rules_spec.specs.declared.reply.Reply.{Reply}
 use Rattle.edit_spec.specs.Inside.{set_nets}
-use Rattle.edit_core.proofs.Filled.{inner_is_valid, filled}
-use Rattle.edit_core.proofs.Named.{cell_there}
-use Rattle.edit_core.proofs.Refusals.{first_none}
+use Rattle.edit_rules_spec.proofs.Filled.{inner_is_valid, filled}
+use Rattle.edit_rules_spec.proofs.Named.{cell_there}
+use Rattle.edit_rules_spec.proofs.Refusals.{first_none}
 use Rattle.edit_spec.proofs.JoinValid.{there}
 use Rattle.edit_spec.proofs.Valid.{AreGoodNets, nets_valid}
 

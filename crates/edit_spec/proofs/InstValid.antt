@@ -18,16 +18,16 @@ use Rattle.netlist_schema.specs.Typed.{IsTypedCell, IsTypedInst, IsTypedProperty
 use Rattle.netlist_schema.specs.Types.{CellBody, CellId, Contents, Inst, Property}
 use Rattle.netlist_schema.specs.Valid.{IsValid, IsValidCell, IsEndAt, IsEndOf, HasBit, IsNoteBelow}
 use Rattle.netlist_schema.proofs.Ranks.{below_trans}
-use Rattle.edit_core.specs.Edit.{changed_at}
-use Rattle.edit_core.specs.Find.{is_same}
+use Rattle.edit_rules_spec.specs.Edit.{changed_at}
+use Rattle.edit_rules_spec.specs.Find.{is_same}
 use Rattle.edit_spec.specs.AddInst.{new_inst}
 use Rattle.edit_spec.specs.SetProp.{set_property}
-use Rattle.edit_core.proofs.Edits.{map-changed_at}
-use Rattle.edit_core.proofs.Filled.{fill, filled, with_changed_is}
-use Rattle.edit_core.proofs.InnerValid.{AreGoodContents, good_notes_before, weaker_top, with_both, inner_valid, inst_after, inst_here, inst_elsewhere, resolves_with_more}
-use Rattle.edit_core.proofs.Lists.{All-changed_at, length-changed_at}
-use Rattle.edit_core.proofs.Reached.{Contains-tail}
-use Rattle.edit_core.proofs.Refusals.{is_same-refl}
+use Rattle.edit_rules_spec.proofs.Edits.{map-changed_at}
+use Rattle.edit_rules_spec.proofs.Filled.{fill, filled, with_changed_is}
+use Rattle.edit_rules_spec.proofs.InnerValid.{AreGoodContents, good_notes_before, weaker_top, with_both, inner_valid, inst_after, inst_here, inst_elsewhere, resolves_with_more}
+use Rattle.edit_rules_spec.proofs.Lists.{All-changed_at, length-changed_at}
+use Rattle.edit_rules_spec.proofs.Reached.{Contains-tail}
+use Rattle.edit_rules_spec.proofs.Refusals.{is_same-refl}
 use Rattle.edit_spec.proofs.Changes.{set_property_typed, set_property_distinct}
 
 -- the contents before are good

@@ -4,24 +4,24 @@ use Rattle.std.specs.Option.{option_map, option_and_then}
 use Rattle.netlist_schema.specs.Design.{Design, cell_at, insts_in, nets_in, nets_of}
 use Rattle.netlist_schema.specs.Types.{CellBody, CellId, Contents}
 use Rattle.netlist_schema.specs.Valid.{IsValid}
-use Rattle.edit_core.specs.Edit.{inner, edited}
-use Rattle.edit_core.specs.Find.{cell_named, inst_named}
-use Rattle.edit_core.specs.Local.{IsLocal}
-use Rattle.edit_core.specs.Objects.{face_at, face_of, AgreesOn}
-use Rattle.edit_core.specs.Reading.{IsForCell}
-use Rattle.edit_core.specs.Rule.{first}
-use Rattle.edit_core.specs.Seen.{named, inside, end_ports, ports_seen}
-use Rattle.edit_core.specs.declared.reply.CellName.{CellName}
-use Rattle.edit_core.specs.declared.reply.EndName.{EndName}
+use Rattle.edit_rules_spec.specs.Edit.{inner, edited}
+use Rattle.edit_rules_spec.specs.Find.{cell_named, inst_named}
+use Rattle.edit_rules_spec.specs.Local.{IsLocal}
+use Rattle.edit_rules_spec.specs.Objects.{face_at, face_of, AgreesOn}
+use Rattle.edit_rules_spec.specs.Reading.{IsForCell}
+use Rattle.edit_rules_spec.specs.Rule.{first}
+use Rattle.edit_rules_spec.specs.Seen.{named, inside, end_ports, ports_seen}
+use Rattle.edit_rules_spec.specs.declared.reply.CellName.{CellName}
+use Rattle.edit_rules_spec.specs.declared.reply.EndName.{EndName}
 use Rattle.edit_spec.specs.Ends.{end_named}
 use Rattle.edit_spec.specs.Join.{with_end, no_join, join, join_of, join_needs}
-use Rattle.edit_core.proofs.Reached.{either_same}
-use Rattle.edit_core.proofs.Same.{cell_needs_same, end_needs_same}
+use Rattle.edit_rules_spec.proofs.Reached.{either_same}
+use Rattle.edit_rules_spec.proofs.Same.{cell_needs_same, end_needs_same}
 use Rattle.edit_spec.proofs.Changed.{of_end, nets_written, one_last, one_places, insts_there, one_finds}
 use Rattle.edit_spec.proofs.InsideStep.{nets_step, after_cell}
 use Rattle.edit_spec.proofs.JoinValid.{ports_from, join_seen_good}
 use Rattle.edit_spec.proofs.Valid.{AreGoodNets}
-use Rattle.edit_core.proofs.There.{named_cell_there}
+use Rattle.edit_rules_spec.proofs.There.{named_cell_there}
 
 -- the ports that are seen are those of the cell that is found
 ports_found : (d : Design) (cell : CellName) (id : CellId) (body : CellBody) (inst : Option (List ℕ)) → cell_named d cell ≡ Some id → cell_at d id ≡ Some body → inside d cell ≡ body.contents → ports_from d body inst ≡ end_ports d cell inst

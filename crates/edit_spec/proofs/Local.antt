@@ -1,5 +1,5 @@
 -- Each operation sees what it needs and no more.
-use Rattle.edit_core.specs.Local.{IsLocal}
+use Rattle.edit_rules_spec.specs.Local.{IsLocal}
 use Rattle.edit_spec.specs.Needs.{Needs}
 use Rattle.edit_spec.specs.Rows.{row_of}
 use Rattle.edit_spec.specs.Typed.{IsTypedOp}

@@ -13,14 +13,14 @@ use Rattle.netlist_schema.specs.Names.{AreDistinct, HasDistinctKeys, cell_names}
 use Rattle.netlist_schema.specs.Typed.{IsTypedInst, IsTypedNet, IsTypedPort}
 use Rattle.netlist_schema.specs.Types.{CellBody, End, Inst, Lib, LibId, Net, Port}
 use Rattle.netlist_schema.specs.Valid.{IsValid, IsEndOf}
-use Rattle.edit_core.specs.Edit.{fresh, edited, with_more_cell}
-use Rattle.edit_core.specs.Find.{is_same}
+use Rattle.edit_rules_spec.specs.Edit.{fresh, edited, with_more_cell}
+use Rattle.edit_rules_spec.specs.Find.{is_same}
 use Rattle.edit_spec.specs.AddCell.{names_in, new_port, new_cell, has_twice}
 use Rattle.edit_spec.specs.Typed.{IsTypedPortDecl}
 use Rattle.edit_spec.specs.declared.ops.PortDecl.{PortDecl}
-use Rattle.edit_core.proofs.Lists.{Apart, distinct_of}
-use Rattle.edit_core.proofs.MoreCell.{IsGoodCell, more_cell_valid}
-use Rattle.edit_core.proofs.Refusals.{is_same-refl}
+use Rattle.edit_rules_spec.proofs.Lists.{Apart, distinct_of}
+use Rattle.edit_rules_spec.proofs.MoreCell.{IsGoodCell, more_cell_valid}
+use Rattle.edit_rules_spec.proofs.Refusals.{is_same-refl}
 
 pub nothing_inside : (name : List ℕ) (leaf : Bool) (ports : List PortDecl) → insts_of (new_cell name leaf ports) ≡ []
 nothing_inside name true ports = refl

@@ -2,18 +2,18 @@
 use Rattle.std.proofs.Common.{◌≡◌, ◌↔◌, ◌++◌, ◌⊎◌, inl, inr, ⊎_elim, List, [], ◌∷◌, refl, ap}
 use Rattle.netlist_schema.specs.Design.{Design}
 use Rattle.netlist_schema.specs.Types.{Object}
-use Rattle.edit_core.specs.Objects.{Agrees, AgreesOn, Grown, IsClosed, IsThere}
-use Rattle.edit_core.specs.Overlay.{IsOverlaid}
+use Rattle.edit_rules_spec.specs.Objects.{Agrees, AgreesOn, Grown, IsClosed, IsThere}
+use Rattle.edit_rules_spec.specs.Overlay.{IsOverlaid}
 use Rattle.edit_spec.specs.Needs.{Needs, Writes, Written, Reads}
 use Rattle.edit_spec.specs.Rows.{row_of, outcome}
 use Rattle.edit_spec.specs.Step.{step, run}
 use Rattle.edit_spec.specs.Typed.{IsTypedOp}
 use Rattle.edit_spec.specs.declared.ops.Op.{Op}
-use Rattle.edit_core.proofs.Edits.{Agrees-refl, Agrees-trans}
-use Rattle.edit_core.proofs.Framed.{local_there}
-use Rattle.edit_core.proofs.Overlaid.{one_overlay}
-use Rattle.edit_core.proofs.There.{there_stays}
-use Rattle.edit_core.proofs.Written.{either_told, edits_told}
+use Rattle.edit_rules_spec.proofs.Edits.{Agrees-refl, Agrees-trans}
+use Rattle.edit_rules_spec.proofs.Framed.{local_there}
+use Rattle.edit_rules_spec.proofs.Overlaid.{one_overlay}
+use Rattle.edit_rules_spec.proofs.There.{there_stays}
+use Rattle.edit_rules_spec.proofs.Written.{either_told, edits_told}
 use Rattle.edit_spec.proofs.Framed.{step_stays}
 use Rattle.edit_spec.proofs.Local.{local}
 use Rattle.edit_spec.proofs.Replayed.{replay}

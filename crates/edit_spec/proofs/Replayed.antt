@@ -2,12 +2,12 @@
 use Rattle.std.proofs.Common.{◌≡◌, ⊎_elim, inl, inr, List, [], ◌∷◌, refl}
 use Rattle.netlist_schema.specs.Design.{Design}
 use Rattle.netlist_schema.specs.Types.{Object}
-use Rattle.edit_core.specs.Objects.{Agrees, AgreesOn, AreSameObjects, Grown, IsClosed}
+use Rattle.edit_rules_spec.specs.Objects.{Agrees, AgreesOn, AreSameObjects, Grown, IsClosed}
 use Rattle.edit_spec.specs.Frame.{IsFramed, IsReplayed}
 use Rattle.edit_spec.specs.Needs.{Needs, Reads, Writes, Written}
 use Rattle.edit_spec.specs.Step.{step, run}
 use Rattle.edit_spec.specs.declared.ops.Op.{Op}
-use Rattle.edit_core.proofs.Reached.{either_same}
+use Rattle.edit_rules_spec.proofs.Reached.{either_same}
 use Rattle.edit_spec.proofs.Framed.{frame, step_agrees, step_closed}
 
 -- several operations, and what stays the same over them

@@ -14,24 +14,24 @@ use Rattle.netlist_schema.specs.Typed.{IsTypedProperty, IsTypedNote}
 use Rattle.netlist_schema.specs.Types.{Note, Property, TopHead, Object}
 use Rattle.netlist_schema.specs.Valid.{IsValid, IsNoteBelow}
 use Rattle.flat_spec.proofs.TestLemmas.{names_same, names_refl}
-use Rattle.edit_core.specs.Edit.{edited, IsChanged}
-use Rattle.edit_core.specs.Find.{is_name}
-use Rattle.edit_core.specs.Local.{IsLocal}
-use Rattle.edit_core.specs.Notes.{notes_seen, note_place, put_notes}
-use Rattle.edit_core.specs.Paths.{resolves, is_path}
-use Rattle.edit_core.specs.Reading.{IsForPath}
-use Rattle.edit_core.specs.Rule.{first, refuse}
+use Rattle.edit_rules_spec.specs.Edit.{edited, IsChanged}
+use Rattle.edit_rules_spec.specs.Find.{is_name}
+use Rattle.edit_rules_spec.specs.Local.{IsLocal}
+use Rattle.edit_rules_spec.specs.Notes.{notes_seen, note_place, put_notes}
+use Rattle.edit_rules_spec.specs.Paths.{resolves, is_path}
+use Rattle.edit_rules_spec.specs.Reading.{IsForPath}
+use Rattle.edit_rules_spec.specs.Rule.{first, refuse}
 use Rattle.edit_spec.proofs.DropNote.{put_last, put_finds, put_places}
 use Rattle.edit_spec.specs.SetNote.{set_note, set_note_of, set_note_needs}
 use Rattle.edit_spec.specs.Step.{step}
-use Rattle.edit_core.specs.declared.reply.Reply.{Reply}
-use Rattle.edit_core.specs.declared.reply.Reply.TheVariants.{NoTop, NoPath, TooMany}
-use Rattle.edit_core.proofs.InnerValid.{AreGoodNotes, good_notes_before, notes_valid}
-use Rattle.edit_core.proofs.Lists.{apart_more, missing_key, found_key, apart_of, distinct_of}
-use Rattle.edit_core.proofs.Named.{leads}
-use Rattle.edit_core.proofs.Reached.{iff_trans, is_path_same, path_notes_same, for_path_same}
-use Rattle.edit_core.proofs.Refusals.{same_name, first_none, not_refused, is_name-refl}
-use Rattle.edit_core.proofs.Same.{both_ways}
+use Rattle.edit_rules_spec.specs.declared.reply.Reply.{Reply}
+use Rattle.edit_rules_spec.specs.declared.reply.Reply.TheVariants.{NoTop, NoPath, TooMany}
+use Rattle.edit_rules_spec.proofs.InnerValid.{AreGoodNotes, good_notes_before, notes_valid}
+use Rattle.edit_rules_spec.proofs.Lists.{apart_more, missing_key, found_key, apart_of, distinct_of}
+use Rattle.edit_rules_spec.proofs.Named.{leads}
+use Rattle.edit_rules_spec.proofs.Reached.{iff_trans, is_path_same, path_notes_same, for_path_same}
+use Rattle.edit_rules_spec.proofs.Refusals.{same_name, first_none, not_refused, is_name-refl}
+use Rattle.edit_rules_spec.proofs.Same.{both_ways}
 use Rattle.netlist_schema.specs.declared.ids.Object.TheVariants.{Notes}
 
 abbrev is_note : List (List ℕ) → List ℕ → Note → Bool

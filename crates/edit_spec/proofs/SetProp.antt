@@ -7,27 +7,27 @@ use Rattle.netlist_schema.specs.Design.{Design, cell_at, insts_in, insts_of, net
 use Rattle.netlist_schema.specs.Typed.{IsTypedCell, IsTypedProperty}
 use Rattle.netlist_schema.specs.Types.{CellBody, CellId, Net, Property, Inst, LibId, Object}
 use Rattle.netlist_schema.specs.Valid.{IsValid, IsValidCell}
-use Rattle.edit_core.specs.Edit.{inner, own, edited, edited_once, changed_at, with_properties, IsChanged}
-use Rattle.edit_core.specs.Find.{cell_named, net_place, inst_place}
-use Rattle.edit_core.specs.Local.{IsLocal}
-use Rattle.edit_core.specs.Objects.{face_at, face_of, face_object}
-use Rattle.edit_core.specs.Reading.{IsFor}
-use Rattle.edit_core.specs.Rule.{first}
-use Rattle.edit_core.specs.Seen.{Named, named, inside}
-use Rattle.edit_core.specs.declared.reply.CellName.{CellName}
+use Rattle.edit_rules_spec.specs.Edit.{inner, own, edited, edited_once, changed_at, with_properties, IsChanged}
+use Rattle.edit_rules_spec.specs.Find.{cell_named, net_place, inst_place}
+use Rattle.edit_rules_spec.specs.Local.{IsLocal}
+use Rattle.edit_rules_spec.specs.Objects.{face_at, face_of, face_object}
+use Rattle.edit_rules_spec.specs.Reading.{IsFor}
+use Rattle.edit_rules_spec.specs.Rule.{first}
+use Rattle.edit_rules_spec.specs.Seen.{Named, named, inside}
+use Rattle.edit_rules_spec.specs.declared.reply.CellName.{CellName}
 use Rattle.edit_spec.specs.SetProp.{set_property, insts_with_property, nets_with_property, set_own, set_prop_whole, set_prop_inst, set_prop_net, set_prop_of, set_prop_needs}
 use Rattle.edit_spec.specs.declared.ops.Target.{Target}
 use Rattle.edit_spec.specs.declared.ops.Target.TheVariants.{Whole, Net as OfNet, Inst as OfInst}
-use Rattle.edit_core.proofs.Filled.{with_changed_is, filled}
-use Rattle.edit_core.proofs.Named.{cell_there}
-use Rattle.edit_core.proofs.Same.{named_same, cell_needs_same, name_needs_same}
+use Rattle.edit_rules_spec.proofs.Filled.{with_changed_is, filled}
+use Rattle.edit_rules_spec.proofs.Named.{cell_there}
+use Rattle.edit_rules_spec.proofs.Same.{named_same, cell_needs_same, name_needs_same}
 use Rattle.edit_spec.proofs.Changed.{of_cell, nets_written, insts_written, one_last, one_places, insts_there, with_property, one_finds}
 use Rattle.edit_spec.proofs.Changes.{net_property_good, set_property_typed, set_property_distinct}
 use Rattle.edit_spec.proofs.InsideStep.{nets_step, contents_edit}
 use Rattle.edit_spec.proofs.InstValid.{inst_property_valid}
 use Rattle.edit_spec.proofs.JoinValid.{there}
 use Rattle.edit_spec.proofs.Valid.{AreGoodNets, good_before}
-use Rattle.edit_core.proofs.There.{named_cell_there}
+use Rattle.edit_rules_spec.proofs.There.{named_cell_there}
 
 own_in : (id : Option CellId) (lib : Option LibId) (properties : List Property) (o : Object) → IsChanged (option_to_list (option_map (λ c. own c properties) id)) o → IsFor id lib o
 own_in None lib properties o is = absurd is

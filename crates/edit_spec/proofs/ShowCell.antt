@@ -1,9 +1,9 @@
 -- Showing a cell is an operation.
 use Rattle.std.proofs.Common.{refl, inl}
-use Rattle.edit_core.specs.Local.{IsLocal}
-use Rattle.edit_core.specs.declared.reply.CellName.{CellName}
+use Rattle.edit_rules_spec.specs.Local.{IsLocal}
+use Rattle.edit_rules_spec.specs.declared.reply.CellName.{CellName}
 use Rattle.edit_spec.specs.ShowCell.{show_cell, show_cell_of, show_cell_needs}
-use Rattle.edit_core.proofs.Same.{cell_needs_same}
+use Rattle.edit_rules_spec.proofs.Same.{cell_needs_same}
 use Rattle.edit_spec.proofs.Changed.{of_cell}
 
 pub show_cell_local : (cell : CellName) → IsLocal (show_cell_of cell) (show_cell_needs cell) (Unit {0})

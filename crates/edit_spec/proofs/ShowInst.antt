@@ -1,9 +1,9 @@
 -- Showing an instance is an operation.
 use Rattle.std.proofs.Common.{ℕ, List, refl, inl}
-use Rattle.edit_core.specs.Local.{IsLocal}
-use Rattle.edit_core.specs.declared.reply.CellName.{CellName}
+use Rattle.edit_rules_spec.specs.Local.{IsLocal}
+use Rattle.edit_rules_spec.specs.declared.reply.CellName.{CellName}
 use Rattle.edit_spec.specs.ShowInst.{show_inst, show_inst_of, show_inst_needs}
-use Rattle.edit_core.proofs.Same.{named_same, inside_same, cell_needs_same, by_name}
+use Rattle.edit_rules_spec.proofs.Same.{named_same, inside_same, cell_needs_same, by_name}
 use Rattle.edit_spec.proofs.Shown.{inst_shown_same}
 
 pub show_inst_local : (cell : CellName) (inst : List ℕ) → IsLocal (show_inst_of cell inst) (show_inst_needs cell) (Unit {0})

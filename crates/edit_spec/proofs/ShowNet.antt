@@ -1,14 +1,14 @@
 -- Showing a net is an operation.
 use Rattle.std.proofs.Common.{ℕ, List, Option, refl, inl, inr}
 use Rattle.netlist_schema.specs.Types.{Contents}
-use Rattle.edit_core.specs.Local.{IsLocal}
-use Rattle.edit_core.specs.Objects.{AgreesOn}
-use Rattle.edit_core.specs.Reading.{IsForCell}
-use Rattle.edit_core.specs.Seen.{inside}
-use Rattle.edit_core.specs.declared.reply.CellName.{CellName}
+use Rattle.edit_rules_spec.specs.Local.{IsLocal}
+use Rattle.edit_rules_spec.specs.Objects.{AgreesOn}
+use Rattle.edit_rules_spec.specs.Reading.{IsForCell}
+use Rattle.edit_rules_spec.specs.Seen.{inside}
+use Rattle.edit_rules_spec.specs.declared.reply.CellName.{CellName}
 use Rattle.edit_spec.specs.ShowNet.{ends_of_net, show_net, show_net_of, IsAtEnd, show_net_needs}
-use Rattle.edit_core.proofs.Reached.{either_same}
-use Rattle.edit_core.proofs.Same.{both_ways, named_same, inside_same, cell_needs_same, by_name}
+use Rattle.edit_rules_spec.proofs.Reached.{either_same}
+use Rattle.edit_rules_spec.proofs.Same.{both_ways, named_same, inside_same, cell_needs_same, by_name}
 use Rattle.edit_spec.proofs.Shown.{net_shown_same}
 
 pub show_net_local : (cell : CellName) (net : List ℕ) → IsLocal (show_net_of cell net) (show_net_needs cell net) (Unit {0})

@@ -6,14 +6,14 @@ use Rattle.std.specs.Prelude.{IsSome}
 use Rattle.netlist_schema.specs.Design.{Design, cell_at, insts_in, insts_of}
 use Rattle.netlist_schema.specs.Hierarchy.{HasInst, IsCell}
 use Rattle.netlist_schema.specs.Types.{CellBody, CellId, Contents, End, Inst, LibHead, Port}
-use Rattle.edit_core.specs.Find.{cell_named, inst_named}
-use Rattle.edit_core.specs.Objects.{AgreesOn, Grown, IsClosed, Outside, outside_of, outside_at, head_at, name_of, cell_name_at}
-use Rattle.edit_core.specs.Reading.{IsForCell, IsFaceOf}
-use Rattle.edit_core.specs.Seen.{named, inside, placed, contents_at, ports_seen}
-use Rattle.edit_core.specs.declared.reply.CellName.{CellName}
+use Rattle.edit_rules_spec.specs.Find.{cell_named, inst_named}
+use Rattle.edit_rules_spec.specs.Objects.{AgreesOn, Grown, IsClosed, Outside, outside_of, outside_at, head_at, name_of, cell_name_at}
+use Rattle.edit_rules_spec.specs.Reading.{IsForCell, IsFaceOf}
+use Rattle.edit_rules_spec.specs.Seen.{named, inside, placed, contents_at, ports_seen}
+use Rattle.edit_rules_spec.specs.declared.reply.CellName.{CellName}
 use Rattle.edit_spec.specs.ShowNet.{ends_of_net, inst_of_end, ports_at, end_by_name, ends_by_name, net_shown, IsAtEnd}
-use Rattle.edit_core.proofs.Named.{named_inst}
-use Rattle.edit_core.proofs.Same.{by_name, named_same, inside_same, placed_same, face_of_placed_same}
+use Rattle.edit_rules_spec.proofs.Named.{named_inst}
+use Rattle.edit_rules_spec.proofs.Same.{by_name, named_same, inside_same, placed_same, face_of_placed_same}
 
 pub insts_found : (o : Option CellBody) → insts_in (option_and_then (λ body. body.contents) o) ≡ option_map_or insts_of o []
 insts_found None = refl

@@ -9,14 +9,14 @@ use Rattle.netlist_schema.specs.Design.{Design, cell_at, insts_of, nets_of, ends
 use Rattle.netlist_schema.specs.Types.{CellBody, CellId, End, Inst, Lib, LibHead, Net, Port}
 use Rattle.netlist_schema.specs.Valid.{IsValid, IsEndAt, IsEndOf, HasBit}
 use Rattle.netlist_schema.proofs.Lists.{all_behind}
-use Rattle.edit_core.specs.Find.{cell_named, net_named, net_place}
-use Rattle.edit_core.specs.Objects.{face_at, face_of, outside_of, outside_at, head_at, name_of, cell_name_at}
-use Rattle.edit_core.specs.Seen.{inside, contents_at, ports_seen, placed}
-use Rattle.edit_core.specs.declared.reply.CellName.{CellName}
+use Rattle.edit_rules_spec.specs.Find.{cell_named, net_named, net_place}
+use Rattle.edit_rules_spec.specs.Objects.{face_at, face_of, outside_of, outside_at, head_at, name_of, cell_name_at}
+use Rattle.edit_rules_spec.specs.Seen.{inside, contents_at, ports_seen, placed}
+use Rattle.edit_rules_spec.specs.declared.reply.CellName.{CellName}
 use Rattle.edit_spec.specs.ShowNet.{ends_of_net, inst_of_end, ports_at, end_by_name, ends_by_name, net_shown}
-use Rattle.edit_core.proofs.Closed.{some_cell, valid_is_closed}
-use Rattle.edit_core.proofs.Lists.{each_left}
-use Rattle.edit_core.proofs.Named.{cell_there}
+use Rattle.edit_rules_spec.proofs.Closed.{some_cell, valid_is_closed}
+use Rattle.edit_rules_spec.proofs.Lists.{each_left}
+use Rattle.edit_rules_spec.proofs.Named.{cell_there}
 use Rattle.edit_spec.proofs.Joined.{ends_of_nets}
 use Rattle.edit_spec.proofs.Shown.{placed_there}
 

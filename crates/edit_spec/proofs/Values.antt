@@ -4,11 +4,11 @@ use Rattle.std.specs.List.{All, AllByRecursion}
 use Rattle.std.proofs.lemmas.List.Elements.{recursion_from_All}
 use Rattle.netlist_schema.specs.Design.{Design}
 use Rattle.netlist_schema.specs.Valid.{IsValid}
-use Rattle.edit_core.specs.Objects.{Grown}
+use Rattle.edit_rules_spec.specs.Objects.{Grown}
 use Rattle.edit_spec.specs.Step.{step, run}
 use Rattle.edit_spec.specs.Typed.{IsTypedOp}
 use Rattle.edit_spec.specs.declared.ops.Op.{Op}
-use Rattle.edit_core.proofs.Growing.{Grown-refl, Grown-trans}
+use Rattle.edit_rules_spec.proofs.Growing.{Grown-refl, Grown-trans}
 use Rattle.edit_spec.proofs.Framed.{step_is_grown, step_is_valid}
 
 -- several operations

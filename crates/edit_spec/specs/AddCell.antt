@@ -6,12 +6,12 @@ use Rattle.netlist_schema.specs.Names.{cell_names}
 use Rattle.netlist_schema.specs.Types.{CellBody, LibId, Port, Object}
 use Rattle.netlist_schema.specs.declared.cell.CellKind.TheVariants.{Generic}
 use Rattle.netlist_schema.specs.declared.limits.TheConstants.{MOST_BITS, MOST_CELLS, MOST_PORTS}
-use Rattle.edit_core.specs.Edit.{fresh}
-use Rattle.edit_core.specs.Find.{is_same, lib_named}
-use Rattle.edit_core.specs.Reading.{IsForLib}
-use Rattle.edit_core.specs.Rule.{too_many, Rule, refuse}
-use Rattle.edit_core.specs.declared.reply.CellName.{CellName}
-use Rattle.edit_core.specs.declared.reply.Reply.TheVariants.{Done, NoLib, Taken, TooMany}
+use Rattle.edit_rules_spec.specs.Edit.{fresh}
+use Rattle.edit_rules_spec.specs.Find.{is_same, lib_named}
+use Rattle.edit_rules_spec.specs.Reading.{IsForLib}
+use Rattle.edit_rules_spec.specs.Rule.{too_many, Rule, refuse}
+use Rattle.edit_rules_spec.specs.declared.reply.CellName.{CellName}
+use Rattle.edit_rules_spec.specs.declared.reply.Reply.TheVariants.{Done, NoLib, Taken, TooMany}
 use Rattle.edit_spec.specs.declared.ops.PortDecl.{PortDecl}
 
 -- the names of the cells of a library that is found

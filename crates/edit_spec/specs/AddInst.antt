@@ -5,14 +5,14 @@ use Rattle.std.specs.Prelude.{◌++◌, ℕ, Bool, nat_lt, List, [], ◌∷◌, 
 use Rattle.netlist_schema.specs.Design.{Design, insts_in}
 use Rattle.netlist_schema.specs.Types.{CellId, Contents, Inst, LibId, Object}
 use Rattle.netlist_schema.specs.declared.limits.TheConstants.{MOST_INSTS}
-use Rattle.edit_core.specs.Find.{is_same, cell_named}
-use Rattle.edit_core.specs.Paths.{is_cyclic}
-use Rattle.edit_core.specs.Reading.{IsForName, IsForPlacing}
-use Rattle.edit_core.specs.Rule.{too_many, Rule, refuse, no_lib, no_cell, is_leaf}
-use Rattle.edit_core.specs.Seen.{holder, Named, named, inside}
-use Rattle.edit_core.specs.declared.reply.CellName.{CellName}
-use Rattle.edit_core.specs.declared.reply.Reply.{Reply}
-use Rattle.edit_core.specs.declared.reply.Reply.TheVariants.{Done, Taken, IsCyclic, LaterLibrary}
+use Rattle.edit_rules_spec.specs.Find.{is_same, cell_named}
+use Rattle.edit_rules_spec.specs.Paths.{is_cyclic}
+use Rattle.edit_rules_spec.specs.Reading.{IsForName, IsForPlacing}
+use Rattle.edit_rules_spec.specs.Rule.{too_many, Rule, refuse, no_lib, no_cell, is_leaf}
+use Rattle.edit_rules_spec.specs.Seen.{holder, Named, named, inside}
+use Rattle.edit_rules_spec.specs.declared.reply.CellName.{CellName}
+use Rattle.edit_rules_spec.specs.declared.reply.Reply.{Reply}
+use Rattle.edit_rules_spec.specs.declared.reply.Reply.TheVariants.{Done, Taken, IsCyclic, LaterLibrary}
 use Rattle.edit_spec.specs.Inside.{set_insts}
 
 abbrev pub is_later : Option LibId → Option LibId → Bool

@@ -4,13 +4,13 @@ use Rattle.std.specs.Prelude.{◌++◌, ℕ, List, [], ◌∷◌, Option, None, 
 use Rattle.netlist_schema.specs.Design.{Design, nets_in}
 use Rattle.netlist_schema.specs.Types.{Contents, Net, Object}
 use Rattle.netlist_schema.specs.declared.limits.TheConstants.{MOST_NETS}
-use Rattle.edit_core.specs.Find.{is_same}
-use Rattle.edit_core.specs.Reading.{IsForCell}
-use Rattle.edit_core.specs.Rule.{too_many, Rule, refuse, no_lib, no_cell, is_leaf}
-use Rattle.edit_core.specs.Seen.{Named, named, inside}
-use Rattle.edit_core.specs.declared.reply.CellName.{CellName}
-use Rattle.edit_core.specs.declared.reply.Reply.{Reply}
-use Rattle.edit_core.specs.declared.reply.Reply.TheVariants.{Done, Taken}
+use Rattle.edit_rules_spec.specs.Find.{is_same}
+use Rattle.edit_rules_spec.specs.Reading.{IsForCell}
+use Rattle.edit_rules_spec.specs.Rule.{too_many, Rule, refuse, no_lib, no_cell, is_leaf}
+use Rattle.edit_rules_spec.specs.Seen.{Named, named, inside}
+use Rattle.edit_rules_spec.specs.declared.reply.CellName.{CellName}
+use Rattle.edit_rules_spec.specs.declared.reply.Reply.{Reply}
+use Rattle.edit_rules_spec.specs.declared.reply.Reply.TheVariants.{Done, Taken}
 use Rattle.edit_spec.specs.Inside.{set_nets}
 
 -- a net has this name, where the case of letters is ignored

@@ -3,13 +3,13 @@ use Rattle.std.specs.Option.{option_map_or}
 use Rattle.std.specs.Prelude.{Bool, false, not, List, [], ◌∷◌, Option, map, is_none, filter, ◌⊎◌}
 use Rattle.netlist_schema.specs.Design.{Design}
 use Rattle.netlist_schema.specs.Types.{Contents, End, Net, Port, Object}
-use Rattle.edit_core.specs.Reading.{IsForCell, IsForEnd}
-use Rattle.edit_core.specs.Rule.{Rule, refuse, no_lib, no_cell}
-use Rattle.edit_core.specs.Seen.{Named, named, inside, end_ports}
-use Rattle.edit_core.specs.declared.reply.CellName.{CellName}
-use Rattle.edit_core.specs.declared.reply.EndName.{EndName}
-use Rattle.edit_core.specs.declared.reply.Reply.{Reply}
-use Rattle.edit_core.specs.declared.reply.Reply.TheVariants.{Done, NotJoined}
+use Rattle.edit_rules_spec.specs.Reading.{IsForCell, IsForEnd}
+use Rattle.edit_rules_spec.specs.Rule.{Rule, refuse, no_lib, no_cell}
+use Rattle.edit_rules_spec.specs.Seen.{Named, named, inside, end_ports}
+use Rattle.edit_rules_spec.specs.declared.reply.CellName.{CellName}
+use Rattle.edit_rules_spec.specs.declared.reply.EndName.{EndName}
+use Rattle.edit_rules_spec.specs.declared.reply.Reply.{Reply}
+use Rattle.edit_rules_spec.specs.declared.reply.Reply.TheVariants.{Done, NotJoined}
 use Rattle.flat_spec.specs.ConnectionTest.{same_end}
 use Rattle.edit_spec.specs.Ends.{no_end_inst, no_port, bad_bit, end_named, net_of_end}
 use Rattle.edit_spec.specs.Inside.{set_nets}

@@ -4,14 +4,14 @@ use Rattle.std.specs.Option.{option_map_or}
 use Rattle.std.specs.Prelude.{◌==◌, ◌-◌, ◌++◌, ℕ, cond, nat_lt, List, [], ◌∷◌, Option, Some, None, map, length, remove, option_map, option_to_list, ◌⊎◌}
 use Rattle.netlist_schema.specs.Design.{Design, insts_in, nets_in}
 use Rattle.netlist_schema.specs.Types.{Contents, End, Net, Note, Object}
-use Rattle.edit_core.specs.Edit.{Edit, inner, noted}
-use Rattle.edit_core.specs.Find.{cell_named, inst_place}
-use Rattle.edit_core.specs.Notes.{other_notes, seen_if}
-use Rattle.edit_core.specs.Reading.{IsForCell, IsForNotes}
-use Rattle.edit_core.specs.Rule.{Rule, no_lib, no_cell, no_inst}
-use Rattle.edit_core.specs.Seen.{Named, named, inside}
-use Rattle.edit_core.specs.declared.reply.CellName.{CellName}
-use Rattle.edit_core.specs.declared.reply.Reply.TheVariants.{Done}
+use Rattle.edit_rules_spec.specs.Edit.{Edit, inner, noted}
+use Rattle.edit_rules_spec.specs.Find.{cell_named, inst_place}
+use Rattle.edit_rules_spec.specs.Notes.{other_notes, seen_if}
+use Rattle.edit_rules_spec.specs.Reading.{IsForCell, IsForNotes}
+use Rattle.edit_rules_spec.specs.Rule.{Rule, no_lib, no_cell, no_inst}
+use Rattle.edit_rules_spec.specs.Seen.{Named, named, inside}
+use Rattle.edit_rules_spec.specs.declared.reply.CellName.{CellName}
+use Rattle.edit_rules_spec.specs.declared.reply.Reply.TheVariants.{Done}
 
 -- the ends without those of an instance, where later instances move one place forward
 abbrev pub end_moved : ℕ → End → Option ℕ → List End

@@ -3,12 +3,12 @@ use Rattle.std.specs.Option.{option_map_or}
 use Rattle.std.specs.Prelude.{ℕ, List, [], ◌∷◌, Option, remove}
 use Rattle.netlist_schema.specs.Design.{Design}
 use Rattle.netlist_schema.specs.Types.{Contents, Net, Object}
-use Rattle.edit_core.specs.Find.{net_place}
-use Rattle.edit_core.specs.Reading.{IsForCell}
-use Rattle.edit_core.specs.Rule.{Rule, no_lib, no_cell}
-use Rattle.edit_core.specs.Seen.{Named, named, inside}
-use Rattle.edit_core.specs.declared.reply.CellName.{CellName}
-use Rattle.edit_core.specs.declared.reply.Reply.TheVariants.{Done}
+use Rattle.edit_rules_spec.specs.Find.{net_place}
+use Rattle.edit_rules_spec.specs.Reading.{IsForCell}
+use Rattle.edit_rules_spec.specs.Rule.{Rule, no_lib, no_cell}
+use Rattle.edit_rules_spec.specs.Seen.{Named, named, inside}
+use Rattle.edit_rules_spec.specs.declared.reply.CellName.{CellName}
+use Rattle.edit_rules_spec.specs.declared.reply.Reply.TheVariants.{Done}
 use Rattle.edit_spec.specs.Inside.{no_net, set_nets}
 
 -- the nets without the one with this name

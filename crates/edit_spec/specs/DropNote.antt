@@ -3,10 +3,10 @@ use Rattle.std.specs.Prelude.{ℕ, List, [], ◌∷◌, Option, is_none, remove}
 use Rattle.std.specs.Option.{option_map_or}
 use Rattle.netlist_schema.specs.Design.{Design}
 use Rattle.netlist_schema.specs.Types.{Note, Object, TopHead}
-use Rattle.edit_core.specs.Notes.{note_place, notes_seen, put_notes}
-use Rattle.edit_core.specs.Reading.{IsNotesBelow}
-use Rattle.edit_core.specs.Rule.{Rule, refuse}
-use Rattle.edit_core.specs.declared.reply.Reply.TheVariants.{Done, NoNote, NoTop}
+use Rattle.edit_rules_spec.specs.Notes.{note_place, notes_seen, put_notes}
+use Rattle.edit_rules_spec.specs.Reading.{IsNotesBelow}
+use Rattle.edit_rules_spec.specs.Rule.{Rule, refuse}
+use Rattle.edit_rules_spec.specs.declared.reply.Reply.TheVariants.{Done, NoNote, NoTop}
 
 -- the note of this path and key is removed
 abbrev pub drop_note : Option TopHead → List Note → List (List ℕ) → List ℕ → Rule

@@ -4,11 +4,11 @@ use Rattle.std.specs.Prelude.{ℕ, Bool, nat_le, List, Option, Some, None, is_no
 use Rattle.netlist_schema.specs.Design.{insts_in, nets_in, port_width}
 use Rattle.netlist_schema.specs.Types.{Contents, End, Net, Port}
 use Rattle.flat_spec.specs.ConnectionTest.{has_end}
-use Rattle.edit_core.specs.Find.{inst_place, port_place, port_named}
-use Rattle.edit_core.specs.Rule.{refuse, no_inst}
-use Rattle.edit_core.specs.declared.reply.EndName.{EndName}
-use Rattle.edit_core.specs.declared.reply.Reply.{Reply}
-use Rattle.edit_core.specs.declared.reply.Reply.TheVariants.{NoPort, BadBit}
+use Rattle.edit_rules_spec.specs.Find.{inst_place, port_place, port_named}
+use Rattle.edit_rules_spec.specs.Rule.{refuse, no_inst}
+use Rattle.edit_rules_spec.specs.declared.reply.EndName.{EndName}
+use Rattle.edit_rules_spec.specs.declared.reply.Reply.{Reply}
+use Rattle.edit_rules_spec.specs.declared.reply.Reply.TheVariants.{NoPort, BadBit}
 
 abbrev pub ends_in : Option Contents → List End
 ends_in contents = flat_map (λ net. net.ends) (nets_in contents)

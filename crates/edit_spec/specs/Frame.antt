@@ -2,8 +2,8 @@
 use Rattle.std.specs.Prelude.{◌≡◌, List}
 use Rattle.netlist_schema.specs.Design.{Design}
 use Rattle.netlist_schema.specs.Types.{Object}
-use Rattle.edit_core.specs.Frame.{IsFramedBy}
-use Rattle.edit_core.specs.Objects.{AgreesOn, AreSameObjects}
+use Rattle.edit_rules_spec.specs.Frame.{IsFramedBy}
+use Rattle.edit_rules_spec.specs.Objects.{AgreesOn, AreSameObjects}
 use Rattle.edit_spec.specs.Needs.{Needs, Writes, Reads, Written}
 use Rattle.edit_spec.specs.Rows.{row_of}
 use Rattle.edit_spec.specs.Step.{step, run}

@@ -2,12 +2,12 @@
 use Rattle.std.specs.Prelude.{ℕ, List, Option, is_none, option_map, option_to_list}
 use Rattle.netlist_schema.specs.Design.{insts_in, nets_in}
 use Rattle.netlist_schema.specs.Types.{Contents, Inst, Net}
-use Rattle.edit_core.specs.Edit.{Edit, inner}
-use Rattle.edit_core.specs.Find.{net_place}
-use Rattle.edit_core.specs.Rule.{refuse}
-use Rattle.edit_core.specs.Seen.{Named}
-use Rattle.edit_core.specs.declared.reply.Reply.{Reply}
-use Rattle.edit_core.specs.declared.reply.Reply.TheVariants.{NoNet}
+use Rattle.edit_rules_spec.specs.Edit.{Edit, inner}
+use Rattle.edit_rules_spec.specs.Find.{net_place}
+use Rattle.edit_rules_spec.specs.Rule.{refuse}
+use Rattle.edit_rules_spec.specs.Seen.{Named}
+use Rattle.edit_rules_spec.specs.declared.reply.Reply.{Reply}
+use Rattle.edit_rules_spec.specs.declared.reply.Reply.TheVariants.{NoNet}
 
 abbrev pub no_net : Option Contents → List ℕ → Option Reply
 no_net contents name = refuse (is_none (net_place name (nets_in contents))) NoNet

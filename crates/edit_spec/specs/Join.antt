@@ -4,15 +4,15 @@ use Rattle.std.specs.Prelude.{◌++◌, ℕ, List, [], ◌∷◌, Option, length
 use Rattle.netlist_schema.specs.Design.{Design}
 use Rattle.netlist_schema.specs.Types.{Contents, End, Net, Port, Object}
 use Rattle.netlist_schema.specs.declared.limits.TheConstants.{MOST_ENDS}
-use Rattle.edit_core.specs.Edit.{changed_at}
-use Rattle.edit_core.specs.Find.{net_place}
-use Rattle.edit_core.specs.Reading.{IsForCell, IsForEnd}
-use Rattle.edit_core.specs.Rule.{too_many, Rule, no_lib, no_cell}
-use Rattle.edit_core.specs.Seen.{Named, named, inside, end_ports}
-use Rattle.edit_core.specs.declared.reply.CellName.{CellName}
-use Rattle.edit_core.specs.declared.reply.EndName.{EndName}
-use Rattle.edit_core.specs.declared.reply.Reply.{Reply}
-use Rattle.edit_core.specs.declared.reply.Reply.TheVariants.{Done, AlreadyJoined}
+use Rattle.edit_rules_spec.specs.Edit.{changed_at}
+use Rattle.edit_rules_spec.specs.Find.{net_place}
+use Rattle.edit_rules_spec.specs.Reading.{IsForCell, IsForEnd}
+use Rattle.edit_rules_spec.specs.Rule.{too_many, Rule, no_lib, no_cell}
+use Rattle.edit_rules_spec.specs.Seen.{Named, named, inside, end_ports}
+use Rattle.edit_rules_spec.specs.declared.reply.CellName.{CellName}
+use Rattle.edit_rules_spec.specs.declared.reply.EndName.{EndName}
+use Rattle.edit_rules_spec.specs.declared.reply.Reply.{Reply}
+use Rattle.edit_rules_spec.specs.declared.reply.Reply.TheVariants.{Done, AlreadyJoined}
 use Rattle.edit_spec.specs.Ends.{ends_in, no_end_inst, no_port, bad_bit, end_named, net_of_end}
 use Rattle.edit_spec.specs.Inside.{no_net, set_nets}
 

@@ -2,7 +2,7 @@
 use Rattle.std.specs.Prelude.{◌⊎◌, List, [], ◌∷◌}
 use Rattle.netlist_schema.specs.Design.{Design}
 use Rattle.netlist_schema.specs.Types.{Object}
-use Rattle.edit_core.specs.Edit.{IsChanged}
+use Rattle.edit_rules_spec.specs.Edit.{IsChanged}
 use Rattle.ungroup_spec.specs.Needs.{Needs as ungroup_needs}
 use Rattle.uniquify_spec.specs.Needs.{UniquifyNeeds, UniquePathNeeds}
 use Rattle.edit_spec.specs.AddCell.{add_cell_needs}

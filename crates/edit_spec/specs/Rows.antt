@@ -1,6 +1,6 @@
 -- The table of operations.
 use Rattle.netlist_schema.specs.Design.{Design}
-use Rattle.edit_core.specs.Rule.{Rule, Outcome, ruled}
+use Rattle.edit_rules_spec.specs.Rule.{Rule, Outcome, ruled}
 use Rattle.ungroup_spec.specs.Ungroup.{ungroup}
 use Rattle.uniquify_spec.specs.Rows.{uniquify_row, unique_path_row}
 use Rattle.edit_spec.specs.AddCell.{add_cell_of}

@@ -4,11 +4,11 @@ use Rattle.std.specs.Option.{option_map_or}
 use Rattle.netlist_schema.specs.Design.{Design}
 use Rattle.netlist_schema.specs.Types.{Note, Object, Property, TopHead}
 use Rattle.netlist_schema.specs.declared.limits.TheConstants.{MOST_NOTES}
-use Rattle.edit_core.specs.Notes.{note_place, notes_seen, put_notes}
-use Rattle.edit_core.specs.Paths.{is_path}
-use Rattle.edit_core.specs.Reading.{IsForPath}
-use Rattle.edit_core.specs.Rule.{Rule, refuse}
-use Rattle.edit_core.specs.declared.reply.Reply.TheVariants.{Done, NoPath, NoTop, TooMany}
+use Rattle.edit_rules_spec.specs.Notes.{note_place, notes_seen, put_notes}
+use Rattle.edit_rules_spec.specs.Paths.{is_path}
+use Rattle.edit_rules_spec.specs.Reading.{IsForPath}
+use Rattle.edit_rules_spec.specs.Rule.{Rule, refuse}
+use Rattle.edit_rules_spec.specs.declared.reply.Reply.TheVariants.{Done, NoPath, NoTop, TooMany}
 
 -- the note of equal path and key is replaced in place, else it is added
 abbrev pub set_note : Option TopHead → Bool → List Note → List (List ℕ) → Property → Rule

@@ -3,13 +3,13 @@ use Rattle.std.specs.Option.{option_map_or}
 use Rattle.std.specs.Prelude.{◌++◌, ℕ, List, [], ◌∷◌, Option, slice_set, option_map, option_to_list}
 use Rattle.netlist_schema.specs.Design.{Design}
 use Rattle.netlist_schema.specs.Types.{Contents, Inst, Net, Property, Object}
-use Rattle.edit_core.specs.Edit.{Edit, own, changed_at}
-use Rattle.edit_core.specs.Find.{inst_place, net_place, property_place}
-use Rattle.edit_core.specs.Reading.{IsForName, IsForCell}
-use Rattle.edit_core.specs.Rule.{Rule, no_lib, no_cell, no_inst}
-use Rattle.edit_core.specs.Seen.{Named, named, inside}
-use Rattle.edit_core.specs.declared.reply.CellName.{CellName}
-use Rattle.edit_core.specs.declared.reply.Reply.TheVariants.{Done}
+use Rattle.edit_rules_spec.specs.Edit.{Edit, own, changed_at}
+use Rattle.edit_rules_spec.specs.Find.{inst_place, net_place, property_place}
+use Rattle.edit_rules_spec.specs.Reading.{IsForName, IsForCell}
+use Rattle.edit_rules_spec.specs.Rule.{Rule, no_lib, no_cell, no_inst}
+use Rattle.edit_rules_spec.specs.Seen.{Named, named, inside}
+use Rattle.edit_rules_spec.specs.declared.reply.CellName.{CellName}
+use Rattle.edit_rules_spec.specs.declared.reply.Reply.TheVariants.{Done}
 use Rattle.edit_spec.specs.Inside.{no_net, set_nets, set_insts}
 use Rattle.edit_spec.specs.declared.ops.Target.{Target}
 use Rattle.edit_spec.specs.declared.ops.Target.TheVariants.{Whole, Inst as OfInst, Net as OfNet}

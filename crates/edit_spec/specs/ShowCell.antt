@@ -3,11 +3,11 @@ use Rattle.std.specs.Option.{option_map_or}
 use Rattle.std.specs.Prelude.{[], ◌∷◌, Option, length, is_none}
 use Rattle.netlist_schema.specs.Design.{Design, insts_in, nets_in}
 use Rattle.netlist_schema.specs.Types.{Contents, Object}
-use Rattle.edit_core.specs.Reading.{IsForCell}
-use Rattle.edit_core.specs.Rule.{Rule, no_lib, no_cell}
-use Rattle.edit_core.specs.Seen.{Named, named, inside, ports_seen}
-use Rattle.edit_core.specs.declared.reply.CellName.{CellName}
-use Rattle.edit_core.specs.declared.reply.Reply.TheVariants.{Cell}
+use Rattle.edit_rules_spec.specs.Reading.{IsForCell}
+use Rattle.edit_rules_spec.specs.Rule.{Rule, no_lib, no_cell}
+use Rattle.edit_rules_spec.specs.Seen.{Named, named, inside, ports_seen}
+use Rattle.edit_rules_spec.specs.declared.reply.CellName.{CellName}
+use Rattle.edit_rules_spec.specs.declared.reply.Reply.TheVariants.{Cell}
 
 abbrev pub show_cell : Named → Option Contents → Rule
 show_cell at contents = record {

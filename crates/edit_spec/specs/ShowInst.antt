@@ -2,14 +2,14 @@
 use Rattle.std.specs.Prelude.{ℕ, List, [], ◌∷◌, Option, Some, option_and_then}
 use Rattle.netlist_schema.specs.Design.{Design, insts_in}
 use Rattle.netlist_schema.specs.Types.{Contents, Inst, Object}
-use Rattle.edit_core.specs.Find.{inst_named}
-use Rattle.edit_core.specs.Objects.{cell_name_at}
-use Rattle.edit_core.specs.Reading.{IsForCell}
-use Rattle.edit_core.specs.Rule.{Rule, no_lib, no_cell, no_inst}
-use Rattle.edit_core.specs.Seen.{Named, named, inside, placed}
-use Rattle.edit_core.specs.declared.reply.CellName.{CellName}
-use Rattle.edit_core.specs.declared.reply.Reply.{Reply}
-use Rattle.edit_core.specs.declared.reply.Reply.TheVariants.{Inst as ShownInst, NoInst}
+use Rattle.edit_rules_spec.specs.Find.{inst_named}
+use Rattle.edit_rules_spec.specs.Objects.{cell_name_at}
+use Rattle.edit_rules_spec.specs.Reading.{IsForCell}
+use Rattle.edit_rules_spec.specs.Rule.{Rule, no_lib, no_cell, no_inst}
+use Rattle.edit_rules_spec.specs.Seen.{Named, named, inside, placed}
+use Rattle.edit_rules_spec.specs.declared.reply.CellName.{CellName}
+use Rattle.edit_rules_spec.specs.declared.reply.Reply.{Reply}
+use Rattle.edit_rules_spec.specs.declared.reply.Reply.TheVariants.{Inst as ShownInst, NoInst}
 
 -- an instance by its cell's name and its own properties
 abbrev pub inst_shown : Option Inst → Option CellName → Reply

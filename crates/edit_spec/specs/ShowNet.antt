@@ -4,14 +4,14 @@ use Rattle.std.specs.Option.{option_map_or}
 use Rattle.std.specs.Prelude.{ℕ, List, [], ◌∷◌, Option, Some, None, slice_get, option_map, option_and_then, option_to_list, ◌⊎◌}
 use Rattle.netlist_schema.specs.Design.{Design, insts_in, nets_in}
 use Rattle.netlist_schema.specs.Types.{Contents, End, Inst, Port, Object}
-use Rattle.edit_core.specs.Find.{net_named}
-use Rattle.edit_core.specs.Objects.{face_at}
-use Rattle.edit_core.specs.Reading.{IsForCell, IsFaceOf}
-use Rattle.edit_core.specs.Rule.{Rule, no_lib, no_cell}
-use Rattle.edit_core.specs.Seen.{Named, named, inside, ports_seen}
-use Rattle.edit_core.specs.declared.reply.CellName.{CellName}
-use Rattle.edit_core.specs.declared.reply.EndName.{EndName}
-use Rattle.edit_core.specs.declared.reply.Reply.TheVariants.{Net as ShownNet}
+use Rattle.edit_rules_spec.specs.Find.{net_named}
+use Rattle.edit_rules_spec.specs.Objects.{face_at}
+use Rattle.edit_rules_spec.specs.Reading.{IsForCell, IsFaceOf}
+use Rattle.edit_rules_spec.specs.Rule.{Rule, no_lib, no_cell}
+use Rattle.edit_rules_spec.specs.Seen.{Named, named, inside, ports_seen}
+use Rattle.edit_rules_spec.specs.declared.reply.CellName.{CellName}
+use Rattle.edit_rules_spec.specs.declared.reply.EndName.{EndName}
+use Rattle.edit_rules_spec.specs.declared.reply.Reply.TheVariants.{Net as ShownNet}
 use Rattle.edit_spec.specs.Inside.{no_net}
 
 -- the ends of the net with this name

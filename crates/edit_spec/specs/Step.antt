@@ -1,9 +1,9 @@
 -- What operations do to a design.
 use Rattle.std.specs.Prelude.{List, [], ◌∷◌}
 use Rattle.netlist_schema.specs.Design.{Design}
-use Rattle.edit_core.specs.Frame.{Stepped, stepped}
+use Rattle.edit_rules_spec.specs.Frame.{Stepped, stepped}
 use Rattle.edit_spec.specs.Rows.{row_of}
-use Rattle.edit_core.specs.declared.reply.Reply.{Reply}
+use Rattle.edit_rules_spec.specs.declared.reply.Reply.{Reply}
 use Rattle.edit_spec.specs.declared.ops.Op.{Op}
 
 abbrev pub step : Design → Op → Stepped

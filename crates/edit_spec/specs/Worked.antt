@@ -5,10 +5,10 @@ use Rattle.netlist_schema.specs.Types.{CellBody, CellId, Contents, End, Inst, Na
 use Rattle.netlist_schema.specs.declared.cell.CellKind.TheVariants.{Generic}
 use Rattle.netlist_schema.specs.declared.cell.Direction.TheVariants.{Input, Output, Inout}
 use Rattle.netlist_schema.specs.declared.property.Value.TheVariants.{Boolean, Integer}
-use Rattle.edit_core.specs.declared.reply.CellName.{CellName}
-use Rattle.edit_core.specs.declared.reply.EndName.{EndName}
-use Rattle.edit_core.specs.declared.reply.Reply.{Reply}
-use Rattle.edit_core.specs.declared.reply.Reply.TheVariants.{Done, Cell, Net as ShownNet, Inst as ShownInst, NoLib, NoCell, NoInst, NoNet, NoPort, BadBit, Taken, AlreadyJoined, NotJoined, IsLeaf, IsCyclic, NoPath, NoNote, Copies}
+use Rattle.edit_rules_spec.specs.declared.reply.CellName.{CellName}
+use Rattle.edit_rules_spec.specs.declared.reply.EndName.{EndName}
+use Rattle.edit_rules_spec.specs.declared.reply.Reply.{Reply}
+use Rattle.edit_rules_spec.specs.declared.reply.Reply.TheVariants.{Done, Cell, Net as ShownNet, Inst as ShownInst, NoLib, NoCell, NoInst, NoNet, NoPort, BadBit, Taken, AlreadyJoined, NotJoined, IsLeaf, IsCyclic, NoPath, NoNote, Copies}
 use Rattle.edit_spec.specs.declared.ops.Op.{Op}
 use Rattle.edit_spec.specs.declared.ops.Op.TheVariants.{ShowCell, ShowNet, ShowInst, AddCell, AddNet, DropNet, AddInst, DropInst, Join, Cut, SetProp, SetNote, DropNote, Uniquify, UniquePath, Ungroup}
 use Rattle.edit_spec.specs.declared.ops.Target.TheVariants.{Inst as OfInst, Net as OfNet}

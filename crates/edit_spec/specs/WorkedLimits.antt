@@ -4,13 +4,13 @@ use Rattle.std.specs.List.{list_any}
 use Rattle.netlist_schema.specs.Design.{Design}
 use Rattle.netlist_schema.specs.Types.{CellBody, Lib, LibId, Property}
 use Rattle.netlist_schema.specs.declared.property.Value.TheVariants.{Integer}
-use Rattle.edit_core.specs.Rule.{too_many}
+use Rattle.edit_rules_spec.specs.Rule.{too_many}
 use Rattle.edit_spec.specs.AddCell.{has_twice, names_in}
 use Rattle.edit_spec.specs.Step.{step}
 use Rattle.edit_spec.specs.Worked.{ShownReply, body_of, plain}
-use Rattle.edit_core.specs.Find.{is_same, lib_named}
-use Rattle.edit_core.specs.declared.reply.CellName.{CellName}
-use Rattle.edit_core.specs.declared.reply.Reply.TheVariants.{Done, Taken, IsCyclic, IsLeaf, LaterLibrary, NoTop, TooMany}
+use Rattle.edit_rules_spec.specs.Find.{is_same, lib_named}
+use Rattle.edit_rules_spec.specs.declared.reply.CellName.{CellName}
+use Rattle.edit_rules_spec.specs.declared.reply.Reply.TheVariants.{Done, Taken, IsCyclic, IsLeaf, LaterLibrary, NoTop, TooMany}
 use Rattle.edit_spec.specs.declared.ops.Op.TheVariants.{AddCell, AddInst, SetNote, DropNote}
 use Rattle.edit_spec.specs.declared.ops.PortDecl.{PortDecl}
 

@@ -4,10 +4,10 @@ use Rattle.netlist_schema.specs.Design.{Design, cell_at}
 use Rattle.netlist_schema.specs.Types.{Contents, Note, Property}
 use Rattle.netlist_schema.specs.declared.cell.Direction.TheVariants.{Inout}
 use Rattle.netlist_schema.specs.declared.property.Value.TheVariants.{Integer}
-use Rattle.edit_core.specs.Seen.{contents_at}
-use Rattle.edit_core.specs.declared.reply.CellName.{CellName}
-use Rattle.edit_core.specs.declared.reply.EndName.{EndName}
-use Rattle.edit_core.specs.declared.reply.Reply.TheVariants.{Done, Net as ShownNet, NoNet, NoPort, BadBit, AlreadyJoined, NotJoined}
+use Rattle.edit_rules_spec.specs.Seen.{contents_at}
+use Rattle.edit_rules_spec.specs.declared.reply.CellName.{CellName}
+use Rattle.edit_rules_spec.specs.declared.reply.EndName.{EndName}
+use Rattle.edit_rules_spec.specs.declared.reply.Reply.TheVariants.{Done, Net as ShownNet, NoNet, NoPort, BadBit, AlreadyJoined, NotJoined}
 use Rattle.flat_spec.specs.ExampleParts.{named, id_of, scalar, own_port, on_port, inst, net, leaf, body, lib, top}
 use Rattle.edit_spec.specs.Step.{run}
 use Rattle.edit_spec.specs.Worked.{ShownReply}

@@ -4,7 +4,7 @@ ghost use Rattle.netlist_schema.specs.Ident.{IsIdentifier};
 ghost use Rattle.edit_spec.specs.Typed.{IsTypedOp, IsTypedPortDecl};
 
 use crate::ops::{Op, PortDecl, Target};
-use edit_core::{CellName, EndName};
+use edit_rules_spec::{CellName, EndName};
 use netlist_schema::{Copied, Ident, NoMemory, Property, Row};
 use std::alloc::Global;
 

@@ -6,6 +6,6 @@ pub mod laws;
 pub mod ops;
 pub mod typed;
 
-pub use edit_core::{CellName, EndName, Reply};
+pub use edit_rules_spec::{CellName, EndName, Reply};
 pub use ops::{Op, PortDecl, Target};
 pub use typed::told;

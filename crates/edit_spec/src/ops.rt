@@ -1,5 +1,5 @@
 //! Operations.
-use edit_core::{CellName, EndName};
+use edit_rules_spec::{CellName, EndName};
 use netlist_schema::{Direction, Ident, Property, Row, Width};
 
 /// A port of a new cell. An array has a width; a scalar has none.

@@ -4,16 +4,16 @@ use Rattle.std.specs.List.{All}
 use Rattle.netlist_schema.specs.Design.{Design}
 use Rattle.netlist_schema.specs.Types.{Object}
 use Rattle.netlist_schema.specs.Valid.{IsValid}
-use Rattle.edit_core.specs.Objects.{Agrees, AgreesOn, Grown}
-use Rattle.edit_core.proofs.Closed.{valid_is_closed}
+use Rattle.edit_rules_spec.specs.Objects.{Agrees, AgreesOn, Grown}
+use Rattle.edit_rules_spec.proofs.Closed.{valid_is_closed}
 use Rattle.edit_spec.specs.Needs.{Reads, Written}
 use Rattle.edit_spec.specs.Step.{run}
 use Rattle.edit_spec.specs.Typed.{IsTypedOp}
 use Rattle.edit_spec.specs.declared.ops.Op.{Op}
 use Rattle.edit_spec.proofs.Overlaid.{commit_overlays}
 use Rattle.edit_spec.proofs.Values.{run_is_grown, run_keeps_valid}
-use Rattle.cells_model.specs.State.{State}
-use Rattle.edit_work.specs.Becomes.{CanBecome}
+use Rattle.edit_cells.specs.State.{State}
+use Rattle.db_work.specs.Becomes.{CanBecome}
 
 -- the run on the later version is what the work can become there
 pub merges : (d e : Design) (ops : List Op) (work : State) → IsValid d → IsValid e → All IsTypedOp ops → Grown d e → AgreesOn d e (Reads d ops)

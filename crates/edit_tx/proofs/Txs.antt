@@ -9,9 +9,9 @@ use Rattle.edit_spec.specs.Needs.{Needs, Writes, Reads, Written}
 use Rattle.edit_spec.specs.Step.{step, run}
 use Rattle.edit_spec.specs.Typed.{IsTypedOp}
 use Rattle.edit_spec.specs.declared.ops.Op.{Op}
-use Rattle.edit_core.specs.declared.reply.Reply.{Reply}
+use Rattle.edit_rules_spec.specs.declared.reply.Reply.{Reply}
 use Rattle.edit_spec.proofs.Overlaid.{run_push, replies_push, reads_push, writes_push}
-use Rattle.cells_model.specs.State.{State, GrowsBy}
+use Rattle.edit_cells.specs.State.{State, GrowsBy}
 use Rattle.eco_reads.specs.Done.{IsDone}
 use Rattle.edit_tx.specs.Facts.{TxFacts, IsTried, HasRun}
 

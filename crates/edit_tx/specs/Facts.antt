@@ -7,8 +7,8 @@ use Rattle.edit_spec.specs.Needs.{Needs, Writes, Reads, Written}
 use Rattle.edit_spec.specs.Step.{step, run}
 use Rattle.edit_spec.specs.Typed.{IsTypedOp}
 use Rattle.edit_spec.specs.declared.ops.Op.{Op}
-use Rattle.edit_core.specs.declared.reply.Reply.{Reply}
-use Rattle.cells_model.specs.State.{GrowsBy}
+use Rattle.edit_rules_spec.specs.declared.reply.Reply.{Reply}
+use Rattle.edit_cells.specs.State.{GrowsBy}
 
 -- a pin: its number, the caller that holds it, its version, and the design of that version
 pub record PinFacts : Type 0 where

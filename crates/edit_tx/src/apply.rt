@@ -3,8 +3,8 @@ ghost use Rattle.std.specs.Prelude.{◌≡◌, MatchResult};
 ghost use Rattle.eco_ops.specs.Single.{IsSingle};
 ghost use Rattle.eco_reads.specs.Done.{IsDone};
 
-use cells_model::Cells;
 use eco_ops::{eco_op, is_single};
+use edit_cells::Cells;
 use edit_spec::{Op, Reply};
 use netlist_schema::NoMemory;
 use path_copies::unique_path;

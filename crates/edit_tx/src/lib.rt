@@ -6,6 +6,6 @@ pub mod pin;
 pub mod tx;
 
 pub use apply::apply_op;
+pub use db_version::{Snapshot, Version};
 pub use pin::Pin;
 pub use tx::Tx;
-pub use version_data::{Snapshot, Version};

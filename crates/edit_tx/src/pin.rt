@@ -1,9 +1,9 @@
 //! `Pin`: a version that a caller holds.
 ghost use Rattle.std.specs.Prelude.{◌≡◌, IfOk};
 
+use db_version::Snapshot;
 use netlist_schema::NoMemory;
 use std::marker::Model;
-use version_data::Snapshot;
 
 /// A pin. It holds its version of the design, which can be read without the database.
 pub struct Pin {

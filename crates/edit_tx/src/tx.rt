@@ -3,23 +3,23 @@ ghost use Rattle.std.specs.Prelude.{◌≡◌, ◌++◌, ◌<◌, List, [], ◌�
 ghost use Rattle.std.specs.Borrow.{sem};
 ghost use Rattle.std.specs.Io.BufRead.{Rests};
 ghost use Rattle.edit_spec.specs.declared.ops.Op.{Op as Op'};
-ghost use Rattle.edit_core.specs.declared.reply.Reply.{Reply as Reply'};
+ghost use Rattle.edit_rules_spec.specs.declared.reply.Reply.{Reply as Reply'};
 ghost use Rattle.eco_reads.specs.Done.{IsDone};
 ghost use Rattle.edit_tx.specs.contracts.tx.Tx.{the_row};
 ghost use Rattle.edit_spec.specs.Needs.{Reads};
-ghost use Rattle.edit_core.specs.Objects.{AgreesOn, Grown};
+ghost use Rattle.edit_rules_spec.specs.Objects.{AgreesOn, Grown};
 ghost use Rattle.edit_spec.specs.Step.{run, step};
 ghost use Rattle.edit_tx.specs.Facts.{HasRun, IsTried, started};
 
 use crate::apply::apply_op;
 use crate::pin::Pin;
+use db_version::Snapshot;
+use db_work::Work;
 use edit_spec::{Op, Reply, told};
-use edit_work::Work;
 use netlist_schema::{NoMemory, Object, Row, Shown};
 use std::alloc::Global;
 use std::marker::Model;
 use std::sync::Arc;
-use version_data::Snapshot;
 
 /// A transaction: operations that are tried, one after the other, on a pinned version, with their replies.
 pub struct Tx {

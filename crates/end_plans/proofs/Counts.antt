@@ -9,11 +9,11 @@ use Rattle.netlist_schema.specs.Design.{port_width}
 use Rattle.netlist_schema.specs.Types.{End, Net, Port}
 use Rattle.netlist_schema.proofs.Lists.{get_there}
 use Rattle.edit_spec.specs.Ends.{bad_bit, no_port}
-use Rattle.edit_core.specs.Rule.{first, refuse}
-use Rattle.edit_core.specs.Find.{port_named, port_place}
-use Rattle.edit_core.specs.declared.reply.Reply.TheVariants.{NoPort}
+use Rattle.edit_rules_spec.specs.Rule.{first, refuse}
+use Rattle.edit_rules_spec.specs.Find.{port_named, port_place}
+use Rattle.edit_rules_spec.specs.declared.reply.Reply.TheVariants.{NoPort}
 use Rattle.end_plans.specs.Ends.{PortSeen, port_in}
-use Rattle.eco_reads.proofs.Places.{place_within}
+use Rattle.eco_reads.proofs.Within.{place_within}
 
 -- the ends of the nets so far, and of one more
 flat_joined : (xs ys : List Net) → flat_map (λ (net : Net). net.ends) (xs ++ ys) ≡ flat_map (λ (net : Net). net.ends) xs ++ flat_map (λ (net : Net). net.ends) ys

@@ -6,21 +6,21 @@ use Rattle.std.specs.List.{AllByRecursion, flat_map, list_any, position_from}
 use Rattle.netlist_schema.specs.Names.{AreDistinct}
 use Rattle.netlist_schema.specs.Types.{Contents, End, Net, Port}
 use Rattle.netlist_schema.proofs.Lists.{all_behind}
-use Rattle.edit_core.specs.Rule.{first, refuse}
-use Rattle.edit_core.specs.declared.reply.EndName.{EndName}
-use Rattle.edit_core.specs.declared.reply.Reply.{Reply}
-use Rattle.edit_core.specs.declared.reply.Reply.TheVariants.{NoInst, NotJoined}
-use Rattle.edit_core.proofs.Lists.{Apart, apart_of, each_left}
+use Rattle.edit_rules_spec.specs.Rule.{first, refuse}
+use Rattle.edit_rules_spec.specs.declared.reply.EndName.{EndName}
+use Rattle.edit_rules_spec.specs.declared.reply.Reply.{Reply}
+use Rattle.edit_rules_spec.specs.declared.reply.Reply.TheVariants.{NoInst, NotJoined}
+use Rattle.edit_rules_spec.proofs.Lists.{Apart, apart_of, each_left}
 use Rattle.edit_spec.specs.Cut.{is_end, net_without_end, not_joined, without_end}
 use Rattle.flat_spec.specs.ConnectionTest.{same_end}
 use Rattle.flat_spec.proofs.TestLemmas.{same_end-true}
 use Rattle.edit_spec.specs.Ends.{bad_bit, end_named, joins_end, no_end_inst, no_port}
 use Rattle.edit_spec.proofs.Joined.{not_had}
-use Rattle.cells_model.proofs.Places.{first_is_position}
+use Rattle.edit_cells.proofs.Places.{first_is_position}
 use Rattle.eco_reads.specs.Plan.{IsPlanned}
 use Rattle.eco_reads.specs.declared.plan.Plan.{Plan}
 use Rattle.eco_reads.specs.declared.plan.Plan.TheVariants.{Net as PlannedNet}
-use Rattle.eco_reads.proofs.Places.{put_within}
+use Rattle.eco_reads.proofs.Within.{put_within}
 use Rattle.eco_reads.proofs.Found.{or_front}
 use Rattle.end_plans.specs.Ends.{no_cut}
 use Rattle.end_plans.proofs.Joined.{both_none, found_at, not_found, one_place, place_of_rest}

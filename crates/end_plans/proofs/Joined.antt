@@ -5,21 +5,21 @@ use Rattle.std.specs.Option.{option_map_or, option_or}
 use Rattle.std.specs.List.{flat_map, position_from}
 use Rattle.std.proofs.lemmas.Bool.{le-leb, lt-leb}
 use Rattle.netlist_schema.specs.Types.{Contents, End, Net, Port}
-use Rattle.edit_core.specs.Edit.{changed_at}
-use Rattle.edit_core.specs.Find.{net_place}
-use Rattle.edit_core.specs.Rule.{first, refuse, too_many}
-use Rattle.edit_core.specs.declared.reply.EndName.{EndName}
-use Rattle.edit_core.specs.declared.reply.Reply.{Reply}
-use Rattle.edit_core.specs.declared.reply.Reply.TheVariants.{AlreadyJoined, NoInst, NoNet, TooMany}
+use Rattle.edit_rules_spec.specs.Edit.{changed_at}
+use Rattle.edit_rules_spec.specs.Find.{net_place}
+use Rattle.edit_rules_spec.specs.Rule.{first, refuse, too_many}
+use Rattle.edit_rules_spec.specs.declared.reply.EndName.{EndName}
+use Rattle.edit_rules_spec.specs.declared.reply.Reply.{Reply}
+use Rattle.edit_rules_spec.specs.declared.reply.Reply.TheVariants.{AlreadyJoined, NoInst, NoNet, TooMany}
 use Rattle.edit_spec.specs.Ends.{bad_bit, end_named, ends_in, joins_end, no_end_inst, no_port}
 use Rattle.edit_spec.specs.Inside.{no_net}
 use Rattle.edit_spec.specs.Join.{already_joined, net_with_end, no_join, with_end}
-use Rattle.cells_model.proofs.Patches.{changed_at_place}
-use Rattle.cells_model.proofs.Places.{first_is_position}
+use Rattle.edit_cells.proofs.Patches.{changed_at_place}
+use Rattle.edit_cells.proofs.Places.{first_is_position}
 use Rattle.eco_reads.specs.Plan.{IsPlanned}
 use Rattle.eco_reads.specs.declared.plan.Plan.{Plan}
 use Rattle.eco_reads.specs.declared.plan.Plan.TheVariants.{Net as PlannedNet}
-use Rattle.eco_reads.proofs.Places.{put_within}
+use Rattle.eco_reads.proofs.Within.{put_within}
 use Rattle.eco_reads.proofs.Found.{or_front}
 use Rattle.end_plans.specs.Ends.{no_more_end}
 

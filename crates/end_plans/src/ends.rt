@@ -10,23 +10,23 @@ ghost use Rattle.edit_spec.specs.Cut.{is_end, net_without_end, not_joined, witho
 ghost use Rattle.edit_spec.specs.Ends.{bad_bit, end_inst, end_named, joins_end, no_end_inst, no_port};
 ghost use Rattle.flat_spec.specs.ConnectionTest.{same_end};
 ghost use Rattle.edit_spec.specs.Join.{net_with_end, no_join, with_end};
-ghost use Rattle.edit_core.specs.Edit.{changed_at};
-ghost use Rattle.edit_core.specs.Find.{inst_place};
-ghost use Rattle.edit_core.specs.Seen.{contents_at};
-ghost use Rattle.edit_core.specs.Rule.{first, refuse};
-ghost use Rattle.edit_core.specs.declared.reply.Reply.TheVariants.{NoInst};
-ghost use Rattle.cells_model.specs.Parts.{HasLimits, IsInside};
-ghost use Rattle.cells_model.specs.State.{HasRead, HasReadSome};
+ghost use Rattle.edit_rules_spec.specs.Edit.{changed_at};
+ghost use Rattle.edit_rules_spec.specs.Find.{inst_place};
+ghost use Rattle.edit_rules_spec.specs.Seen.{contents_at};
+ghost use Rattle.edit_rules_spec.specs.Rule.{first, refuse};
+ghost use Rattle.edit_rules_spec.specs.declared.reply.Reply.TheVariants.{NoInst};
+ghost use Rattle.edit_cells.specs.Parts.{HasLimits, IsInside};
+ghost use Rattle.edit_cells.specs.State.{HasRead, HasReadSome};
 ghost use Rattle.eco_reads.specs.Done.{IsDoneOrFails};
 ghost use Rattle.eco_reads.specs.Plan.{IsPlanned};
 ghost use Rattle.end_plans.specs.Ends.{IsFaceAt, cell_of_end, end_ports_at, no_cut, no_more_end, port_in, seen_port};
 
-use cells_model::Face;
 use eco_reads::Plan;
 use eco_reads::find::{inst_place, net_place, port_place};
+use edit_cells::Face;
 use edit_spec::{EndName, Reply};
 use netlist_schema::limits::MOST_ENDS;
-use netlist_schema::{CellId, Contents, Copied, End, Ident, Net, NoMemory, Row};
+use netlist_schema::{CellId, Contents, Copied, End, Ident, Net, NoMemory, Row, Shared};
 use std::alloc::Global;
 
 /// A port, by its place and its width.
@@ -81,14 +81,14 @@ pub fn has_end(net: &Net, end: &End) -> bool
         .any(|other| is_same_end(end, other))
 }
 
-pub fn net_position(nets: &Row<Net>, end: &End) -> Option<usize>
+pub fn net_position(nets: &Row<Shared<Net>>, end: &End) -> Option<usize>
     ensures { result ≡ position (joins_end end.now) nets.now }
 {
     nets.as_slice().iter().position(|net| has_end(net, end))
 }
 
 /// The place of the first net that has an end.
-pub fn net_of_end(nets: &Row<Net>, end: &End) -> Option<usize>
+pub fn net_of_end(nets: &Row<Shared<Net>>, end: &End) -> Option<usize>
     ensures value { result ≡ position (joins_end end.now) nets.now }
     ensures within { IfSome result (λ place. place < length nets.now) }
 {
@@ -97,7 +97,7 @@ pub fn net_of_end(nets: &Row<Net>, end: &End) -> Option<usize>
 
 /// The number of ends of all nets.
 #[tactic(auto, using(crate::proofs::Counts::ends_more, crate::proofs::Counts::ends_within))]
-pub fn end_count(nets: &Row<Net>) -> usize
+pub fn end_count(nets: &Row<Shared<Net>>) -> usize
     requires { length (flat_map (λ net. net.ends) nets.now) ≤ MOST_ENDS }
     ensures { result ≡ length (flat_map (λ net. net.ends) nets.now) }
 {

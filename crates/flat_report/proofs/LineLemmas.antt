@@ -1,7 +1,7 @@
 -- Words of a line, one after another.
 use Rattle.std.proofs.Common.{◌≡◌, ℕ, List, [], ◌∷◌, ◌++◌, sym, ap, ◌∙◌, append_assoc, append-nil}
 use Rattle.std.proofs.lemmas.Grind.{flat_map-append}
-use Rattle.report_spec.specs.Lines.{spaced}
+use Rattle.flat_lines_spec.specs.Lines.{spaced}
 use Rattle.flat_report.specs.Parts.{behind_blanks}
 
 -- the first word has no blank before it, and each other has

@@ -3,7 +3,7 @@ ghost use Rattle.std.specs.Prelude.{◌≡◌, [], ◌∷◌, ◌++◌, codes, m
 ghost use Rattle.std.specs.Fmt.{decimal};
 ghost use Rattle.std.specs.Option.{option_map, option_map_or};
 ghost use Rattle.edif_names.specs.Parts.{Grows};
-ghost use Rattle.report_spec.specs.Lines.{cell_text, item_line, item_words, lib_text, net_words, spaced};
+ghost use Rattle.flat_lines_spec.specs.Lines.{cell_text, item_line, item_words, lib_text, net_words, spaced};
 ghost use Rattle.edif_spec.specs.PropertyText.{property_text};
 ghost use Rattle.flat_report.specs.Parts.{behind_blanks};
 ghost use Rattle.walk_items.specs.Lent.{item_of, net_of, properties_of};
@@ -13,6 +13,7 @@ use crate::paths::{push_first, push_net_words, push_place};
 use crate::words::{push_number, push_properties, push_word};
 use flat_spec::Item;
 use netlist_schema::{CellId, NoMemory, Shown};
+use path_texts::PathTexts;
 use std::alloc::Global;
 use walk_items::{ItemRef, NetRef, PropertiesRef};
 
@@ -42,8 +43,22 @@ pub fn lent_text<S: Shown>(
     ensures ok { OnOk result (out.new.items ≡ out.old.items ++ item_line (S.design design.now) (item_of item.entry)) }
     ensures err { OnErr result (out.new.items ≡ out.old.items) }
 {
+    kept_text(alloc, &PathTexts::new(alloc, design), item, out)
+}
+
+/// The same of a lent item, with the text of the path that was kept.
+pub fn kept_text<S: Shown>(
+    alloc: Global,
+    texts: &PathTexts<'_, S>,
+    item: ItemRef<'_>,
+    out: &mut Vec<u8>,
+) -> Result<(), NoMemory>
+    ensures ok { OnOk result (out.new.items ≡ out.old.items ++ item_line texts.now (item_of item.entry)) }
+    ensures err { OnErr result (out.new.items ≡ out.old.items) }
+{
     let before = out.len();
-    if push_line(alloc, design, item, out).is_err() {
+    let design = texts.design();
+    if push_line(alloc, design, texts, item, out).is_err() {
         out.truncate(before);
         return Err(NoMemory);
     }
@@ -54,13 +69,15 @@ pub fn lent_text<S: Shown>(
 fn push_line<S: Shown>(
     alloc: Global,
     design: &S,
+    texts: &PathTexts<'_, S>,
     item: ItemRef<'_>,
     out: &mut Vec<u8>,
 ) -> Result<(), NoMemory>
+    requires same { texts.now ≡ S.design design.now }
     ensures ok { OnOk result (out.new.items ≡ out.old.items ++ item_line (S.design design.now) (item_of item.entry)) }
     ensures grows { Grows out.old.items out.new.items }
 {
-    push_item(alloc, design, item, out)?;
+    push_item(alloc, design, texts, item, out)?;
     out.push(b'\n')?;
     Ok(())
 }
@@ -69,9 +86,11 @@ fn push_line<S: Shown>(
 fn push_item<S: Shown>(
     alloc: Global,
     design: &S,
+    texts: &PathTexts<'_, S>,
     item: ItemRef<'_>,
     out: &mut Vec<u8>,
 ) -> Result<(), NoMemory>
+    requires same { texts.now ≡ S.design design.now }
     ensures ok { OnOk result (out.new.items ≡ out.old.items ++ spaced (item_words (S.design design.now) (item_of item.entry))) }
     ensures grows { Grows out.old.items out.new.items }
 {
@@ -80,14 +99,14 @@ fn push_item<S: Shown>(
             path,
             cell,
             properties,
-        } => push_enter(alloc, design, path, cell, properties, out),
-        ItemRef::Net { path, net, first } => push_net(design, path, net, first, out),
+        } => push_enter(alloc, design, texts, path, cell, properties, out),
+        ItemRef::Net { path, net, first } => push_net(design, texts, path, net, first, out),
         ItemRef::Pin {
             path,
             port,
             bit,
             first,
-        } => push_pin(design, path, port, bit, first, out),
+        } => push_pin(design, texts, path, port, bit, first, out),
     }
 }
 
@@ -95,16 +114,18 @@ fn push_item<S: Shown>(
 fn push_enter<S: Shown>(
     alloc: Global,
     design: &S,
+    texts: &PathTexts<'_, S>,
     path: &[u32],
     cell: CellId,
     properties: PropertiesRef<'_>,
     out: &mut Vec<u8>,
 ) -> Result<(), NoMemory>
+    requires same { texts.now ≡ S.design design.now }
     ensures ok { OnOk result (out.new.items ≡ out.old.items ++ spaced (item_words (S.design design.now) (Item.Enter path.now cell (properties_of properties.entry)))) }
     ensures grows { Grows out.old.items out.new.items }
 {
     out.extend_from_slice(b"inst")?;
-    push_place(design, path, out)?;
+    push_place(design, texts, path, out)?;
     push_cell(design, cell, out)?;
     push_lent(alloc, properties, out)
 }
@@ -139,35 +160,39 @@ fn push_cell<S: Shown>(design: &S, cell: CellId, out: &mut Vec<u8>) -> Result<()
 /// Appends the words of a net. After `NoMemory` some bytes may stand behind those before.
 fn push_net<S: Shown>(
     design: &S,
+    texts: &PathTexts<'_, S>,
     path: &[u32],
     net: u32,
     first: NetRef<'_>,
     out: &mut Vec<u8>,
 ) -> Result<(), NoMemory>
+    requires same { texts.now ≡ S.design design.now }
     ensures ok { OnOk result (out.new.items ≡ out.old.items ++ spaced (item_words (S.design design.now) (Item.Net path.now net (net_of first.entry)))) }
     ensures grows { Grows out.old.items out.new.items }
 {
     out.extend_from_slice(b"net")?;
-    push_net_words(design, path, net, out)?;
-    push_first(design, first, out)
+    push_net_words(design, texts, path, net, out)?;
+    push_first(design, texts, first, out)
 }
 
 /// Appends the words of a pin. After `NoMemory` some bytes may stand behind those before.
 fn push_pin<S: Shown>(
     design: &S,
+    texts: &PathTexts<'_, S>,
     path: &[u32],
     port: u32,
     bit: u32,
     first: Option<NetRef<'_>>,
     out: &mut Vec<u8>,
 ) -> Result<(), NoMemory>
+    requires same { texts.now ≡ S.design design.now }
     ensures ok { OnOk result (out.new.items ≡ out.old.items ++ spaced (item_words (S.design design.now) (Item.Pin path.now port bit (option_map net_of first.entry)))) }
     ensures grows { Grows out.old.items out.new.items }
 {
     out.extend_from_slice(b"pin")?;
-    let cell = push_place(design, path, out)?;
+    let cell = push_place(design, texts, path, out)?;
     push_bit(port_name(design, cell, port), bit, out)?;
-    push_joined(design, first, out)
+    push_joined(design, texts, first, out)
 }
 
 /// Appends a port's identifier and a bit, each behind a blank. After `NoMemory` some bytes may stand behind those before.
@@ -183,15 +208,17 @@ fn push_bit(port: &[u8], bit: u32, out: &mut Vec<u8>) -> Result<(), NoMemory>
 /// bytes may stand behind those before.
 fn push_joined<S: Shown>(
     design: &S,
+    texts: &PathTexts<'_, S>,
     first: Option<NetRef<'_>>,
     out: &mut Vec<u8>,
 ) -> Result<(), NoMemory>
+    requires same { texts.now ≡ S.design design.now }
     ensures ok { OnOk result (out.new.items
         ≡ out.old.items ++ behind_blanks (option_map_or (net_words (S.design design.now)) (option_map net_of first.entry) (codes "-" ∷ []))) }
     ensures grows { Grows out.old.items out.new.items }
 {
     match first {
-        Some(first) => push_first(design, first, out),
+        Some(first) => push_first(design, texts, first, out),
         None => push_word(b"-", out),
     }
 }

@@ -6,4 +6,4 @@ mod names;
 mod paths;
 mod words;
 
-pub use items::{item_text, lent_text};
+pub use items::{item_text, kept_text, lent_text};

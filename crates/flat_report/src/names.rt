@@ -1,10 +1,10 @@
 //! The identifiers of libraries, cells, ports and nets.
 ghost use Rattle.std.specs.Prelude.{◌≡◌, []};
 ghost use Rattle.std.specs.Option.{option_copied, option_map_or};
-ghost use Rattle.report_spec.specs.Lines.{cell_text, lib_text};
+ghost use Rattle.flat_lines_spec.specs.Lines.{cell_text, lib_text};
 ghost use Rattle.flat_report.specs.Parts.{net_in, port_in};
 
-use cell_lookup::net_at;
+use flat_lookup::net_at;
 use netlist_schema::{CellId, Net, Port, Shown};
 
 /// The port of this number of a cell, where there is the cell and such a port.

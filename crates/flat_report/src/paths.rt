@@ -4,14 +4,15 @@ ghost use Rattle.std.specs.Option.{option_map_or};
 ghost use Rattle.edif_names.specs.Parts.{Grows};
 ghost use Rattle.flat_spec.specs.Effective.{names_along};
 ghost use Rattle.flat_spec.specs.Paths.{at_path, cell_along};
-ghost use Rattle.report_spec.specs.Lines.{net_words, path_text};
+ghost use Rattle.flat_lines_spec.specs.Lines.{net_words, path_text};
 ghost use Rattle.flat_report.specs.Parts.{behind_blanks, behind_slashes, cell_below_top};
 ghost use Rattle.walk_items.specs.Lent.{net_of};
 
 use crate::names::net_name;
 use crate::words::push_word;
-use cell_lookup::inst_at;
+use flat_lookup::inst_at;
 use netlist_schema::{CellId, NoMemory, Shown};
+use path_texts::PathTexts;
 use walk_items::NetRef;
 
 /// Appends `/` and the identifier of each instance to which the steps lead from a cell, and returns the cell that they reach. A
@@ -55,9 +56,9 @@ fn push_names<S: Shown>(
     push_steps(design, top.cell, path, out)
 }
 
-/// Appends a path, `/` alone where it names no instance, and returns the cell that it reaches. After `NoMemory` some bytes may
-/// stand behind those before.
-fn push_path<S: Shown>(
+/// Makes the text of a path behind other bytes, `/` alone where it names no instance, and returns the cell that it reaches. After
+/// `NoMemory` some bytes may stand behind those before.
+fn make_path<S: Shown>(
     design: &S,
     path: &[u32],
     out: &mut Vec<u8>,
@@ -75,31 +76,55 @@ fn push_path<S: Shown>(
     Ok(cell)
 }
 
-/// Appends a blank and a path, and returns the cell that it reaches. After `NoMemory` some bytes may stand behind those before.
-pub fn push_place<S: Shown>(
+/// Appends a path, `/` alone where it names no instance, and returns the cell that it reaches. After `NoMemory` some bytes may
+/// stand behind those before.
+fn push_path<S: Shown>(
     design: &S,
+    texts: &PathTexts<'_, S>,
     path: &[u32],
     out: &mut Vec<u8>,
 ) -> Result<Option<CellId>, NoMemory>
+    requires same { texts.now ≡ S.design design.now }
+    ensures cell { IfOk result (λ cell. cell ≡ cell_below_top (S.design design.now) path.now) }
+    ensures text { OnOk result (out.new.items ≡ out.old.items ++ path_text (S.design design.now) path.now) }
+    ensures grows { Grows out.old.items out.new.items }
+{
+    let Some(found) = texts.find(path) else {
+        return make_path(design, path, out);
+    };
+    out.extend_from_slice(found.text)?;
+    Ok(Some(found.cell))
+}
+
+/// Appends a blank and a path, and returns the cell that it reaches. After `NoMemory` some bytes may stand behind those before.
+pub fn push_place<S: Shown>(
+    design: &S,
+    texts: &PathTexts<'_, S>,
+    path: &[u32],
+    out: &mut Vec<u8>,
+) -> Result<Option<CellId>, NoMemory>
+    requires same { texts.now ≡ S.design design.now }
     ensures cell { IfOk result (λ cell. cell ≡ cell_below_top (S.design design.now) path.now) }
     ensures text { OnOk result (out.new.items ≡ out.old.items ++ (codes " " ++ path_text (S.design design.now) path.now)) }
     ensures grows { Grows out.old.items out.new.items }
 {
     out.push(b' ')?;
-    push_path(design, path, out)
+    push_path(design, texts, path, out)
 }
 
 /// Appends the path and the identifier of a net, each behind a blank. After `NoMemory` some bytes may stand behind those before.
 pub fn push_net_words<S: Shown>(
     design: &S,
+    texts: &PathTexts<'_, S>,
     path: &[u32],
     net: u32,
     out: &mut Vec<u8>,
 ) -> Result<(), NoMemory>
+    requires same { texts.now ≡ S.design design.now }
     ensures ok { OnOk result (out.new.items ≡ out.old.items ++ behind_blanks (net_words (S.design design.now) (at_path path.now net))) }
     ensures grows { Grows out.old.items out.new.items }
 {
-    let cell = push_place(design, path, out)?;
+    let cell = push_place(design, texts, path, out)?;
     push_word(net_name(design, cell, net), out)
 }
 
@@ -107,11 +132,13 @@ pub fn push_net_words<S: Shown>(
 /// those before.
 pub fn push_first<S: Shown>(
     design: &S,
+    texts: &PathTexts<'_, S>,
     first: NetRef<'_>,
     out: &mut Vec<u8>,
 ) -> Result<(), NoMemory>
+    requires same { texts.now ≡ S.design design.now }
     ensures ok { OnOk result (out.new.items ≡ out.old.items ++ behind_blanks (net_words (S.design design.now) (net_of first.entry))) }
     ensures grows { Grows out.old.items out.new.items }
 {
-    push_net_words(design, first.path, first.net, out)
+    push_net_words(design, texts, first.path, first.net, out)
 }

@@ -1,16 +1,16 @@
 //! A board of two sockets with a lamp each, its parts by their places, its flattening and the properties of an occurrence.
 use annot_view::effective;
-use cell_lookup::{insts_at, net_count};
-use cell_order::cell_order;
 use design_model::{PlainError, plain_flat};
 use edif_names::property_text;
+use flat_lookup::{insts_at, net_count};
 use flat_report::item_text;
 use flat_spec::{Item, Path};
+use netlist_order::cell_order;
 use netlist_schema::{CellId, Design, LibId, Property};
 use std::alloc::Global;
 use std::process::Abort;
 use std::test::Fail;
-use text_designs::design_of;
+use test_text_designs::design_of;
 
 const BOARD: &str = "(edif e (edifVersion 2 0 0) (edifLevel 0) (keywordMap (keywordLevel 0))
  (library w (edifLevel 0) (technology)

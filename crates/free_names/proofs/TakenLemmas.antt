@@ -1,23 +1,25 @@
 -- Names in a set of keys, and the first name that is free.
-use Rattle.std.proofs.Common.{◌≡◌, ◌≤◌, ◌<◌, ◌+◌, ◌^◌, ◌⊎◌, ℕ, zero, suc, List, [], ◌∷◌, map, length, refl, sym, ap, subst, ◌∙◌, inl, inr, arith, Some, Bool, true, false, not}
-use Rattle.std.specs.Prelude.{◌||◌, find, unwrap_or, decimal}
-use Rattle.std.specs.BTreeMap.{is_at}
+use Rattle.std.proofs.Common.{◌≡◌, ◌≤◌, ◌<◌, ◌+◌, ◌^◌, ◌⊎◌, ◌++◌, ℕ, zero, suc, List, [], ◌∷◌, cond, map, length, refl, sym, ap, subst, ◌∙◌, inl, inr, arith, Some, Bool, true, false, not}
+use Rattle.std.specs.Prelude.{◌||◌, codes, find, unwrap_or, decimal}
+use Rattle.std.specs.BTreeMap.{BTreeMap, Updates, get, is_at}
+use Rattle.std.specs.Map.{lookup}
 use Rattle.std.specs.BTreeSet.{insert_key}
 use Rattle.std.specs.Cmp.Lexicographic.{slice_cmp, texts_ties}
 use Rattle.std.specs.List.{list_any, range_with_len}
 use Rattle.std.specs.Ordering.{nat_cmp, is_eq, match_ordering}
 use Rattle.std.specs.declared.cmp.Ordering.{Ordering}
 use Rattle.std.specs.declared.cmp.Ordering.TheVariants.{Less, Equal, Greater}
-use Rattle.std.proofs.lemmas.Bool.{true≢false, false≢true, cond-true, cond-false, not-true, not-false}
+use Rattle.std.proofs.lemmas.Bool.{true≢false, false≢true, cond-true, cond-false, not-true, not-false, or_left, or_right}
 use Rattle.std.proofs.lemmas.Fmt.{decimal_is_IsNumeral}
-use Rattle.edit_core.specs.Find.{is_name, is_same}
-use Rattle.edit_core.proofs.Refusals.{same_name}
+use Rattle.edit_rules_spec.specs.Find.{is_name, is_same}
+use Rattle.edit_rules_spec.proofs.Numbers.{lower_numbered}
+use Rattle.edit_rules_spec.proofs.Refusals.{is_name-refl, same_name}
 use Rattle.flat_spec.proofs.ListLemmas.{Member, Member-from_map}
 use Rattle.flat_spec.proofs.OccurrenceLemmas.{range_with_len-most}
 use Rattle.netlist_schema.specs.Ident.{IsIdentifier, is_identifier_byte}
 use Rattle.ungroup_spec.specs.Names.{is_taken, numbered, free_name}
 use Rattle.ungroup_spec.proofs.FreshLemmas.{free_name-is, wanted_identifier, All-member, digits_pass}
-use Rattle.free_names.specs.Taken.{IsMadeFree, IsOf, IsTold, lower}
+use Rattle.free_names.specs.Taken.{AreKept, AreUsed, AreUsedUp, IsAdded, IsMadeFree, IsOf, IsTold, has, lower}
 
 -- ---- the set
 
@@ -204,6 +206,67 @@ taken_later old set new name bytes made number free same made_is low taken told 
         → is_taken names (candidate name k) ≡ true
     below k less c before last = elim c [ inl lower ↦ before k lower | inr same ↦ subst (λ v. is_taken names (candidate name v) ≡ true) same last ]
 
+-- ---- numbers that are used
+
+-- the set has what it had and the new name
+pub added : {K : Type 0} (f : K → List ℕ) (ks new : List K) (k : K) (name : List ℕ) (free : Bool) → f k ≡ lower name
+    → free ≡ not (list_any (is_at (λ y. slice_cmp nat_cmp (f k) (f y))) ks) → new ≡ insert_key (λ x y. slice_cmp nat_cmp (f x) (f y)) ks k
+    → IsAdded (map f ks) name (map f new) free
+added f ks new k name free is free_is new_is = record {
+  free = free_is ∙ ap not (has_key f k ks ∙ ap (λ v. list_any (is_name v) (map f ks)) is);
+  names = λ q. ap (λ v. list_any (is_name q) (map f v)) new_is ∙ one_key_more f q k ks ∙ (λ t. is_name q (is t) || list_any (is_name q) (map f ks));
+}
+
+still_has : (old new : List (List ℕ)) (name other : List ℕ) (free : Bool) → IsAdded old name new free → has old other ≡ true → has new other ≡ true
+still_has old new name other free is held = is.names (lower other) ∙ or_right (is_name (lower other) (lower name)) (has old other) held
+
+has_now : (old new : List (List ℕ)) (name : List ℕ) (free : Bool) → IsAdded old name new free → has new name ≡ true
+has_now old new name free is = is.names (lower name) ∙ or_left (is_name (lower name) (lower name)) (has old name) (is_name-refl (lower name))
+
+pub used_up_still : (old new : List (List ℕ)) (name letters : List ℕ) (next : ℕ) (free : Bool) → IsAdded old name new free → AreUsedUp old letters next → AreUsedUp new letters next
+used_up_still old new name letters next free is used = record {
+  from_one = used.from_one;
+  used = λ other same number low less. still_has old new name (numbered other number) free is (used.used other same number low less);
+}
+
+pub kept_still : {K : Type 0} (kept : BTreeMap K ℕ) (f : K → List ℕ) (old new : List (List ℕ)) (name : List ℕ) (free : Bool) → IsAdded old name new free → AreKept kept f old → AreKept kept f new
+kept_still kept f old new name free is all key next at = used_up_still old new name (f key) next free is (all key next at)
+
+-- a name is used with one number more
+pub used_more : (old new : List (List ℕ)) (name made : List ℕ) (number : ℕ) (free : Bool) → made ≡ numbered name number → IsAdded old made new free → AreUsed old name number → AreUsed new name (number + 1)
+used_more old new name made number free made_is is used k low less = at k low (cases k number less)
+  where
+    cases : (k n : ℕ) → k < n + 1 → (k < n) ⊎ (n ≡ k)
+    cases k n less = grind arith
+
+    at : (k : ℕ) → 1 ≤ k → (k < number) ⊎ (number ≡ k) → has new (numbered name k) ≡ true
+    at k low c = elim c [
+      | inl before ↦ still_has old new made (numbered name k) free is (used k low before)
+      | inr same ↦ ap (has new) (sym (made_is ∙ ap (numbered name) same)) ∙ has_now old new made free is
+    ]
+
+-- so are all names that are the same ignoring case
+pub used_alike : (taken : List (List ℕ)) (name letters : List ℕ) (next : ℕ) → next < 2 ^ 64 → 1 ≤ next → letters ≡ lower name → AreUsed taken name next → AreUsedUp taken letters next
+used_alike taken name letters next small low is used = record {
+  from_one = low;
+  used = λ other same number one less. ap (λ v. list_any (is_name v) taken) (alike other number (sym same ∙ is) (omega (arith, less, small))) ∙ used number one less;
+}
+  where
+    alike : (other : List ℕ) (number : ℕ) → lower other ≡ lower name → number < 2 ^ 64 → lower (numbered other number) ≡ lower (numbered name number)
+    alike other number same small =
+        lower_numbered other (codes "_") number small ∙ ap (λ v. v ++ (lower (codes "_") ++ decimal number)) same ∙ sym (lower_numbered name (codes "_") number small)
+
+-- the name itself is taken, and so it is with the numbers that are used
+pub taken_from : (old new : List (List ℕ)) (name bytes letters : List ℕ) (free : Bool) (next : ℕ) → bytes ≡ name → letters ≡ lower name → IsTold old bytes new free → free ≡ false → AreUsedUp new letters next → AreTaken old name next new
+taken_from old new name bytes letters free next same is told_is not_free used names of =
+    let first = taken_first old new name bytes free same told_is not_free names of in
+    (first.0, λ k less. at first.0 k less (first.1 0 (omega arith)))
+  where
+    at : IsOf new names → (k : ℕ) → k < next → is_taken names (candidate name 0) ≡ true → is_taken names (candidate name k) ≡ true
+    at still zero less here = here
+    at still (suc k) less here =
+        taken_lower names (numbered name (suc k)) ∙ sym (still (lower (numbered name (suc k)))) ∙ used.used name is (suc k) (omega arith) less
+
 -- ---- names are identifiers
 
 -- a number in digits is one
@@ -214,3 +277,26 @@ digits_identifier n small =
 
 pub numbered_identifier : (name : List ℕ) (n : ℕ) → n < 2 ^ 64 → IsIdentifier name → IsIdentifier (numbered name n)
 numbered_identifier name n small is = wanted_identifier name (decimal n) is (digits_identifier n small)
+
+-- ---- numbers that are kept
+
+-- what is kept for one name more
+pub kept_more : {K : Type 0} (f : K → List ℕ) (old new : BTreeMap K ℕ) (taken : List (List ℕ)) (key : K) (next : ℕ) → Updates (λ x y. slice_cmp nat_cmp (f x) (f y)) old new key (Some next) → AreUsedUp taken (f key) next → AreKept old f taken → AreKept new f taken
+kept_more {K} f old new taken key next updates used all other number at = by (is_at (λ y. slice_cmp nat_cmp (f key) (f y)) other) refl
+  where
+    value : (b : Bool) → is_at (λ y. slice_cmp nat_cmp (f key) (f y)) other ≡ b → get (λ x y. slice_cmp nat_cmp (f x) (f y)) new other ≡ cond b (Some next) (get (λ x y. slice_cmp nat_cmp (f x) (f y)) old other)
+    value b is = updates.0 other ∙ ap (λ t. cond t (Some next) (get (λ x y. slice_cmp nat_cmp (f x) (f y)) old other)) is
+
+    by : (b : Bool) → is_at (λ y. slice_cmp nat_cmp (f key) (f y)) other ≡ b → AreUsedUp taken (f other) number
+    by true is =
+        let both : Some next ≡ Some number = sym (value true is) ∙ at in
+        let same : next ≡ number = cc in
+        let letters : f key ≡ f other = same_name (f key) (f other) (sym (tied (f key) (f other)) ∙ is) in
+        subst (λ (n : ℕ). AreUsedUp taken (f other) n) same (subst (λ v. AreUsedUp taken v next) letters used)
+    by false is = all other number (sym (value false is) ∙ at)
+
+pub kept_same : {K : Type 0} (f : K → List ℕ) (old new : BTreeMap K ℕ) (taken : List (List ℕ)) → new.entries ≡ old.entries → AreKept old f taken → AreKept new f taken
+kept_same f old new taken same all key next at = all key next (ap (λ es. lookup (is_at (λ y. slice_cmp nat_cmp (f key) (f y))) es) (sym same) ∙ at)
+
+pub used_none : (taken : List (List ℕ)) (letters : List ℕ) → AreUsedUp taken letters 1
+used_none taken letters = record { from_one = omega arith; used = λ name same number low less. absurd (omega (arith, low, less)) }

@@ -1,7 +1,7 @@
 -- Where a run stands.
 use Rattle.std.specs.Prelude.{◌≡◌, ◌≢◌, ℕ, ◌+◌, ◌*◌, ◌≤◌, List, [], ◌∷◌, ◌++◌, None, map}
 use Rattle.netlist_schema.specs.Design.{Design}
-use Rattle.edit_core.specs.declared.reply.Reply.{Reply}
+use Rattle.edit_rules_spec.specs.declared.reply.Reply.{Reply}
 use Rattle.edit_spec.specs.declared.ops.Op.{Op}
 use Rattle.edit_tx.specs.Facts.{PinFacts, TxFacts}
 use Rattle.history_spec.specs.History.{version_at}

@@ -4,6 +4,7 @@ ghost use Rattle.netlist_schema.specs.declared.limits.TheConstants.{MOST_EVENTS}
 ghost use Rattle.gen_spec.specs.Summary.{counts_of, dropped_by, is_accepted, walked};
 ghost use Rattle.gen_rounds.specs.Counting.{with_item};
 
+use db_version::Snapshot;
 use edit_tx::Pin;
 use flat_spec::Item;
 use gen_spec::{Counts, Walked};
@@ -11,7 +12,6 @@ use history_spec::{Answer, Event};
 use netlist_schema::NoMemory;
 use occ_walk::{Walk, WalkError};
 use std::alloc::Global;
-use version_data::Snapshot;
 
 /// A number and so many more, which memory could not hold where they are too many to be counted.
 fn more(count: u64, by: usize) -> Result<u64, NoMemory>

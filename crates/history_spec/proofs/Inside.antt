@@ -5,8 +5,8 @@ use Rattle.std.specs.Ordering.{is_le}
 use Rattle.netlist_schema.specs.Order.{object_cmp}
 use Rattle.netlist_schema.specs.Types.{CellId, Object}
 use Rattle.netlist_schema.specs.declared.ids.Object.TheVariants.{Interface, Contents}
-use Rattle.edit_core.specs.Paths.{most_cells}
-use Rattle.edit_core.specs.declared.reply.Reply.TheVariants.{Done}
+use Rattle.edit_rules_spec.specs.Paths.{most_cells}
+use Rattle.edit_rules_spec.specs.declared.reply.Reply.TheVariants.{Done}
 use Rattle.edit_spec.specs.Needs.{Reads}
 use Rattle.history_spec.specs.declared.event.Answer.TheVariants.{Pinned, Committed, Conflict}
 use Rattle.history_spec.specs.declared.event.Call.TheVariants.{Pin, Commit}

@@ -2,8 +2,8 @@
 use Rattle.std.proofs.Common.{◌≡◌, ℕ, zero, suc, ◌+◌, ◌-◌, ◌<◌, ◌≤◌, List, ◌∷◌, ◌++◌, ap, sym, ◌∙◌, subst, arith}
 use Rattle.netlist_schema.specs.Design.{Design}
 use Rattle.netlist_schema.specs.Types.{Object}
-use Rattle.edit_core.specs.Objects.{IsThere}
-use Rattle.edit_core.specs.declared.reply.Reply.{Reply}
+use Rattle.edit_rules_spec.specs.Objects.{IsThere}
+use Rattle.edit_rules_spec.specs.declared.reply.Reply.{Reply}
 use Rattle.edit_spec.specs.Needs.{Written}
 use Rattle.edit_spec.specs.Step.{run}
 use Rattle.edit_spec.specs.declared.ops.Op.{Op}
@@ -14,7 +14,7 @@ use Rattle.history_spec.specs.Answers.{Answers}
 use Rattle.history_spec.specs.History.{Legal, state_from, state_after, version_at}
 use Rattle.history_spec.specs.Laws.{accepted}
 use Rattle.history_spec.specs.State.{State, opening, head, version, design, next_version, committed, after, IsWritten}
-use Rattle.edit_core.proofs.There.{there_stays}
+use Rattle.edit_rules_spec.proofs.There.{there_stays}
 use Rattle.edit_spec.proofs.Overlaid.{run_there}
 use Rattle.history_spec.proofs.Histories.{legal-right, state_from-append, same_version, goes_on_from}
 use Rattle.history_spec.proofs.Versions.{AllFollow, follows_after, grown_on, version_new, head_new}

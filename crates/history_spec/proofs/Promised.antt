@@ -6,11 +6,11 @@ use Rattle.std.proofs.lemmas.List.Elements.{All-head, All-tail}
 use Rattle.netlist_schema.specs.Design.{Design}
 use Rattle.netlist_schema.specs.Valid.{IsValid}
 use Rattle.edit_spec.specs.Frame.{IsReplayed}
-use Rattle.edit_core.specs.Objects.{IsClosed}
+use Rattle.edit_rules_spec.specs.Objects.{IsClosed}
 use Rattle.edit_spec.specs.Step.{run}
 use Rattle.edit_spec.specs.Typed.{IsTypedOp}
 use Rattle.edit_spec.specs.declared.ops.Op.{Op}
-use Rattle.edit_core.specs.declared.reply.Reply.{Reply}
+use Rattle.edit_rules_spec.specs.declared.reply.Reply.{Reply}
 use Rattle.edit_spec.proofs.Values.{run_keeps_valid}
 use Rattle.history_spec.specs.declared.event.Call.{Call}
 use Rattle.history_spec.specs.declared.event.Call.TheVariants.{Pin, PinAt, Release, Collect, Commit}

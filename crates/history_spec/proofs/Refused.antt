@@ -6,8 +6,8 @@ use Rattle.netlist_schema.specs.Order.{object_cmp}
 use Rattle.netlist_schema.specs.Types.{Object}
 use Rattle.netlist_schema.specs.declared.ids.Object.TheVariants.{Contents}
 use Rattle.edit_spec.specs.Needs.{Reads}
-use Rattle.edit_core.specs.Paths.{most_cells}
-use Rattle.edit_core.specs.declared.reply.Reply.TheVariants.{Done, IsCyclic}
+use Rattle.edit_rules_spec.specs.Paths.{most_cells}
+use Rattle.edit_rules_spec.specs.declared.reply.Reply.TheVariants.{Done, IsCyclic}
 use Rattle.history_spec.specs.declared.event.Answer.TheVariants.{Pinned, Released, Committed, Conflict}
 use Rattle.history_spec.specs.declared.event.Call.TheVariants.{Pin, Release, Commit}
 use Rattle.history_spec.specs.Answers.{Admits, Clashes, IsConflict, HasNoConflict}

@@ -4,7 +4,7 @@ use Rattle.std.proofs.lemmas.Bool.Decides.{nat_tests}
 use Rattle.std.proofs.lemmas.List.Elements.{Contains-push, Contains-push_cases, Contains-append_left}
 use Rattle.std.proofs.lemmas.Bool.{or_left, or_right, or_cases}
 use Rattle.netlist_schema.specs.Design.{Design}
-use Rattle.edit_core.proofs.Lists.{length_filter}
+use Rattle.edit_rules_spec.proofs.Lists.{length_filter}
 use Rattle.history_spec.specs.declared.event.Call.{Call}
 use Rattle.history_spec.specs.declared.event.Call.TheVariants.{Pin, PinAt, Release, Collect, Commit}
 use Rattle.history_spec.specs.declared.event.Answer.{Answer}

@@ -6,14 +6,14 @@ use Rattle.netlist_schema.specs.Design.{Design}
 use Rattle.netlist_schema.specs.Types.{Object}
 use Rattle.edit_spec.specs.Frame.{IsReplayed}
 use Rattle.edit_spec.specs.Needs.{Written}
-use Rattle.edit_core.specs.Objects.{Grown, IsClosed, value_of}
+use Rattle.edit_rules_spec.specs.Objects.{Grown, IsClosed, value_of}
 use Rattle.edit_spec.specs.Step.{step, run}
 use Rattle.edit_spec.specs.declared.ops.Op.{Op}
 use Rattle.edit_spec.proofs.Framed.{step_closed}
 use Rattle.edit_spec.proofs.Overlaid.{run_stays}
 use Rattle.edit_spec.proofs.Replayed.{replay}
-use Rattle.edit_core.proofs.Growing.{Grown-refl, Grown-trans}
-use Rattle.edit_core.proofs.Values.{agree_is_same_value}
+use Rattle.edit_rules_spec.proofs.Growing.{Grown-refl, Grown-trans}
+use Rattle.edit_rules_spec.proofs.Values.{agree_is_same_value}
 use Rattle.edit_spec.proofs.Values.{run_is_grown}
 use Rattle.history_spec.specs.declared.event.Call.{Call}
 use Rattle.history_spec.specs.declared.event.Call.TheVariants.{Release, Collect, Commit}

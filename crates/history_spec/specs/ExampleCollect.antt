@@ -1,7 +1,7 @@
 -- A worked history: a version is kept while it is pinned, and dropped by the first collect after that.
 use Rattle.std.specs.Prelude.{List, [], ◌∷◌, codes}
 use Rattle.netlist_schema.specs.Design.{Design}
-use Rattle.edit_core.specs.declared.reply.Reply.TheVariants.{Done}
+use Rattle.edit_rules_spec.specs.declared.reply.Reply.TheVariants.{Done}
 use Rattle.history_spec.specs.declared.event.Answer.TheVariants.{Pinned, NoVersion, Gone, Released, Collected, Committed}
 use Rattle.history_spec.specs.declared.event.Call.TheVariants.{Pin, PinAt, Release, Collect, Commit}
 use Rattle.history_spec.specs.declared.event.Event.{Event}

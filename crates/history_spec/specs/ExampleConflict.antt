@@ -4,8 +4,8 @@ use Rattle.netlist_schema.specs.Design.{Design}
 use Rattle.netlist_schema.specs.declared.ids.Object.TheVariants.{Contents}
 use Rattle.edit_spec.specs.Step.{run}
 use Rattle.edit_spec.specs.declared.ops.Op.{Op}
-use Rattle.edit_core.specs.declared.reply.Reply.{Reply}
-use Rattle.edit_core.specs.declared.reply.Reply.TheVariants.{Done, IsCyclic}
+use Rattle.edit_rules_spec.specs.declared.reply.Reply.{Reply}
+use Rattle.edit_rules_spec.specs.declared.reply.Reply.TheVariants.{Done, IsCyclic}
 use Rattle.history_spec.specs.declared.event.Answer.TheVariants.{Pinned, Released, Committed, Conflict}
 use Rattle.history_spec.specs.declared.event.Call.TheVariants.{Pin, Release, Commit}
 use Rattle.history_spec.specs.declared.event.Event.{Event}

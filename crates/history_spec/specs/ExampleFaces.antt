@@ -6,7 +6,7 @@ use Rattle.netlist_schema.specs.Types.{CellBody}
 use Rattle.netlist_schema.specs.declared.cell.Direction.TheVariants.{Inout}
 use Rattle.netlist_schema.specs.declared.ids.Object.TheVariants.{Interface}
 use Rattle.netlist_schema.specs.declared.property.Value.TheVariants.{Integer}
-use Rattle.edit_core.specs.declared.reply.Reply.TheVariants.{Done}
+use Rattle.edit_rules_spec.specs.declared.reply.Reply.TheVariants.{Done}
 use Rattle.edit_spec.specs.declared.ops.Op.{Op}
 use Rattle.edit_spec.specs.declared.ops.Op.TheVariants.{Join, SetProp}
 use Rattle.edit_spec.specs.declared.ops.Target.TheVariants.{Whole}

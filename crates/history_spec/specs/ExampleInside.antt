@@ -1,7 +1,7 @@
 -- A worked history: commits inside two cells, and which object and which commit a refusal names.
 use Rattle.std.specs.Prelude.{ℕ, List, [], ◌∷◌, codes}
 use Rattle.netlist_schema.specs.declared.ids.Object.TheVariants.{Contents}
-use Rattle.edit_core.specs.declared.reply.Reply.TheVariants.{Done}
+use Rattle.edit_rules_spec.specs.declared.reply.Reply.TheVariants.{Done}
 use Rattle.edit_spec.specs.declared.ops.Op.{Op}
 use Rattle.edit_spec.specs.declared.ops.Op.TheVariants.{AddNet}
 use Rattle.history_spec.specs.declared.event.Answer.TheVariants.{Pinned, Committed, Conflict}

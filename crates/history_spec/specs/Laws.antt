@@ -2,14 +2,14 @@
 use Rattle.std.specs.Prelude.{◌≡◌, ℕ, ◌<◌, ◌≤◌, ◌+◌, List, [], ◌∷◌, ◌++◌, length, Contains, AllPairs}
 use Rattle.std.specs.List.{All}
 use Rattle.netlist_schema.specs.Design.{Design}
-use Rattle.edit_core.specs.Objects.{Grown}
+use Rattle.edit_rules_spec.specs.Objects.{Grown}
 use Rattle.edit_spec.specs.Typed.{IsTypedOp}
 use Rattle.history_spec.specs.declared.event.Call.{Call}
 use Rattle.history_spec.specs.declared.event.Call.TheVariants.{Release, Commit}
 use Rattle.history_spec.specs.declared.event.Answer.TheVariants.{Committed}
 use Rattle.history_spec.specs.declared.event.Event.{Event}
 use Rattle.edit_spec.specs.declared.ops.Op.{Op}
-use Rattle.edit_core.specs.declared.reply.Reply.{Reply}
+use Rattle.edit_rules_spec.specs.declared.reply.Reply.{Reply}
 use Rattle.history_spec.specs.State.{State, LivePin, head}
 use Rattle.history_spec.specs.Answers.{IsKept, most_events, places}
 use Rattle.history_spec.specs.History.{state_after, version_at}

@@ -6,21 +6,21 @@ use Rattle.netlist_schema.specs.Design.{Design}
 use Rattle.netlist_schema.specs.Types.{CellId, Contents, Note, Object, TopHead}
 use Rattle.netlist_schema.specs.Valid.{IsValid}
 use Rattle.netlist_schema.specs.declared.ids.Object.TheVariants.{Notes}
-use Rattle.edit_core.specs.Edit.{inner, noted}
-use Rattle.edit_core.specs.Find.{cell_named}
-use Rattle.edit_core.specs.Reading.{IsForName, IsForNotes, IsForCell, IsInside as IsInsideOf}
+use Rattle.edit_rules_spec.specs.Edit.{inner, noted}
+use Rattle.edit_rules_spec.specs.Find.{cell_named}
+use Rattle.edit_rules_spec.specs.Reading.{IsForName, IsForNotes, IsForCell, IsInside as IsInsideOf}
 use Rattle.edit_spec.specs.Needs.{Needs}
-use Rattle.edit_core.specs.Rule.{first, no_cell, no_inst, no_lib, unless}
-use Rattle.edit_core.specs.Seen.{contents_at, inside, named}
-use Rattle.edit_core.specs.Notes.{other_notes, seen_if}
+use Rattle.edit_rules_spec.specs.Rule.{first, no_cell, no_inst, no_lib, unless}
+use Rattle.edit_rules_spec.specs.Seen.{contents_at, inside, named}
+use Rattle.edit_rules_spec.specs.Notes.{other_notes, seen_if}
 use Rattle.edit_spec.specs.DropInst.{set_notes, without_inst}
 use Rattle.edit_spec.specs.Rows.{outcome}
-use Rattle.edit_core.specs.declared.reply.CellName.{CellName}
+use Rattle.edit_rules_spec.specs.declared.reply.CellName.{CellName}
 use Rattle.edit_spec.specs.declared.ops.Op.TheVariants.{DropInst}
-use Rattle.edit_core.specs.declared.reply.Reply.{Reply}
-use Rattle.edit_core.specs.declared.reply.Reply.TheVariants.{Done}
-use Rattle.cells_model.specs.Parts.{IsInside}
-use Rattle.cells_model.specs.State.{State, HasRead}
+use Rattle.edit_rules_spec.specs.declared.reply.Reply.{Reply}
+use Rattle.edit_rules_spec.specs.declared.reply.Reply.TheVariants.{Done}
+use Rattle.edit_cells.specs.Parts.{IsInside}
+use Rattle.edit_cells.specs.State.{State, HasRead}
 use Rattle.eco_reads.specs.Done.{IsDone, IsDoneOrFails}
 use Rattle.eco_reads.specs.Plan.{CanBePut, IsPlanned, IsPut}
 use Rattle.eco_reads.specs.declared.plan.Plan.{Plan}

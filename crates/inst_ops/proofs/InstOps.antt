@@ -8,27 +8,27 @@ use Rattle.netlist_schema.specs.Hierarchy.{IsBelow}
 use Rattle.netlist_schema.specs.Types.{CellId, Contents, Object}
 use Rattle.netlist_schema.specs.Valid.{IsValid}
 use Rattle.netlist_schema.proofs.Lists.{same_test}
-use Rattle.edit_core.specs.Edit.{Edit, inner}
-use Rattle.edit_core.specs.Find.{cell_named, lib_named}
-use Rattle.edit_core.specs.Reading.{IsForPlacing as IsForBelow, IsForName}
+use Rattle.edit_rules_spec.specs.Edit.{Edit, inner}
+use Rattle.edit_rules_spec.specs.Find.{cell_named, lib_named}
+use Rattle.edit_rules_spec.specs.Reading.{IsForPlacing as IsForBelow, IsForName}
 use Rattle.edit_spec.specs.Needs.{Needs}
-use Rattle.edit_core.specs.Paths.{is_below, same_cell}
-use Rattle.edit_core.specs.Seen.{contents_at, holder, inside, named}
-use Rattle.edit_core.specs.Rule.{first, is_leaf, no_cell, no_lib, refuse, too_many, unless}
-use Rattle.edit_core.specs.Paths.{is_cyclic}
+use Rattle.edit_rules_spec.specs.Paths.{is_below, same_cell}
+use Rattle.edit_rules_spec.specs.Seen.{contents_at, holder, inside, named}
+use Rattle.edit_rules_spec.specs.Rule.{first, is_leaf, no_cell, no_lib, refuse, too_many, unless}
+use Rattle.edit_rules_spec.specs.Paths.{is_cyclic}
 use Rattle.edit_spec.specs.AddInst.{is_later, taken_inst, with_inst}
 use Rattle.edit_spec.specs.Inside.{set_insts}
 use Rattle.edit_spec.specs.Rows.{outcome}
 use Rattle.edit_spec.specs.Typed.{IsTypedOp}
-use Rattle.edit_core.specs.declared.reply.CellName.{CellName}
+use Rattle.edit_rules_spec.specs.declared.reply.CellName.{CellName}
 use Rattle.edit_spec.specs.declared.ops.Op.TheVariants.{AddInst}
-use Rattle.edit_core.specs.declared.reply.Reply.{Reply}
-use Rattle.edit_core.specs.declared.reply.Reply.TheVariants.{Done, IsCyclic, LaterLibrary}
+use Rattle.edit_rules_spec.specs.declared.reply.Reply.{Reply}
+use Rattle.edit_rules_spec.specs.declared.reply.Reply.TheVariants.{Done, IsCyclic, LaterLibrary}
 use Rattle.edit_spec.proofs.AddInst.{lib_of_named}
-use Rattle.edit_core.proofs.Levels.{below_test, is_same_cell, same_cell-refl}
-use Rattle.cells_model.specs.Parts.{IsInside}
-use Rattle.edit_core.specs.Objects.{contents_object}
-use Rattle.cells_model.specs.State.{State, HasRead}
+use Rattle.edit_rules_spec.proofs.Levels.{below_test, is_same_cell, same_cell-refl}
+use Rattle.edit_cells.specs.Parts.{IsInside}
+use Rattle.edit_rules_spec.specs.Objects.{contents_object}
+use Rattle.edit_cells.specs.State.{State, HasRead}
 use Rattle.eco_reads.specs.declared.plan.Plan.{Plan}
 use Rattle.eco_reads.specs.Done.{IsDone, IsDoneOrFails}
 use Rattle.inst_plans.specs.Insts.{more_insts, no_new_inst}

@@ -3,23 +3,25 @@ ghost use Rattle.std.specs.Prelude.{◌≡◌, ◌++◌, [], ◌∷◌, filter, 
 ghost use Rattle.std.specs.Option.{option_copied};
 ghost use Rattle.netlist_schema.specs.Design.{insts_in, nets_in};
 ghost use Rattle.netlist_schema.specs.declared.ids.Object.TheVariants.{Notes};
-ghost use Rattle.edit_core.specs.Edit.{noted};
-ghost use Rattle.edit_core.specs.Reading.{IsForNotes, IsReached, IsReachedBy};
+ghost use Rattle.edit_rules_spec.specs.Edit.{noted};
+ghost use Rattle.edit_rules_spec.specs.Reading.{IsForNotes, IsReached, IsReachedBy};
 ghost use Rattle.edit_spec.specs.AddInst.{new_inst};
 ghost use Rattle.edit_spec.specs.DropInst.{end_without_inst, net_without_inst, set_notes, without_inst};
-ghost use Rattle.edit_core.specs.Rule.{first, is_leaf, no_inst, too_many};
-ghost use Rattle.edit_core.specs.Notes.{other_notes};
+ghost use Rattle.edit_rules_spec.specs.Rule.{first, is_leaf, no_inst, too_many};
+ghost use Rattle.edit_rules_spec.specs.Notes.{other_notes};
 ghost use Rattle.edit_spec.specs.Typed.{IsTypedOp};
-ghost use Rattle.cells_model.specs.Parts.{HasLimits};
-ghost use Rattle.cells_model.specs.State.{HasRead, HasReadSome};
+ghost use Rattle.edit_cells.specs.Parts.{HasLimits};
+ghost use Rattle.edit_cells.specs.State.{HasRead, HasReadSome};
 ghost use Rattle.eco_reads.specs.Done.{IsDoneOrFails};
+ghost use Rattle.eco_reads.specs.Named.{AreNamed};
 ghost use Rattle.inst_plans.specs.Insts.{is_other, more_insts, no_new_inst};
 ghost use Rattle.eco_reads.specs.Plan.{IsPlanned};
 
-use cells_model::Cells;
+use eco_reads::NamedInsts;
 use eco_reads::read::read_named;
 use eco_reads::walk::{goes_through, reaches};
 use eco_reads::write::put_planned;
+use edit_cells::Cells;
 use edit_spec::{CellName, Op, Reply};
 use inst_plans::insts::{plan_inst, without_inst};
 use netlist_schema::{CellId, Copied, Ident, NoMemory, Note, Row};
@@ -56,16 +58,19 @@ pub fn add_inst<C: Cells>(
 fn keep_other<C: Cells>(
     alloc: Global,
     cells: &mut C,
+    named: &mut NamedInsts,
     id: CellId,
     inst: &Ident,
     top: CellId,
     note: &Note,
     others: &mut Vec<Note>,
 ) -> Result<(), NoMemory>
+    requires { AreNamed (C.state cells.old).design named.old }
+    ensures named { AreNamed (C.state cells.old).design named.new }
     ensures kept { OnOk result (others.new.items ≡ others.old.items ++ filter (is_other (C.state cells.old).design id inst.now top) (note.now ∷ [])) }
     ensures reads { MatchResult result (λ _. HasRead (C.state cells.old) (C.state cells.new) (IsReached (C.state cells.old).design top note.now.path)) (λ _. HasReadSome (C.state cells.old) (C.state cells.new)) }
 {
-    let gone = goes_through(cells, id, inst, top, &note.path)?;
+    let gone = goes_through(alloc, cells, named, id, inst, top, &note.path)?;
     if gone {
         return Ok(());
     }
@@ -86,8 +91,9 @@ fn keep_others<C: Cells>(
     ensures reads { MatchResult result (λ _. HasRead (C.state cells.old) (C.state cells.new) (IsReachedBy (C.state cells.old).design top notes.now)) (λ _. HasReadSome (C.state cells.old) (C.state cells.new)) }
 {
     let mut others = Vec::new(alloc);
+    let mut named = NamedInsts::new(alloc);
     for note in notes.as_slice() {
-        let Ok(()) = keep_other(alloc, cells, id, inst, top, note, &mut others) else {
+        let Ok(()) = keep_other(alloc, cells, &mut named, id, inst, top, note, &mut others) else {
             return Err(NoMemory);
         };
     }

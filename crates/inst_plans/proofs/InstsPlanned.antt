@@ -4,12 +4,12 @@ use Rattle.std.specs.Prelude.{Ok}
 use Rattle.std.specs.List.{list_any}
 use Rattle.std.proofs.lemmas.Bool.{le-leb, lt-leb}
 use Rattle.netlist_schema.specs.Types.{CellId, Contents, Inst}
-use Rattle.edit_core.specs.Find.{is_same}
-use Rattle.edit_core.specs.Rule.{first}
+use Rattle.edit_rules_spec.specs.Find.{is_same}
+use Rattle.edit_rules_spec.specs.Rule.{first}
 use Rattle.edit_spec.specs.AddInst.{new_inst}
-use Rattle.edit_core.specs.declared.reply.Reply.TheVariants.{TooMany}
+use Rattle.edit_rules_spec.specs.declared.reply.Reply.TheVariants.{TooMany}
 use Rattle.eco_reads.specs.declared.plan.Plan.TheVariants.{Inst as PlannedInst}
-use Rattle.eco_reads.proofs.Places.{put_last}
+use Rattle.eco_reads.proofs.Within.{put_last}
 use Rattle.inst_plans.specs.Insts.{more_insts, no_new_inst}
 use Rattle.eco_reads.specs.Plan.{IsPlanned}
 

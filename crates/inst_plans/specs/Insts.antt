@@ -3,11 +3,11 @@ use Rattle.std.specs.Prelude.{ℕ, Bool, not, List, [], ◌∷◌, Option, lengt
 use Rattle.netlist_schema.specs.Design.{Design, insts_in, nets_in}
 use Rattle.netlist_schema.specs.Types.{CellId, Contents, Note}
 use Rattle.netlist_schema.specs.declared.limits.TheConstants.{MOST_INSTS}
-use Rattle.edit_core.specs.Paths.{goes_through}
-use Rattle.edit_core.specs.Rule.{is_leaf, refuse, too_many}
+use Rattle.edit_rules_spec.specs.Paths.{goes_through}
+use Rattle.edit_rules_spec.specs.Rule.{is_leaf, refuse, too_many}
 use Rattle.edit_spec.specs.AddInst.{taken_inst, with_inst}
-use Rattle.edit_core.specs.declared.reply.Reply.{Reply}
-use Rattle.edit_core.specs.declared.reply.Reply.TheVariants.{IsCyclic, LaterLibrary}
+use Rattle.edit_rules_spec.specs.declared.reply.Reply.{Reply}
+use Rattle.edit_rules_spec.specs.declared.reply.Reply.TheVariants.{IsCyclic, LaterLibrary}
 
 -- the refusals to add an instance to contents, where both cells are found
 abbrev pub no_new_inst : Option Contents → List ℕ → Bool → Bool → List (Option Reply)

@@ -3,15 +3,15 @@ ghost use Rattle.std.specs.Prelude.{◌≡◌, ◌++◌, [], ◌∷◌, filter, 
 ghost use Rattle.std.specs.Option.{option_copied};
 ghost use Rattle.netlist_schema.specs.Design.{insts_in, nets_in};
 ghost use Rattle.netlist_schema.specs.declared.ids.Object.TheVariants.{Notes};
-ghost use Rattle.edit_core.specs.Edit.{noted};
-ghost use Rattle.edit_core.specs.Reading.{IsForNotes, IsReached, IsReachedBy};
+ghost use Rattle.edit_rules_spec.specs.Edit.{noted};
+ghost use Rattle.edit_rules_spec.specs.Reading.{IsForNotes, IsReached, IsReachedBy};
 ghost use Rattle.edit_spec.specs.AddInst.{new_inst};
 ghost use Rattle.edit_spec.specs.DropInst.{end_without_inst, net_without_inst, set_notes, without_inst};
-ghost use Rattle.edit_core.specs.Rule.{first, is_leaf, no_inst, too_many};
-ghost use Rattle.edit_core.specs.Notes.{other_notes};
+ghost use Rattle.edit_rules_spec.specs.Rule.{first, is_leaf, no_inst, too_many};
+ghost use Rattle.edit_rules_spec.specs.Notes.{other_notes};
 ghost use Rattle.edit_spec.specs.Typed.{IsTypedOp};
-ghost use Rattle.cells_model.specs.Parts.{HasLimits};
-ghost use Rattle.cells_model.specs.State.{HasRead, HasReadSome};
+ghost use Rattle.edit_cells.specs.Parts.{HasLimits};
+ghost use Rattle.edit_cells.specs.State.{HasRead, HasReadSome};
 ghost use Rattle.eco_reads.specs.Done.{IsDoneOrFails};
 ghost use Rattle.inst_plans.specs.Insts.{is_other, more_insts, no_new_inst};
 ghost use Rattle.eco_reads.specs.Plan.{IsPlanned};
@@ -20,7 +20,9 @@ use eco_reads::Plan;
 use eco_reads::find::{inst_place, is_inst_taken};
 use edit_spec::Reply;
 use netlist_schema::limits::MOST_INSTS;
-use netlist_schema::{CellId, Contents, Copied, End, Ident, Inst, Name, Net, NoMemory, Row};
+use netlist_schema::{
+    CellId, Contents, Copied, End, Ident, Inst, Name, Net, NoMemory, Row, Shared,
+};
 use std::alloc::Global;
 
 /// An instance of a cell, without properties.
@@ -135,7 +137,8 @@ pub fn without_inst(
     let _gone = insts.remove(place);
     let mut nets = Vec::new(alloc);
     for net in contents.nets.as_slice() {
-        nets.push(net_without(alloc, place as u32, net)?)?;
+        let net = net_without(alloc, place as u32, net)?;
+        nets.push(Shared::of(alloc, net)?)?;
     }
     Ok(Ok(Plan::Whole(Contents {
         insts: Row::of(insts),

@@ -12,11 +12,11 @@ use Rattle.history_spec.specs.declared.event.Event.{Event}
 use Rattle.history_spec.proofs.Histories.{state_from-append, legal-left, legal-right}
 use Rattle.history_spec.proofs.Kept.{events_after}
 use Rattle.history_spec.proofs.Sound.{kept_up_after, never_falls}
-use Rattle.session_spec.specs.Headline.{HasNoPlaces, HoldsNone, IsFull, IsWhole, SomeFull}
-use Rattle.session_spec.specs.Laws.{SessionStays, TranscriptStays}
-use Rattle.session_spec.specs.Report.{HasFilled, Sessions, Story, last_design, transcript}
-use Rattle.session_spec.specs.Session.{Ending, Whole, Full, Session}
-use Rattle.session_spec.specs.declared.script.Step.{Step}
+use Rattle.script_spec.specs.Headline.{HasNoPlaces, HoldsNone, IsFull, IsWhole, SomeFull}
+use Rattle.script_spec.specs.Laws.{SessionStays, TranscriptStays}
+use Rattle.script_spec.specs.Report.{HasFilled, Sessions, Story, last_design, transcript}
+use Rattle.script_spec.specs.Session.{Ending, Whole, Full, Session}
+use Rattle.script_spec.specs.declared.script.Step.{Step}
 use Rattle.joint_spec.specs.Ended.{Ended, HasEnded, HaveEnded, met_full}
 use Rattle.joint_spec.specs.Written.{written_report}
 use Rattle.joint_spec.specs.Laws.{EndedIsPrinted}

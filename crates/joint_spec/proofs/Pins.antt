@@ -14,8 +14,8 @@ use Rattle.history_spec.specs.State.{State, LivePin, IsLive, live_pin, opening, 
 use Rattle.history_spec.specs.History.{state_from, state_after}
 use Rattle.history_spec.proofs.Histories.{state_from-append}
 use Rattle.history_spec.proofs.Lists.{in_head, in_tail, from_filter, to_filter}
-use Rattle.session_spec.specs.Headline.{HoldsNone}
-use Rattle.session_spec.specs.Session.{Told, exchanges}
+use Rattle.script_spec.specs.Headline.{HoldsNone}
+use Rattle.script_spec.specs.Session.{Told, exchanges}
 
 -- the callers of all live pins are such
 abbrev PinsOf : (ℕ → Type 0) → State → Type 0

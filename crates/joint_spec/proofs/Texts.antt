@@ -4,8 +4,8 @@ use Rattle.std.specs.Prelude.{codes}
 use Rattle.netlist_schema.specs.Design.{Design}
 use Rattle.edif_spec.specs.Arranged.{canonical_text}
 use Rattle.history_spec.specs.declared.event.Event.{Event}
-use Rattle.session_spec.specs.Report.{Story, report, script_texts, transcript, last_design}
-use Rattle.session_spec.specs.Texts.{line, event_texts}
+use Rattle.script_spec.specs.Report.{Story, report, script_texts, transcript, last_design}
+use Rattle.script_spec.specs.Texts.{line, event_texts}
 use Rattle.joint_spec.specs.Written.{numbered_text, numbered_texts, written_report}
 
 -- the transcripts of stories

@@ -3,10 +3,10 @@ use Rattle.std.specs.Prelude.{◌≡◌, ℕ, ◌+◌, Bool, List, [], ◌∷◌
 use Rattle.std.specs.List.{list_any}
 use Rattle.netlist_schema.specs.Design.{Design}
 use Rattle.history_spec.specs.declared.event.Event.{Event}
-use Rattle.session_spec.specs.declared.script.Step.{Step}
-use Rattle.session_spec.specs.Headline.{Ran}
-use Rattle.session_spec.specs.Report.{last_design}
-use Rattle.session_spec.specs.Session.{exchanges}
+use Rattle.script_spec.specs.declared.script.Step.{Step}
+use Rattle.script_spec.specs.Headline.{Ran}
+use Rattle.script_spec.specs.Report.{last_design}
+use Rattle.script_spec.specs.Session.{exchanges}
 use Rattle.joint_spec.specs.Written.{written_report}
 
 -- what a script came to: the text of its transcript, and whether it met a full log

@@ -4,9 +4,9 @@ use Rattle.std.specs.List.{All}
 use Rattle.netlist_schema.specs.Design.{Design}
 use Rattle.history_spec.specs.History.{Legal}
 use Rattle.history_spec.specs.declared.event.Event.{Event}
-use Rattle.session_spec.specs.declared.script.Step.{Step}
-use Rattle.session_spec.specs.Headline.{IsWhole, SomeFull}
-use Rattle.session_spec.specs.Report.{Prints}
+use Rattle.script_spec.specs.declared.script.Step.{Step}
+use Rattle.script_spec.specs.Headline.{IsWhole, SomeFull}
+use Rattle.script_spec.specs.Report.{Prints}
 use Rattle.joint_spec.specs.Ended.{Ended, HaveEnded, ended_report, met_full}
 
 -- What is written of the history and of the transcripts is the report of the scripts. Some script's session ended since the log was

@@ -1,7 +1,7 @@
 -- The steps of scripts that are run beside each other.
 use Rattle.std.specs.Prelude.{List, map}
-use Rattle.session_spec.specs.ScriptText.{Parts, steps_of}
-use Rattle.session_spec.specs.declared.script.Step.{Step}
+use Rattle.script_spec.specs.ScriptText.{Parts, steps_of}
+use Rattle.script_spec.specs.declared.script.Step.{Step}
 
 -- the steps of each script
 abbrev pub all_steps : List Parts → List (List Step)

@@ -3,7 +3,7 @@ use Rattle.std.specs.Prelude.{ℕ, ◌+◌, List, [], ◌∷◌, ◌++◌, codes
 use Rattle.netlist_schema.specs.Design.{Design}
 use Rattle.edif_spec.specs.Arranged.{canonical_text}
 use Rattle.history_spec.specs.declared.event.Event.{Event}
-use Rattle.session_spec.specs.Texts.{line, event_texts}
+use Rattle.script_spec.specs.Texts.{line, event_texts}
 
 -- `script K` and a transcript
 abbrev pub numbered_text : ℕ → List ℕ → List ℕ

@@ -2,7 +2,7 @@
 
 ghost use Rattle.joint_spec.specs.Laws.{EndedIsPrinted};
 
-use session_spec::laws::{session_stays, transcript_stays};
+use script_spec::laws::{session_stays, transcript_stays};
 
 /// Scripts that ended at different times of one legal history have one report.
 pub fn ended_is_printed()

@@ -11,9 +11,9 @@ use Rattle.flat_spec.proofs.ChainLemmas.{Chain-one, Chain-mono}
 use Rattle.flat_spec.proofs.ConnectionLemmas.{Connected-linked, Connected-from_linked}
 use Rattle.flat_spec.proofs.FirstLemmas.{firsts-same, firsts-connected, own_bit-once}
 use Rattle.net_classes.specs.Inside.{IsFirstAt, TellsFirsts, AreJoinedInside}
-use Rattle.joined_numbers.specs.Joined.{AreJoined, IsLeastJoined}
+use Rattle.flat_joined_numbers.specs.Joined.{AreJoined, IsLeastJoined}
 use Rattle.net_classes.specs.Links.{StandFor}
-use Rattle.joined_numbers.specs.declared.joined.Pair.{Pair}
+use Rattle.flat_joined_numbers.specs.declared.joined.Pair.{Pair}
 
 -- a bit that a net joins has a first net inside
 first_there : (d : Design) (c : CellId) (b : Bit) (n : ℕ) → Joins d c (at_root n) (own b) → (answer : Option ℕ) → IsFirstAt d c b answer

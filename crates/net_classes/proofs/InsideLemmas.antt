@@ -11,10 +11,10 @@ use Rattle.flat_spec.specs.HandedDown.{IsFirstInside}
 use Rattle.flat_spec.specs.Paths.{on, at_root, nets_at, Joins}
 use Rattle.net_classes.specs.Facts.{Facts}
 use Rattle.net_classes.specs.Inside.{TellsFirsts, AreJoinedInside}
-use Rattle.joined_numbers.specs.Joined.{AreLeastJoined, IsWithin}
+use Rattle.flat_joined_numbers.specs.Joined.{AreLeastJoined, IsWithin}
 use Rattle.net_classes.specs.Joints.{IsJointIn}
 use Rattle.net_classes.specs.Links.{MeetInClass, StandFor, class_in, inside_in}
-use Rattle.joined_numbers.specs.declared.joined.Pair.{Pair}
+use Rattle.flat_joined_numbers.specs.declared.joined.Pair.{Pair}
 use Rattle.net_classes.specs.declared.joints.Joint.{Joint}
 use Rattle.net_classes.specs.declared.links.Class.{Class}
 use Rattle.net_classes.proofs.CompositionLemmas.{least-first}

@@ -10,9 +10,9 @@ use Rattle.netlist_schema.specs.Design.{Design}
 use Rattle.netlist_schema.specs.Hierarchy.{IsBelow, IsCell, insts_at, placed, deeper}
 use Rattle.netlist_schema.specs.Types.{CellId, Inst}
 use Rattle.netlist_schema.specs.Valid.{IsValid}
-use Rattle.order_spec.specs.After.{AllAfter}
-use Rattle.cells_below.specs.Below.{AreCellsBelow, ComesBehind, IsAtOrBelow}
-use Rattle.cells_below.proofs.ListedLemmas.{inst_there}
+use Rattle.netlist_order_spec.specs.After.{AllAfter}
+use Rattle.flat_cells.specs.Below.{AreCellsBelow, ComesBehind, IsAtOrBelow}
+use Rattle.flat_cells.proofs.ListedLemmas.{inst_there}
 use Rattle.flat_spec.specs.Pins.{own_bits}
 use Rattle.flat_spec.proofs.BitLemmas.{on_there}
 use Rattle.flat_spec.proofs.ListLemmas.{Member, Contains-member, Member-contains, slice_get-contains}

@@ -9,12 +9,12 @@ use Rattle.std.proofs.lemmas.List.Elements.{Contains-push, Contains-push_cases, 
 use Rattle.netlist_schema.proofs.Objects.{both_are_Equal}
 use Rattle.flat_spec.specs.Chains.{Chain}
 use Rattle.flat_spec.proofs.ChainLemmas.{Chain-same, Chain-one, Chain-append, Chain-mono, Chain-sym}
-use Rattle.joined_numbers.specs.Joined.{AreJoined, IsPairOf}
+use Rattle.flat_joined_numbers.specs.Joined.{AreJoined, IsPairOf}
 use Rattle.net_classes.specs.Links.{AreLinkedSoFar, IsEarly, MeetInClass, StandFor, IsLinkAdded, class_cmp}
-use Rattle.joined_numbers.specs.declared.joined.Pair.{Pair}
+use Rattle.flat_joined_numbers.specs.declared.joined.Pair.{Pair}
 use Rattle.net_classes.specs.declared.joints.Joint.{Joint}
 use Rattle.net_classes.specs.declared.links.Class.{Class}
-use Rattle.joined_numbers.proofs.JoinedLemmas.{AreJoined-sym}
+use Rattle.flat_joined_numbers.proofs.JoinedLemmas.{AreJoined-sym}
 
 Some-net : (a b : ℕ) → Some a ≡ Some b → a ≡ b
 Some-net a b e = cc e

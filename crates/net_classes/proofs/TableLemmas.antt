@@ -8,7 +8,7 @@ use Rattle.std.proofs.lemmas.Option.{slice_get-map, slice_get_past, slice_get_wi
 use Rattle.netlist_schema.specs.Design.{Design, cell_at, cells_in}
 use Rattle.netlist_schema.specs.Types.{CellId}
 use Rattle.netlist_schema.proofs.Lists.{some_of}
-use Rattle.order_spec.proofs.Places.{lib_of_cell}
+use Rattle.netlist_order_spec.proofs.Places.{lib_of_cell}
 use Rattle.flat_spec.proofs.PathLemmas.{slice_get-is}
 use Rattle.net_classes.specs.Facts.{CellFacts, Facts, entry, facts_at, no_facts}
 use Rattle.net_classes.specs.Known.{AreKnown, AreSetAt}

@@ -7,8 +7,8 @@ use Rattle.flat_spec.specs.Chains.{Chain}
 use Rattle.netlist_schema.specs.Types.{Inst}
 use Rattle.flat_spec.specs.Paths.{Bit}
 use Rattle.net_classes.specs.Facts.{Facts, first_at}
-use Rattle.joined_numbers.specs.Joined.{AreJoined}
-use Rattle.joined_numbers.specs.declared.joined.Pair.{Pair}
+use Rattle.flat_joined_numbers.specs.Joined.{AreJoined}
+use Rattle.flat_joined_numbers.specs.declared.joined.Pair.{Pair}
 use Rattle.net_classes.specs.declared.joints.Joint.{Joint}
 use Rattle.net_classes.specs.declared.links.Class.{Class}
 

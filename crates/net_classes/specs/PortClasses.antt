@@ -7,7 +7,7 @@ use Rattle.flat_spec.specs.Connection.{AreConnectedBits}
 use Rattle.flat_spec.specs.HandedDown.{IsFirstInside}
 use Rattle.flat_spec.specs.Paths.{Bit, own, on, at_root, IsNet, Joins}
 use Rattle.flat_spec.specs.Pins.{own_bits}
-use Rattle.cells_below.specs.Below.{IsAtOrBelow}
+use Rattle.flat_cells.specs.Below.{IsAtOrBelow}
 use Rattle.net_classes.specs.Facts.{CellFacts, Facts, class_at, entry, facts_at, first_in}
 use Rattle.net_classes.specs.Inside.{IsFirstAt}
 use Rattle.net_classes.specs.Joints.{IsNotBehind}

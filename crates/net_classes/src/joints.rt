@@ -7,7 +7,7 @@ ghost use Rattle.net_classes.specs.Own.{AreOwn, AreSet, end_number};
 ghost use Rattle.net_classes.specs.declared.joints.Joint.{Joint as Place};
 
 use crate::bits::bit_number;
-use netlist_schema::{End, Net, NoMemory};
+use netlist_schema::{End, Net, NoMemory, Shared};
 use std::alloc::Global;
 
 /// A bit of an instance, and the net that joins it. Joints are ordered by instance, port and bit.
@@ -20,7 +20,7 @@ pub struct Joint {
 }
 
 /// The ends of the nets on instances, net by net.
-fn all_joints(alloc: Global, nets: &[Net]) -> Result<Vec<Joint>, NoMemory>
+fn all_joints(alloc: Global, nets: &[Shared<Net>]) -> Result<Vec<Joint>, NoMemory>
     requires few { length nets.now ≤ MOST_NETS }
     ensures { IfOk result (λ joints. joints.items ≡ joints_from 0 nets.now) }
 {
@@ -32,7 +32,7 @@ fn all_joints(alloc: Global, nets: &[Net]) -> Result<Vec<Joint>, NoMemory>
 }
 
 /// The ends of the nets on instances, by instance, port and bit.
-pub fn list_joints(alloc: Global, nets: &[Net]) -> Result<Vec<Joint>, NoMemory>
+pub fn list_joints(alloc: Global, nets: &[Shared<Net>]) -> Result<Vec<Joint>, NoMemory>
     requires few { length nets.now ≤ MOST_NETS }
     ensures each { IfOk result (λ joints. (j : Place) → Contains joints.items j ↔ IsJointIn nets.now j) }
     ensures in_order { IfOk result (λ joints. AllPairs IsNotBehind joints.items) }
@@ -73,7 +73,7 @@ pub fn list_own(
     alloc: Global,
     starts: &[u32],
     count: u32,
-    nets: &[Net],
+    nets: &[Shared<Net>],
 ) -> Result<Vec<Option<u32>>, NoMemory>
     requires few { length nets.now ≤ MOST_NETS }
     ensures long { IfOk result (λ own. length own.items ≡ count) }
@@ -85,7 +85,7 @@ pub fn list_own(
 }
 
 /// Sets the net of each own bit, where none is set yet.
-fn set_all(starts: &[u32], nets: &[Net], own: &mut [Option<u32>])
+fn set_all(starts: &[u32], nets: &[Shared<Net>], own: &mut [Option<u32>])
     requires few { length nets.now ≤ MOST_NETS }
     requires none { All (λ net. net ≡ None) own.old }
     ensures long { length own.new ≡ length own.old }

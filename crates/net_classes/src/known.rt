@@ -19,9 +19,9 @@ use crate::joints::{Joint, list_joints, list_own};
 use crate::links::list_links;
 use crate::tables::{CellNets, least_bits};
 use bus_members::bit_count;
-use cell_lookup::{insts_at, nets_at};
-use joined_numbers::least_joined;
-use netlist_schema::{CellBody, CellId, Inst, LibId, Net, NoMemory, Shown};
+use flat_joined_numbers::least_joined;
+use flat_lookup::{insts_at, nets_at};
+use netlist_schema::{CellBody, CellId, Inst, LibId, Net, NoMemory, Shared, Shown};
 use std::alloc::Global;
 
 /// So many cells of which nothing is known.
@@ -54,8 +54,8 @@ pub fn no_tables<S: Shown>(alloc: Global, design: &S) -> Result<Vec<Vec<CellNets
 fn list_firsts(
     alloc: Global,
     cells: &[Vec<CellNets>],
-    insts: &[Inst],
-    nets: &[Net],
+    insts: &[Shared<Inst>],
+    nets: &[Shared<Net>],
     joints: &[Joint],
 ) -> Result<Vec<u32>, NoMemory>
     requires few { length nets.now ≤ MOST_NETS }

@@ -10,8 +10,8 @@ use Rattle.flat_spec.specs.Paths.{own, on}
 use Rattle.flat_spec.proofs.ChainLemmas.{Chain-same, Chain-one, Chain-mono}
 use Rattle.flat_spec.proofs.ListLemmas.{Member, Contains-member, Member-contains}
 use Rattle.ungroup_spec.proofs.TreeLemmas.{Member-filter_map, Member-from_filter_map}
-use Rattle.joined_numbers.specs.Joined.{AreJoined, AreLeastJoined, IsWithin}
-use Rattle.joined_numbers.specs.declared.joined.Pair.{Pair}
+use Rattle.flat_joined_numbers.specs.Joined.{AreJoined, AreLeastJoined, IsWithin}
+use Rattle.flat_joined_numbers.specs.declared.joined.Pair.{Pair}
 use Rattle.ungroup_spec.specs.Groups.{Site, Part, outer, inner, IsPart, ShareBit, AreLinked, AreOneGroup, head_of}
 use Rattle.ungroup_spec.proofs.GroupLemmas.{PartBefore, head_of-head, ends-net}
 use Rattle.net_groups.specs.Bits.{IsJoined, bits_from, end_at}

@@ -7,7 +7,7 @@ use Rattle.std.specs.Ordering.{is_eq, nat_cmp}
 use Rattle.std.proofs.lemmas.List.{take_more}
 use Rattle.std.proofs.lemmas.List.Elements.{Contains-push, Contains-push_cases, Contains-append_left}
 use Rattle.netlist_schema.proofs.Objects.{both_are_Equal}
-use Rattle.joined_numbers.specs.declared.joined.Pair.{Pair}
+use Rattle.flat_joined_numbers.specs.declared.joined.Pair.{Pair}
 use Rattle.net_groups.specs.Links.{HasNets, bit_cmp, link}
 use Rattle.net_groups.specs.declared.bits.JoinedBit.{JoinedBit}
 use Rattle.net_groups.specs.declared.bits.PortBit.{PortBit}

@@ -4,7 +4,7 @@ ghost use Rattle.std.specs.List.{flat_map};
 ghost use Rattle.netlist_schema.specs.declared.limits.TheConstants.{MOST_NETS};
 ghost use Rattle.net_groups.specs.Bits.{bits_from, bits_of, is_there};
 
-use netlist_schema::{End, Net, NoMemory};
+use netlist_schema::{End, Net, NoMemory, Shared};
 use std::alloc::Global;
 
 /// A bit of a port, by the places of the two, from 0.
@@ -73,7 +73,7 @@ fn add_bits(
 /// The bits that nets join at an instance, or as the cell's own, net by net.
 pub fn joined_bits(
     alloc: Global,
-    nets: &[Net],
+    nets: &[Shared<Net>],
     inst: Option<u32>,
 ) -> Result<Vec<JoinedBit>, NoMemory>
     requires few { length nets.now ≤ MOST_NETS }

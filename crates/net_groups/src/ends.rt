@@ -8,7 +8,7 @@ ghost use Rattle.ungroup_spec.specs.Groups.{parts};
 ghost use Rattle.net_groups.specs.Ends.{inner_ends, inner_up, outer_ends, outer_up};
 ghost use Rattle.net_groups.specs.Heads.{AreSound, IsLow, site};
 
-use netlist_schema::{Contents, End, Net, NoMemory, Row};
+use netlist_schema::{Contents, End, Net, NoMemory, Row, Shared};
 use std::alloc::Global;
 
 /// The end of an outer net afterwards: none at the instance itself; behind it, as many places on as there are children, less one.
@@ -81,7 +81,7 @@ fn inner_ends(alloc: Global, ends: &[End], place: u32) -> Result<Row<End>, NoMem
 
 fn add_outer(
     alloc: Global,
-    nets: &[Net],
+    nets: &[Shared<Net>],
     place: u32,
     children: u32,
     lists: &mut Vec<Row<End>>,
@@ -98,7 +98,7 @@ fn add_outer(
 
 fn add_inner(
     alloc: Global,
-    nets: &[Net],
+    nets: &[Shared<Net>],
     place: u32,
     lists: &mut Vec<Row<End>>,
 ) -> Result<(), NoMemory>

@@ -7,7 +7,7 @@ ghost use Rattle.net_groups.specs.Heads.{AreSound, site};
 use crate::ends::list_ends;
 use crate::heads::list_heads;
 use crate::lists::gather;
-use netlist_schema::{Contents, Copied, End, Net, NoMemory, Row};
+use netlist_schema::{Contents, Copied, End, Net, NoMemory, Row, Shared};
 use std::alloc::Global;
 
 /// The first nets of all groups, each with the ends of its group: those of the nets around the instance, without those on it, and
@@ -15,19 +15,32 @@ use std::alloc::Global;
 #[derive(Debug, Drop)]
 pub struct Grouped {
     /// Nets around the instance, in order. They stay.
-    pub kept: Row<Net>,
+    pub kept: Row<Shared<Net>>,
     /// Nets within it, in order. They become new nets.
-    pub loose: Row<Net>,
+    pub loose: Row<Shared<Net>>,
+}
+
+/// The net with other ends.
+fn with_ends(alloc: Global, net: &Shared<Net>, ends: &Row<End>) -> Result<Shared<Net>, NoMemory>
+    ensures { IfOk result (λ made. made ≡ record net.now { ends = ends.now }) }
+{
+    let net = net.get();
+    let made = Net {
+        name: net.name.copy(alloc)?,
+        ends: ends.copy(alloc)?,
+        properties: net.properties.copy(alloc)?,
+    };
+    Shared::of(alloc, made)
 }
 
 /// The nets whose numbers stand for themselves, with the ends that are listed for them. The first is numbered as that many.
 fn first_nets(
     alloc: Global,
-    nets: &[Net],
+    nets: &[Shared<Net>],
     behind: usize,
     heads: &[u32],
     lists: &[Row<End>],
-) -> Result<Row<Net>, NoMemory>
+) -> Result<Row<Shared<Net>>, NoMemory>
     requires heads { behind + length nets.now ≤ length heads.now }
     requires lists { length lists.now ≡ length heads.now }
     requires few { length heads.now < 2 ^ 32 }
@@ -37,11 +50,7 @@ fn first_nets(
     for (place, net) in nets.iter().enumerate() {
         let number = behind + place;
         if heads[number] as usize == number {
-            made.push(Net {
-                name: net.name.copy(alloc)?,
-                ends: lists[number].copy(alloc)?,
-                properties: net.properties.copy(alloc)?,
-            })?;
+            made.push(with_ends(alloc, net, &lists[number])?)?;
         }
     }
     Ok(Row::of(made))

@@ -7,7 +7,7 @@ ghost use Rattle.net_groups.specs.Heads.{AreHeads, AreSound, site};
 
 use crate::bits::joined_bits;
 use crate::links::{list_links, nets_by_bit};
-use joined_numbers::least_joined;
+use flat_joined_numbers::least_joined;
 use netlist_schema::{Contents, NoMemory};
 use std::alloc::Global;
 

@@ -5,7 +5,7 @@ ghost use Rattle.std.specs.List.{All, filter_map};
 ghost use Rattle.net_groups.specs.Links.{HasNets, bit_cmp, link};
 
 use crate::bits::{JoinedBit, PortBit};
-use joined_numbers::Pair;
+use flat_joined_numbers::Pair;
 use netlist_schema::NoMemory;
 use std::alloc::Global;
 use std::collections::BTreeMap;

@@ -1,5 +1,6 @@
 -- Joints in order, by their bits.
 use Rattle.std.proofs.Common.{◌≡◌, ◌<◌, ◌≤◌, ◌+◌, ◌-◌, ℕ, List, length, get_or, take, drop, refl, sym, ap, subst, ◌∙◌, inl, inr, arith}
+use Rattle.std.specs.Prelude.{Bool, true, false, not}
 use Rattle.std.specs.List.{AllPairs, Contains}
 use Rattle.std.proofs.lemmas.Bool.{cases_eq, cases_lt, cases_order}
 use Rattle.std.proofs.lemmas.List.{get_or_default, get_or-drop, get_or-take, length-drop, length-take-le}
@@ -145,3 +146,7 @@ module _ (joints : List Joint) (inst from to : ℕ) (from_is : IsCount joints in
         let back : from + i ≡ k = omega (arith, past) in
         (i, omega (arith, past, inside, long), get_or-drop from (take to joints) i j ∙ ap (λ n. get_or (take to joints) n j) back ∙ get_or-take to joints k j inside ∙ h.0.2),
   )
+
+pub not_true : (b : Bool) → not b ≡ true → b ≡ false
+not_true true h = absurd (cc)
+not_true false h = refl

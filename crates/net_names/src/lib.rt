@@ -5,4 +5,4 @@ pub mod names;
 pub mod search;
 
 pub use names::{Name, name_of, names_below, top_names};
-pub use search::{joined_net, joints_on};
+pub use search::{Run, joined_net, joints_on};

@@ -5,7 +5,7 @@ ghost use Rattle.flat_spec.specs.Paths.{nets_at};
 ghost use Rattle.net_classes.specs.Facts.{first_at};
 ghost use Rattle.net_names.specs.Names.{AreHanded, AreOwnNames, IsHandedOne, first_of, name_in};
 
-use cell_lookup::net_count;
+use flat_lookup::net_count;
 use net_classes::{Classes, Joint};
 use netlist_schema::{CellId, NoMemory, Shown};
 use std::alloc::Global;
@@ -81,7 +81,11 @@ pub fn names_below<S: Shown>(
     requires { All (λ j. IsSome (name_in outside.now firsts.now j.net)) joints.now }
     ensures { IfOk result (λ names. AreHanded (first_of classes.now cell) (name_in outside.now firsts.now) depth joints.now (length (nets_at (S.design design.now) cell)) names.items) }
 {
-    let mut names = own_names(alloc, depth, net_count(design, cell))?;
+    let count = net_count(design, cell);
+    if count == 0 {
+        return Ok(Vec::new(alloc));
+    }
+    let mut names = own_names(alloc, depth, count)?;
     hand_down(classes, cell, joints, outside, firsts, &mut names);
     Ok(names)
 }

@@ -1,30 +1,31 @@
 -- The status comes that the files ask for.
 use Rattle.std.proofs.Common.{◌≡◌, ◌≤◌, ◌<◌, ◌+◌, ◌⊎◌, inl, inr, List, [], ◌∷◌, ◌++◌, length, Option, None, Some, refl, ap, sym, ◌∙◌, subst, arith, append_assoc, append-nil}
 use Prim.Native.Nat.{ℕ, suc}
-use Rattle.std.specs.Prelude.{IfSome, IsSomeAnd, option_map}
+use Rattle.std.specs.Prelude.{IfSome, IsSomeAnd, codes, option_map}
 use Rattle.std.specs.List.{All}
 use Rattle.netlist_schema.specs.declared.limits.TheConstants.{MOST_FILE_BYTES}
 use Rattle.netdb_outside.specs.Outside.{Shelf, SameFiles, file_named}
 use Rattle.edif_spec.specs.Design.{Design}
-use Rattle.session_spec.specs.Headline.{IsFull, IsWhole, RoomSuffices, SomeFull}
-use Rattle.session_spec.specs.Laws.{OneBadLine, ScriptOrBad}
-use Rattle.session_spec.specs.Report.{Story}
-use Rattle.session_spec.specs.ScriptText.{Parts, IsFirstBad, steps_of}
-use Rattle.session_spec.specs.Session.{Ending, Whole, Full}
-use Rattle.session_spec.specs.declared.script.Step.{Step}
-use Rattle.session_spec.proofs.OneScript.{one_script}
-use Rattle.design_file.specs.Files.{IsDesignFile, IsNoDesignFile, IsWrong}
-use Rattle.design_file.proofs.BytesLemmas.{not_wrong, one_design}
-use Rattle.call_words.specs.Command.{Request, Show, Run, Generate}
-use Rattle.netdb_cli.specs.Due.{AreDueOf, Comes, Files, IsBadFile, IsDue, IsDueOf, IsDueOfDesign, IsDueOfFile, IsDueOfRun, IsExcuse, IsServed}
-use Rattle.call_output.specs.Gives.{OutputGives, RunGives, SummaryGives, TextGives}
-use Rattle.netdb_cli.specs.Outcome.{Gives, ReadGives}
-use Rattle.call_spec.specs.Refusals.{RefusesDesign, RefusesFile, RefusesScript, RefusesScripts}
-use Rattle.call_spec.specs.Told.{AreRead, IsBadScript, IsLarge, IsScriptFile}
-use Rattle.call_spec.specs.declared.limits.TheConstants.{MOST_SCRIPT_BYTES}
+use Rattle.script_spec.specs.Headline.{IsFull, IsWhole, RoomSuffices, SomeFull}
+use Rattle.script_spec.specs.Laws.{OneBadLine, ScriptOrBad}
+use Rattle.script_spec.specs.Report.{Story}
+use Rattle.script_spec.specs.ScriptText.{Parts, IsFirstBad, steps_of}
+use Rattle.script_spec.specs.Session.{Ending, Whole, Full}
+use Rattle.script_spec.specs.declared.script.Step.{Step}
+use Rattle.script_spec.proofs.OneScript.{one_script}
+use Rattle.edif_file.specs.Files.{IsDesignFile, IsNoDesignFile, IsWrong}
+use Rattle.edif_file.proofs.BytesLemmas.{not_wrong, one_design}
+use Rattle.call_words.specs.Command.{Request, Show, Run, Generate, Uses, Check}
+use Rattle.netdb_cli.specs.Due.{AreDueOf, Comes, Files, IsBadFile, IsDue, IsDueIn, IsDueOf, IsDueOfCheck, IsDueOfDesign, IsDueOfFile, IsDueOfReport, IsDueOfRun, IsExcuse, IsServed}
+use Rattle.call_check.specs.Checked.{CheckGives, VerdictGives}
+use Rattle.call_output.specs.Gives.{OutputGives, RunGives, SummaryGives, TextGives, UsesGive}
+use Rattle.netdb_cli.specs.Outcome.{Gives, ReadChecks, ReportGives, ScriptsGive}
+use Rattle.netdb_spec.specs.Refusals.{RefusesDesign, RefusesFile, RefusesReport, RefusesScript, RefusesScripts}
+use Rattle.netdb_spec.specs.Told.{AreRead, IsBadScript, IsLarge, IsLastRead, IsReportFile, IsScriptFile}
+use Rattle.netdb_spec.specs.declared.limits.TheConstants.{MOST_REPORT_BYTES, MOST_SCRIPT_BYTES}
 use Rattle.call_words.specs.declared.command.Wanted.{Wanted}
-use Rattle.call_spec.specs.declared.status.Status.{Status}
-use Rattle.call_spec.specs.declared.status.Status.TheVariants as status
+use Rattle.netdb_spec.specs.declared.status.Status.{Status}
+use Rattle.netdb_spec.specs.declared.status.Status.TheVariants as status
 
 -- what is known of scripts: a text is a script or has a bad line, it has one first bad line, and scripts that have room meet no full log
 record Known : Type 0 where
@@ -40,17 +41,26 @@ excused_output wanted d result h = record { no_top = λ lacks. inr h; served = �
 excused_run : (d : Design) (scripts : List (List Step)) (result : Status) → IsExcuse result → IsDueOfRun d scripts result
 excused_run d scripts result h = record { no_top = λ some none. inr h; served = λ can room. inr (inr h); run = λ can. inr (inr (inr h)) }
 
+excused_check : (d : Design) (scripts : List (List Step)) (result : Status) → IsExcuse result → IsDueOfCheck d scripts result
+excused_check d scripts result h = record { no_top = λ some none. inr h; served = λ can. inr (inr h) }
+
 excused_file : (found : Option (List ℕ)) (word limit : ℕ) (Within : List ℕ → Type 0) (result : Status) → IsExcuse result → ((bytes : List ℕ) → Within bytes) → IsDueOfFile found word limit Within result
 excused_file None word limit Within result h all = inr h
 excused_file (Some bytes) word limit Within result h all = (λ large. inr h, λ size. all bytes)
 
-excused_scripts : (files : Files) (d : Design) (before : List (List Step)) (names : List (List ℕ)) (word : ℕ) (result : Status) → IsExcuse result → AreDueOf files d before names word result
-excused_scripts files d before [] word result h = excused_run d before result h
-excused_scripts files d before (name ∷ names) word result h =
+excused_scripts : (files : Files) (Then : List (List Step) → Type 0) (before : List (List Step)) (names : List (List ℕ)) (word : ℕ) (result : Status) → IsExcuse result → ((scripts : List (List Step)) → Then scripts)
+    → AreDueOf files Then before names word result
+excused_scripts files Then before [] word result h all = all before
+excused_scripts files Then before (name ∷ names) word result h all =
     excused_file (file_named files name) word MOST_SCRIPT_BYTES
     (λ bytes. ((line : ℕ) → IsBadScript line bytes → Comes (status.BadScript word line) result)
-    × ((steps : List Step) → IsScriptFile bytes steps → AreDueOf files d (before ++ steps ∷ []) names (word + 1) result))
-    result h (λ bytes. (λ line bad. inr h, λ steps file. excused_scripts files d (before ++ steps ∷ []) names (word + 1) result h))
+    × ((steps : List Step) → IsScriptFile bytes steps → AreDueOf files Then (before ++ steps ∷ []) names (word + 1) result))
+    result h (λ bytes. (λ line bad. inr h, λ steps file. excused_scripts files Then (before ++ steps ∷ []) names (word + 1) result h all))
+
+excused_report : (files : Files) (d : Design) (report : List ℕ) (names : List (List ℕ)) (result : Status) → IsExcuse result → IsDueOfReport files d report names result
+excused_report files d report names result h =
+    excused_file (file_named files report) 2 MOST_REPORT_BYTES (λ bytes. AreDueOf files (λ scripts. IsDueOfCheck d scripts result) [] names 3 result) result h
+    (λ bytes. excused_scripts files (λ scripts. IsDueOfCheck d scripts result) [] names 3 result h (λ scripts. excused_check d scripts result h))
 
 -- ---- one file
 
@@ -159,25 +169,24 @@ script_refused known shelf name word Then status.LogFull h all = absurd h
 script_refused known shelf name word Then status.NoMemory h all =
     file_refused shelf name word MOST_SCRIPT_BYTES (AskedBy word Then status.NoMemory) status.NoMemory h (λ e bytes. (λ line bad. inr e, λ steps file. all e steps))
 
-scripts_refused : Known → (shelf : Shelf) (d : Design) (before : List (List Step)) (names : List (List ℕ)) (word : ℕ) (result : Status) → RefusesScripts (Some shelf) names word result
-    → AreDueOf shelf.files d before names word result
-scripts_refused known shelf d before [] word result h = absurd h
-scripts_refused known shelf d before (name ∷ names) word result (inl h) =
-    script_refused known shelf name word (λ steps. AreDueOf shelf.files d (before ++ steps ∷ []) names (word + 1) result) result h
-    (λ e steps. excused_scripts shelf.files d (before ++ steps ∷ []) names (word + 1) result e)
-scripts_refused known shelf d before (name ∷ names) word result (inr h) =
-    script_due known shelf.files name word (λ steps. AreDueOf shelf.files d (before ++ steps ∷ []) names (word + 1) result) h.0 result h.1
-    (scripts_refused known shelf d (before ++ h.0 ∷ []) names (word + 1) result h.2)
+scripts_refused : Known → (shelf : Shelf) (Then : List (List Step) → Type 0) (before : List (List Step)) (names : List (List ℕ)) (word : ℕ) (result : Status) → RefusesScripts (Some shelf) names word result
+    → (IsExcuse result → (scripts : List (List Step)) → Then scripts) → AreDueOf shelf.files Then before names word result
+scripts_refused known shelf Then before [] word result h all = absurd h
+scripts_refused known shelf Then before (name ∷ names) word result (inl h) all =
+    script_refused known shelf name word (λ steps. AreDueOf shelf.files Then (before ++ steps ∷ []) names (word + 1) result) result h
+    (λ e steps. excused_scripts shelf.files Then (before ++ steps ∷ []) names (word + 1) result e (all e))
+scripts_refused known shelf Then before (name ∷ names) word result (inr h) all =
+    script_due known shelf.files name word (λ steps. AreDueOf shelf.files Then (before ++ steps ∷ []) names (word + 1) result) h.0 result h.1
+    (scripts_refused known shelf Then (before ++ h.0 ∷ []) names (word + 1) result h.2 all)
 
-scripts_read : Known → (shelf : Shelf) (d : Design) (before : List (List Step)) (names : List (List ℕ)) (scripts : List (List Step)) (word : ℕ) (result : Status) → AreRead (Some shelf) names scripts
-    → IsDueOfRun d (before ++ scripts) result → AreDueOf shelf.files d before names word result
-scripts_read known shelf d before [] [] word result h due = subst (λ (all : List (List Step)). IsDueOfRun d all result) (append-nil before) due
-scripts_read known shelf d before [] (steps ∷ scripts) word result h due = absurd h
-scripts_read known shelf d before (name ∷ names) [] word result h due = absurd h
-scripts_read known shelf d before (name ∷ names) (steps ∷ scripts) word result h due =
-    script_due known shelf.files name word (λ steps. AreDueOf shelf.files d (before ++ steps ∷ []) names (word + 1) result) steps result h.0
-    (scripts_read known shelf d (before ++ steps ∷ []) names scripts (word + 1) result h.1
-    (subst (λ (all : List (List Step)). IsDueOfRun d all result) (sym (append_assoc before (steps ∷ []) scripts)) due))
+scripts_read : Known → (shelf : Shelf) (Then : List (List Step) → Type 0) (before : List (List Step)) (names : List (List ℕ)) (scripts : List (List Step)) (word : ℕ) (result : Status) → AreRead (Some shelf) names scripts
+    → Then (before ++ scripts) → AreDueOf shelf.files Then before names word result
+scripts_read known shelf Then before [] [] word result h due = subst Then (append-nil before) due
+scripts_read known shelf Then before [] (steps ∷ scripts) word result h due = absurd h
+scripts_read known shelf Then before (name ∷ names) [] word result h due = absurd h
+scripts_read known shelf Then before (name ∷ names) (steps ∷ scripts) word result h due =
+    script_due known shelf.files name word (λ steps. AreDueOf shelf.files Then (before ++ steps ∷ []) names (word + 1) result) steps result h.0
+    (scripts_read known shelf Then (before ++ steps ∷ []) names scripts (word + 1) result h.1 (subst Then (sym (append_assoc before (steps ∷ []) scripts)) due))
 
 -- ---- what was written
 
@@ -222,6 +231,43 @@ run_due known d scripts old new status.LogFull h =
     }
 run_due known d scripts old new status.NoMemory h = excused_run d scripts status.NoMemory tt
 
+uses_due : Known → (d : Design) (scripts : List (List Step)) (old new : Option (List ℕ)) (result : Status) → UsesGive d scripts old new result → IsDueOfRun d scripts result
+uses_due known d scripts old new status.Ok h = record { no_top = λ some none. absurd (h.0 some none); served = λ can room. inr (inl refl); run = λ can. inr (inr (inl refl)) }
+uses_due known d scripts old new status.Usage h = absurd h
+uses_due known d scripts old new (status.Missing word) h = absurd h
+uses_due known d scripts old new (status.ReadFault word) h = absurd h
+uses_due known d scripts old new status.WriteFault h = record { no_top = λ some none. absurd (h.0 some none); served = λ can room. inl refl; run = λ can. inr (inl refl) }
+uses_due known d scripts old new (status.BadEdif fault) h = absurd h
+uses_due known d scripts old new (status.BadScript word line) h = absurd h
+uses_due known d scripts old new (status.TooLarge word) h = absurd h
+uses_due known d scripts old new status.NoTop h = record { no_top = λ some none. inl refl; served = λ can room. absurd (can h.0 h.1); run = λ can. absurd (can h.0 h.1) }
+uses_due known d scripts old new status.LogFull h =
+    let uses = h.1.1 in
+    let report = uses.told.report in record {
+      no_top = λ some none. absurd (h.0 some none);
+      served = λ can room. absurd (not_full report.prints.stories (known.room d scripts uses.report report.history room report.prints) report.full);
+      run = λ can. inl refl;
+    }
+uses_due known d scripts old new status.NoMemory h = excused_run d scripts status.NoMemory tt
+
+-- a verdict is no other status
+no_verdict : (d : Design) (scripts : List (List Step)) (report : List ℕ) (old new : Option (List ℕ)) (result : Status) → ((text : List ℕ) → TextGives text old new result → ⊥) → VerdictGives d scripts report old new result → ⊥
+no_verdict d scripts report old new result none (inl h) = none (codes "yes" ++ 10 ∷ []) h.1
+no_verdict d scripts report old new result none (inr h) = none (codes "no" ++ 10 ∷ []) h.1
+
+check_due : (d : Design) (scripts : List (List Step)) (report : List ℕ) (old new : Option (List ℕ)) (result : Status) → CheckGives d scripts report old new result → IsDueOfCheck d scripts result
+check_due d scripts report old new status.Ok h = record { no_top = λ some none. absurd (h.0 some none); served = λ can. inr (inl refl) }
+check_due d scripts report old new status.Usage h = absurd (no_verdict d scripts report old new status.Usage (λ text none. none) h.1)
+check_due d scripts report old new (status.Missing word) h = absurd (no_verdict d scripts report old new (status.Missing word) (λ text none. none) h.1)
+check_due d scripts report old new (status.ReadFault word) h = absurd (no_verdict d scripts report old new (status.ReadFault word) (λ text none. none) h.1)
+check_due d scripts report old new status.WriteFault h = record { no_top = λ some none. absurd (h.0 some none); served = λ can. inl refl }
+check_due d scripts report old new (status.BadEdif fault) h = absurd (no_verdict d scripts report old new (status.BadEdif fault) (λ text none. none) h.1)
+check_due d scripts report old new (status.BadScript word line) h = absurd (no_verdict d scripts report old new (status.BadScript word line) (λ text none. none) h.1)
+check_due d scripts report old new (status.TooLarge word) h = absurd (no_verdict d scripts report old new (status.TooLarge word) (λ text none. none) h.1)
+check_due d scripts report old new status.NoTop h = record { no_top = λ some none. inl refl; served = λ can. absurd (can h.0 h.1) }
+check_due d scripts report old new status.LogFull h = absurd (no_verdict d scripts report old new status.LogFull (λ text none. none) h.1)
+check_due d scripts report old new status.NoMemory h = excused_check d scripts status.NoMemory tt
+
 summary_due : (n : ℕ) (old new : Option (List ℕ)) (result : Status) → SummaryGives n old new result → IsServed result
 summary_due n old new result (inl h) = subst IsServed (sym h.0) (inr (inr tt))
 summary_due n old new result (inr h) = go result h.2
@@ -246,29 +292,68 @@ show_due : (shelf : Shelf) (name : List ℕ) (wanted : Wanted) (old new : Option
 show_due shelf name wanted old new result (inl h) = design_refused shelf name (λ d. IsDueOf wanted d result) result h.0 (λ e d. excused_output wanted d result e)
 show_due shelf name wanted old new result (inr h) = design_due shelf.files name (λ d. IsDueOf wanted d result) h.0 result h.1.file (output_due wanted h.0 old new result h.3)
 
-read_due : Known → (shelf : Shelf) (d : Design) (names : List (List ℕ)) (old new : Option (List ℕ)) (result : Status) → ReadGives d names (Some shelf) old new result → AreDueOf shelf.files d [] names 2 result
-read_due known shelf d names old new result (inl h) = scripts_refused known shelf d [] names 2 result h.0
-read_due known shelf d names old new result (inr h) = scripts_read known shelf d [] names h.0 2 result h.1 (run_due known d h.0 old new result h.3)
+-- scripts of a request ask for what their outcome is
+read_due : Known → (shelf : Shelf) (Then Done : List (List Step) → Type 0) (names : List (List ℕ)) (word : ℕ) (old new : Option (List ℕ)) (result : Status) → (IsExcuse result → (scripts : List (List Step)) → Then scripts)
+    → ((scripts : List (List Step)) → Done scripts → Then scripts) → ScriptsGive names word Done (Some shelf) old new result → AreDueOf shelf.files Then [] names word result
+read_due known shelf Then Done names word old new result excused due (inl h) = scripts_refused known shelf Then [] names word result h.0 excused
+read_due known shelf Then Done names word old new result excused due (inr h) = scripts_read known shelf Then [] names h.0 word result h.1 (due h.0 h.3)
 
-scripts_due : Known → (shelf : Shelf) (name : List ℕ) (names : List (List ℕ)) (old new : Option (List ℕ)) (result : Status) → Gives (Run name names) (Some shelf) old new result
-    → IsDueOfDesign shelf.files name (λ d. AreDueOf shelf.files d [] names 2 result) result
-scripts_due known shelf name names old new result (inl h) =
-    design_refused shelf name (λ d. AreDueOf shelf.files d [] names 2 result) result h.0 (λ e d. excused_scripts shelf.files d [] names 2 result e)
-scripts_due known shelf name names old new result (inr h) =
-    design_due shelf.files name (λ d. AreDueOf shelf.files d [] names 2 result) h.0 result h.1.file (read_due known shelf h.0 names old new result h.2)
+run_asks : Known → (shelf : Shelf) (name : List ℕ) (names : List (List ℕ)) (old new : Option (List ℕ)) (result : Status) → Gives (Run name names) (Some shelf) old new result → IsDueIn shelf.files (Run name names) result
+run_asks known shelf name names old new result (inl h) =
+    design_refused shelf name (λ d. AreDueOf shelf.files (λ scripts. IsDueOfRun d scripts result) [] names 2 result) result h.0
+    (λ e d. excused_scripts shelf.files (λ scripts. IsDueOfRun d scripts result) [] names 2 result e (λ scripts. excused_run d scripts result e))
+run_asks known shelf name names old new result (inr h) =
+    design_due shelf.files name (λ d. AreDueOf shelf.files (λ scripts. IsDueOfRun d scripts result) [] names 2 result) h.0 result h.1.file
+    (read_due known shelf (λ scripts. IsDueOfRun h.0 scripts result) (λ scripts. RunGives h.0 scripts old new result) names 2 old new result (λ e scripts. excused_run h.0 scripts result e)
+    (λ scripts gives. run_due known h.0 scripts old new result gives) h.2)
+
+uses_ask : Known → (shelf : Shelf) (name : List ℕ) (names : List (List ℕ)) (old new : Option (List ℕ)) (result : Status) → Gives (Uses name names) (Some shelf) old new result → IsDueIn shelf.files (Uses name names) result
+uses_ask known shelf name names old new result (inl h) =
+    design_refused shelf name (λ d. AreDueOf shelf.files (λ scripts. IsDueOfRun d scripts result) [] names 2 result) result h.0
+    (λ e d. excused_scripts shelf.files (λ scripts. IsDueOfRun d scripts result) [] names 2 result e (λ scripts. excused_run d scripts result e))
+uses_ask known shelf name names old new result (inr h) =
+    design_due shelf.files name (λ d. AreDueOf shelf.files (λ scripts. IsDueOfRun d scripts result) [] names 2 result) h.0 result h.1.file
+    (read_due known shelf (λ scripts. IsDueOfRun h.0 scripts result) (λ scripts. UsesGive h.0 scripts old new result) names 2 old new result (λ e scripts. excused_run h.0 scripts result e)
+    (λ scripts gives. uses_due known h.0 scripts old new result gives) h.2)
+
+-- a report that is there is within its limit
+report_there : (found : Option (List ℕ)) (report : List ℕ) → length report ≤ MOST_REPORT_BYTES → IsSomeAnd found (λ bytes. bytes ≡ report) → IsSomeAnd found (λ bytes. (length bytes ≤ MOST_REPORT_BYTES) × (bytes ≡ report))
+report_there None report size h = h
+report_there (Some bytes) report size h = (omega (arith, size, ap length h), h)
+
+report_asks : Known → (shelf : Shelf) (d : Design) (name : List ℕ) (names : List (List ℕ)) (old new : Option (List ℕ)) (result : Status) → ReportGives d name names (Some shelf) old new result
+    → IsDueOfReport shelf.files d name names result
+report_asks known shelf d name names old new result (inl h) =
+    file_refused shelf name 2 MOST_REPORT_BYTES (λ bytes. AreDueOf shelf.files (λ scripts. IsDueOfCheck d scripts result) [] names 3 result) result h.0
+    (λ e bytes. excused_scripts shelf.files (λ scripts. IsDueOfCheck d scripts result) [] names 3 result e (λ scripts. excused_check d scripts result e))
+report_asks known shelf d name names old new result (inr h) =
+    small_file (file_named shelf.files name) 2 MOST_REPORT_BYTES (λ bytes. bytes ≡ h.0) (λ bytes. AreDueOf shelf.files (λ scripts. IsDueOfCheck d scripts result) [] names 3 result) result
+    (report_there (file_named shelf.files name) h.0 h.1.0 h.1.1)
+    (λ bytes is. read_due known shelf (λ scripts. IsDueOfCheck d scripts result) (λ scripts. CheckGives d scripts h.0 old new result) names 3 old new result (λ e scripts. excused_check d scripts result e)
+    (λ scripts gives. check_due d scripts h.0 old new result gives) h.2)
+
+check_asks : Known → (shelf : Shelf) (name report : List ℕ) (names : List (List ℕ)) (old new : Option (List ℕ)) (result : Status) → Gives (Check name report names) (Some shelf) old new result
+    → IsDueIn shelf.files (Check name report names) result
+check_asks known shelf name report names old new result (inl h) =
+    design_refused shelf name (λ d. IsDueOfReport shelf.files d report names result) result h.0 (λ e d. excused_report shelf.files d report names result e)
+check_asks known shelf name report names old new result (inr h) =
+    design_due shelf.files name (λ d. IsDueOfReport shelf.files d report names result) h.0 result h.1.file (report_asks known shelf h.0 report names old new result h.2)
 
 due_now : Known → (told : Option Shelf) (request : Request) (old new : Option (List ℕ)) (result : Status) → Gives request told old new result → IsDue told request result
 due_now known None (Show name wanted) old new result h = tt
 due_now known None (Run name names) old new result h = tt
+due_now known None (Uses name names) old new result h = tt
+due_now known None (Check name report names) old new result h = tt
 due_now known told (Generate n) old new result h = summary_due n old new result h
 due_now known (Some shelf) (Show name wanted) old new result h = show_due shelf name wanted old new result h
-due_now known (Some shelf) (Run name names) old new result h = scripts_due known shelf name names old new result h
+due_now known (Some shelf) (Run name names) old new result h = run_asks known shelf name names old new result h
+due_now known (Some shelf) (Uses name names) old new result h = uses_ask known shelf name names old new result h
+due_now known (Some shelf) (Check name report names) old new result h = check_asks known shelf name report names old new result h
 
 -- what is asked for depends on the files alone
 abbrev DueIn : Option Files → Request → Status → Type 0
-DueIn told (Show name wanted) result = IfSome told (λ files. IsDueOfDesign files name (λ d. IsDueOf wanted d result) result)
-DueIn told (Run name names) result = IfSome told (λ files. IsDueOfDesign files name (λ d. AreDueOf files d [] names 2 result) result)
 DueIn told (Generate n) result = IsServed result
+DueIn told request result = IfSome told (λ files. IsDueIn files request result)
 
 abbrev files_of : Option Shelf → Option Files
 files_of told = option_map (λ (shelf : Shelf). shelf.files) told
@@ -276,17 +361,25 @@ files_of told = option_map (λ (shelf : Shelf). shelf.files) told
 to_files : (told : Option Shelf) (request : Request) (result : Status) → IsDue told request result → DueIn (files_of told) request result
 to_files None (Show name wanted) result h = tt
 to_files None (Run name names) result h = tt
+to_files None (Uses name names) result h = tt
+to_files None (Check name report names) result h = tt
 to_files None (Generate n) result h = h
 to_files (Some shelf) (Show name wanted) result h = h
 to_files (Some shelf) (Run name names) result h = h
+to_files (Some shelf) (Uses name names) result h = h
+to_files (Some shelf) (Check name report names) result h = h
 to_files (Some shelf) (Generate n) result h = h
 
 of_files : (told : Option Shelf) (request : Request) (result : Status) → DueIn (files_of told) request result → IsDue told request result
 of_files None (Show name wanted) result h = tt
 of_files None (Run name names) result h = tt
+of_files None (Uses name names) result h = tt
+of_files None (Check name report names) result h = tt
 of_files None (Generate n) result h = h
 of_files (Some shelf) (Show name wanted) result h = h
 of_files (Some shelf) (Run name names) result h = h
+of_files (Some shelf) (Uses name names) result h = h
+of_files (Some shelf) (Check name report names) result h = h
 of_files (Some shelf) (Generate n) result h = h
 
 -- the status comes that the files ask for, as they were told before

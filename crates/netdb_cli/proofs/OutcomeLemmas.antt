@@ -1,18 +1,20 @@
 -- What the outcome of a call says of its status and of what was counted.
-use Rattle.std.proofs.Common.{◌≡◌, ◌+◌, ◌∙◌, List, [], ◌∷◌, inl, inr, Option, sym, subst, arith}
+use Rattle.std.proofs.Common.{◌≡◌, ◌+◌, ◌++◌, ◌∙◌, List, [], ◌∷◌, inl, inr, Option, refl, sym, subst, arith}
+use Rattle.std.specs.Prelude.{codes}
 use Prim.Native.Nat.{ℕ}
 use Rattle.netlist_schema.specs.Design.{Design}
 use Rattle.netdb_outside.specs.Outside.{Shelf}
-use Rattle.session_spec.specs.declared.script.Step.{Step}
-use Rattle.call_words.specs.Command.{Request, Show, Run, Generate}
+use Rattle.script_spec.specs.declared.script.Step.{Step}
+use Rattle.call_words.specs.Command.{Request, Show, Run, Generate, Uses, Check}
 use Rattle.call_words.specs.declared.command.Wanted.{Wanted}
-use Rattle.call_spec.specs.Counts.{CountsWriting}
-use Rattle.call_spec.specs.Refusals.{RefusesDesign, RefusesScript, RefusesScripts}
-use Rattle.call_spec.specs.declared.status.Status.{Status}
-use Rattle.call_spec.specs.declared.status.Status.TheVariants as status
-use Rattle.call_output.specs.Gives.{OutputGives, RunGives, SummaryGives, TextGives}
+use Rattle.netdb_spec.specs.Counts.{CountsWriting}
+use Rattle.netdb_spec.specs.Refusals.{RefusesDesign, RefusesReport, RefusesScript, RefusesScripts}
+use Rattle.netdb_spec.specs.declared.status.Status.{Status}
+use Rattle.netdb_spec.specs.declared.status.Status.TheVariants as status
+use Rattle.call_output.specs.Gives.{OutputGives, RunGives, SummaryGives, TextGives, UsesGive}
+use Rattle.call_check.specs.Checked.{CheckGives, VerdictGives}
 use Rattle.call_output.specs.Output.{output, HasTop}
-use Rattle.netdb_cli.specs.Outcome.{Gives, ReadGives}
+use Rattle.netdb_cli.specs.Outcome.{Gives, ReportGives, ScriptsGive}
 
 -- a text of a design that has all that is wanted
 pub served : (wanted : Wanted) (d : Design) (old new : Option (List ℕ)) (result : Status) → HasTop wanted d → TextGives (output wanted d) old new result → OutputGives wanted d old new result
@@ -38,6 +40,17 @@ output_is_no_fault wanted d old new word result h is = (subst (λ (s : Status). 
 pub run_is_no_fault : (d : Design) (scripts : List (List Step)) (old new : Option (List ℕ)) (word : ℕ) (result : Status) → RunGives d scripts old new result → result ≡ status.ReadFault word → ⊥
 run_is_no_fault d scripts old new word result h is = subst (λ (s : Status). RunGives d scripts old new s) is h
 
+pub uses_are_no_fault : (d : Design) (scripts : List (List Step)) (old new : Option (List ℕ)) (word : ℕ) (result : Status) → UsesGive d scripts old new result → result ≡ status.ReadFault word → ⊥
+uses_are_no_fault d scripts old new word result h is = subst (λ (s : Status). UsesGive d scripts old new s) is h
+
+pub verdict_is_no_fault : (d : Design) (scripts : List (List Step)) (report : List ℕ) (old new : Option (List ℕ)) (word : ℕ) (result : Status) → VerdictGives d scripts report old new result → result ≡ status.ReadFault word → ⊥
+verdict_is_no_fault d scripts report old new word result (inl h) is = text_is_no_fault (codes "yes" ++ 10 ∷ []) old new word result h.1 is
+verdict_is_no_fault d scripts report old new word result (inr h) is = text_is_no_fault (codes "no" ++ 10 ∷ []) old new word result h.1 is
+
+pub check_is_no_fault : (d : Design) (scripts : List (List Step)) (report : List ℕ) (old new : Option (List ℕ)) (word : ℕ) (result : Status) → CheckGives d scripts report old new result → result ≡ status.ReadFault word → ⊥
+check_is_no_fault d scripts report old new word result h is =
+    verdict_is_no_fault d scripts report old new word (status.ReadFault word) (subst (λ (s : Status). CheckGives d scripts report old new s) is h).1 refl
+
 pub summary_is_no_fault : (n : ℕ) (old new : Option (List ℕ)) (word : ℕ) (result : Status) → SummaryGives n old new result → result ≡ status.ReadFault word → ⊥
 summary_is_no_fault n old new word result (inl h) is = absurd (cc (sym h.0 ∙ is))
 summary_is_no_fault n old new word result (inr h) is = text_is_no_fault h.0 old new word result h.2 is
@@ -45,6 +58,9 @@ summary_is_no_fault n old new word result (inr h) is = text_is_no_fault h.0 old 
 -- a refusal is no fault in writing
 pub design_is_no_fault : (told : Option Shelf) (name : List ℕ) (result : Status) → RefusesDesign told name result → result ≡ status.WriteFault → ⊥
 design_is_no_fault told name result h is = subst (λ (s : Status). RefusesDesign told name s) is h
+
+pub report_is_no_fault : (told : Option Shelf) (name : List ℕ) (result : Status) → RefusesReport told name result → result ≡ status.WriteFault → ⊥
+report_is_no_fault told name result h is = subst (λ (s : Status). RefusesReport told name s) is h
 
 pub scripts_are_no_fault : (told : Option Shelf) (names : List (List ℕ)) (at : ℕ) (result : Status) → RefusesScripts told names at result → result ≡ status.WriteFault → ⊥
 scripts_are_no_fault told [] at result h is = h
@@ -57,15 +73,29 @@ scripts_are_words told [] at h = h
 scripts_are_words told (name ∷ names) at (inl h) = h
 scripts_are_words told (name ∷ names) at (inr h) = scripts_are_words told names (at + 1) h.2
 
-read_is_words : (d : Design) (names : List (List ℕ)) (told : Option Shelf) (old new : Option (List ℕ)) → ReadGives d names told old new status.Usage → ⊥
-read_is_words d names told old new (inl h) = scripts_are_words told names 2 h.0
-read_is_words d names told old new (inr h) = h.3
+read_are_words : (names : List (List ℕ)) (word : ℕ) (Done : List (List Step) → Type 0) (told : Option Shelf) (old new : Option (List ℕ)) → ((scripts : List (List Step)) → Done scripts → ⊥)
+    → ScriptsGive names word Done told old new status.Usage → ⊥
+read_are_words names word Done told old new none (inl h) = scripts_are_words told names word h.0
+read_are_words names word Done told old new none (inr h) = none h.0 h.3
+
+verdict_is_words : (d : Design) (scripts : List (List Step)) (report : List ℕ) (old new : Option (List ℕ)) → VerdictGives d scripts report old new status.Usage → ⊥
+verdict_is_words d scripts report old new (inl h) = h.1
+verdict_is_words d scripts report old new (inr h) = h.1
+
+report_is_words : (d : Design) (name : List ℕ) (names : List (List ℕ)) (told : Option Shelf) (old new : Option (List ℕ)) → ReportGives d name names told old new status.Usage → ⊥
+report_is_words d name names told old new (inl h) = h.0
+report_is_words d name names told old new (inr h) =
+    read_are_words names 3 (λ scripts. CheckGives d scripts h.0 old new status.Usage) told old new (λ scripts gives. verdict_is_words d scripts h.0 old new gives.1) h.2
 
 are_words : (request : Request) (told : Option Shelf) (old new : Option (List ℕ)) → Gives request told old new status.Usage → ⊥
 are_words (Show name wanted) told old new (inl h) = h.0
 are_words (Show name wanted) told old new (inr h) = h.3.1
 are_words (Run name names) told old new (inl h) = h.0
-are_words (Run name names) told old new (inr h) = read_is_words h.0 names told old new h.2
+are_words (Run name names) told old new (inr h) = read_are_words names 2 (λ scripts. RunGives h.0 scripts old new status.Usage) told old new (λ scripts none. none) h.2
+are_words (Uses name names) told old new (inl h) = h.0
+are_words (Uses name names) told old new (inr h) = read_are_words names 2 (λ scripts. UsesGive h.0 scripts old new status.Usage) told old new (λ scripts none. none) h.2
+are_words (Check name report names) told old new (inl h) = h.0
+are_words (Check name report names) told old new (inr h) = report_is_words h.0 report names told old new h.2
 are_words (Generate n) told old new (inl h) = absurd (cc (h.0))
 are_words (Generate n) told old new (inr h) = h.2
 

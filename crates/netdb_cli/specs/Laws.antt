@@ -4,7 +4,7 @@ use Rattle.netdb_outside.specs.Outside.{Shelf, SameFiles}
 use Rattle.call_words.specs.Command.{Request}
 use Rattle.netdb_cli.specs.Due.{IsDue}
 use Rattle.netdb_cli.specs.Outcome.{Gives}
-use Rattle.call_spec.specs.declared.status.Status.{Status}
+use Rattle.netdb_spec.specs.declared.status.Status.{Status}
 
 -- Where files are told, the causes of the statuses exclude each other: so a status that has its cause is the one that the files ask for,
 -- as they were told before.

@@ -1,11 +1,12 @@
 pub mod Due
 pub mod Laws
 pub mod Outcome
+pub use Rattle.call_check.specs.Checked
 pub use Rattle.call_output.specs.Gives
 pub use Rattle.call_output.specs.Output
-pub use Rattle.call_spec.specs.Counts
-pub use Rattle.call_spec.specs.Refusals
-pub use Rattle.call_spec.specs.StatusNumber
-pub use Rattle.call_spec.specs.StatusText
-pub use Rattle.call_spec.specs.Told
+pub use Rattle.netdb_spec.specs.Counts
+pub use Rattle.netdb_spec.specs.Refusals
+pub use Rattle.netdb_spec.specs.StatusNumber
+pub use Rattle.netdb_spec.specs.StatusText
+pub use Rattle.netdb_spec.specs.Told
 pub use Rattle.call_words.specs.Command

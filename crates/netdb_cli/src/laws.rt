@@ -1,7 +1,7 @@
 //! What holds of the definitions. A law is what a function without parameters ensures; there is nothing to run.
 ghost use Rattle.netdb_cli.specs.Laws.{GivenIsDue};
 
-use session_spec::laws::{one_bad_line, room_suffices, script_or_bad};
+use script_spec::laws::{one_bad_line, room_suffices, script_or_bad};
 
 /// Each status comes where its cause holds.
 pub fn given_is_due()

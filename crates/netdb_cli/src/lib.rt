@@ -5,7 +5,7 @@ pub mod laws;
 mod run;
 pub mod texts;
 
-pub use call_spec::{Status, status};
-pub use design_file::{EdifFault, fault_text};
+pub use edif_file::{EdifFault, fault_text};
+pub use netdb_spec::{Status, status};
 pub use run::run_netdb;
 pub use texts::status_text;

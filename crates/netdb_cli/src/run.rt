@@ -1,37 +1,46 @@
 //! The top call.
 ghost use Rattle.std.specs.Prelude.{◌≡◌, ◌↔◌, ◌≤◌, length};
 ghost use Rattle.netdb_outside.specs.Outside.{SameFiles};
-ghost use Rattle.call_words.specs.Command.{Asks, IsCommand, IsGood, Request, Show, Run, request_of, spelled};
+ghost use Rattle.call_words.specs.Command.{Asks, Check, IsCommand, IsGood, IsGoodWanted, Request, Show, Run, Uses, request_of, spelled};
 ghost use Rattle.netdb_cli.specs.Due.{IsDue};
-ghost use Rattle.call_spec.specs.Counts.{CountsReading, CountsWriting};
-ghost use Rattle.netdb_cli.specs.Outcome.{Gives, ReadGives};
+ghost use Rattle.netdb_spec.specs.Counts.{CountsReading, CountsWriting};
+ghost use Rattle.netdb_cli.specs.Outcome.{Gives, ReadChecks, ReadGives, ReadUsesGive, ReportGives};
 
 use crate::laws::given_is_due;
-use call_files::{read_design, read_scripts};
-use call_output::{write_output, write_report, write_summary};
-use call_spec::Status;
+use call_check::write_verdict;
+use call_files::{read_design, read_report, read_scripts};
+use call_output::{write_output, write_report, write_summary, write_with_uses};
 use call_words::{Command, Wanted, command_of};
 use netdb_outside::{Files, Gate, Sink};
-use netlist_schema::Design;
+use netdb_spec::Status;
+use netlist_schema::{Design, Row};
 use std::alloc::Global;
 use std::sync::Wait;
 use std::thread::Threads;
 
+/// The position of the first script's name among the words of a run.
+const RUN_WORD: u32 = 2;
+
+/// The position of the first script's name among the words of a check.
+const CHECK_WORD: u32 = 3;
+
 /// Reads a design file, and writes what is wanted of its design.
-fn show_file<F: Files, K: Sink>(
+fn show_file<R: Threads + Sync, F: Files, K: Sink>(
+    rt: &R,
     alloc: Global,
     name: &str,
     wanted: Wanted,
     files: &mut F,
     out: &mut K,
 ) -> Status
+    requires { IsGoodWanted wanted }
     ensures gives { Gives (Show name.now wanted) (F.told files.new) (K.written out.old) (K.written out.new) result }
     ensures reading { CountsReading (F.faults files.old) (F.faults files.new) result }
     ensures writing { CountsWriting (K.faults out.old) (K.faults out.new) result }
     ensures files { SameFiles (F.told files.old) (F.told files.new) }
 {
     match read_design(alloc, files, name) {
-        Ok(design) => write_output(alloc, &design, wanted, out),
+        Ok(design) => write_output(rt, alloc, &design, wanted, out),
         Err(status) => status,
     }
 }
@@ -52,7 +61,7 @@ fn run_files<R: Threads + Wait + Sync, F: Files, K: Sink, G: Gate + Sync>(
     ensures writing { CountsWriting (K.faults out.old) (K.faults out.new) result }
     ensures files { SameFiles (F.told files.old) (F.told files.new) }
 {
-    match read_scripts(alloc, files, names) {
+    match read_scripts(alloc, files, names, RUN_WORD) {
         Ok(scripts) => write_report(rt, alloc, design, &scripts, gate, out),
         Err(status) => status,
     }
@@ -80,6 +89,116 @@ fn run_on_file<R: Threads + Wait + Sync, F: Files, K: Sink, G: Gate + Sync>(
     }
 }
 
+/// Reads the files of scripts, runs them on a design, and writes the report and the uses of the last version.
+fn use_files<R: Threads + Wait + Sync, F: Files, K: Sink, G: Gate + Sync>(
+    rt: &R,
+    alloc: Global,
+    design: Design,
+    names: &[String],
+    files: &mut F,
+    out: &mut K,
+    gate: &G,
+) -> Status
+    requires { (1 ≤ length names.now) × (length names.now ≤ 64) }
+    ensures gives { ReadUsesGive design (spelled names.now) (F.told files.new) (K.written out.old) (K.written out.new) result }
+    ensures reading { CountsReading (F.faults files.old) (F.faults files.new) result }
+    ensures writing { CountsWriting (K.faults out.old) (K.faults out.new) result }
+    ensures files { SameFiles (F.told files.old) (F.told files.new) }
+{
+    match read_scripts(alloc, files, names, RUN_WORD) {
+        Ok(scripts) => write_with_uses(rt, alloc, design, &scripts, gate, out),
+        Err(status) => status,
+    }
+}
+
+/// Reads a design file and the files of scripts, runs these on the design, and writes the report and the uses of the last version.
+fn uses_of_file<R: Threads + Wait + Sync, F: Files, K: Sink, G: Gate + Sync>(
+    rt: &R,
+    alloc: Global,
+    name: &str,
+    names: &[String],
+    files: &mut F,
+    out: &mut K,
+    gate: &G,
+) -> Status
+    requires { (1 ≤ length names.now) × (length names.now ≤ 64) }
+    ensures gives { Gives (Uses name.now (spelled names.now)) (F.told files.new) (K.written out.old) (K.written out.new) result }
+    ensures reading { CountsReading (F.faults files.old) (F.faults files.new) result }
+    ensures writing { CountsWriting (K.faults out.old) (K.faults out.new) result }
+    ensures files { SameFiles (F.told files.old) (F.told files.new) }
+{
+    match read_design(alloc, files, name) {
+        Ok(design) => use_files(rt, alloc, design, names, files, out, gate),
+        Err(status) => status,
+    }
+}
+
+/// Reads the files of scripts, and writes whether a text is the report of a run of them on a design.
+fn check_text<F: Files, K: Sink>(
+    alloc: Global,
+    design: Design,
+    report: &[u8],
+    names: &[String],
+    files: &mut F,
+    out: &mut K,
+) -> Status
+    requires { length names.now ≤ 64 }
+    ensures gives { ReadChecks design report.now (spelled names.now) (F.told files.new) (K.written out.old) (K.written out.new) result }
+    ensures reading { CountsReading (F.faults files.old) (F.faults files.new) result }
+    ensures writing { CountsWriting (K.faults out.old) (K.faults out.new) result }
+    ensures files { SameFiles (F.told files.old) (F.told files.new) }
+{
+    match read_scripts(alloc, files, names, CHECK_WORD) {
+        Ok(scripts) => {
+            let scripts = Row::of(scripts);
+            write_verdict(alloc, design, &scripts, report, out)
+        }
+        Err(status) => status,
+    }
+}
+
+/// Reads a report and the files of scripts, and writes whether it is the report of a run of them on a design.
+fn check_report_file<F: Files, K: Sink>(
+    alloc: Global,
+    design: Design,
+    report: &str,
+    names: &[String],
+    files: &mut F,
+    out: &mut K,
+) -> Status
+    requires { length names.now ≤ 64 }
+    ensures gives { ReportGives design report.now (spelled names.now) (F.told files.new) (K.written out.old) (K.written out.new) result }
+    ensures reading { CountsReading (F.faults files.old) (F.faults files.new) result }
+    ensures writing { CountsWriting (K.faults out.old) (K.faults out.new) result }
+    ensures files { SameFiles (F.told files.old) (F.told files.new) }
+{
+    match read_report(alloc, files, report) {
+        Ok(text) => check_text(alloc, design, text.as_slice(), names, files, out),
+        Err(status) => status,
+    }
+}
+
+/// Reads a design file, a report and the files of scripts, and writes whether it is the report of a run of these on the design.
+fn check_files<F: Files, K: Sink>(
+    alloc: Global,
+    name: &str,
+    report: &str,
+    names: &[String],
+    files: &mut F,
+    out: &mut K,
+) -> Status
+    requires { length names.now ≤ 64 }
+    ensures gives { Gives (Check name.now report.now (spelled names.now)) (F.told files.new) (K.written out.old) (K.written out.new) result }
+    ensures reading { CountsReading (F.faults files.old) (F.faults files.new) result }
+    ensures writing { CountsWriting (K.faults out.old) (K.faults out.new) result }
+    ensures files { SameFiles (F.told files.old) (F.told files.new) }
+{
+    match read_design(alloc, files, name) {
+        Ok(design) => check_report_file(alloc, design, report, names, files, out),
+        Err(status) => status,
+    }
+}
+
 /// Runs a command.
 fn run_command<R: Threads + Wait + Sync, F: Files, K: Sink, G: Gate + Sync>(
     rt: &R,
@@ -96,31 +215,44 @@ fn run_command<R: Threads + Wait + Sync, F: Files, K: Sink, G: Gate + Sync>(
     ensures files { SameFiles (F.told files.old) (F.told files.new) }
 {
     match command {
-        Command::Show { name, wanted } => show_file(alloc, name, wanted, files, out),
+        Command::Show { name, wanted } => show_file(rt, alloc, name, wanted, files, out),
         Command::Run { name, scripts } => run_on_file(rt, alloc, name, scripts, files, out, gate),
         Command::Generate { size } => write_summary(alloc, size, out),
+        Command::Uses { name, scripts } => uses_of_file(rt, alloc, name, scripts, files, out, gate),
+        Command::Check {
+            name,
+            report,
+            scripts,
+        } => check_files(alloc, name, report, scripts, files, out),
     }
 }
 
 /// Runs one command of the program. The words are those after the program's name.
 ///
-/// `write F` reads the design file F and writes its canonical text. `flat F` writes the items of its flattening, a line each, and then
-/// `end`; `flat F limit N` at most N of them, N from 1 to 4,294,967,295, and then `end`, or `more` where items are left. `csv F` writes
-/// the pins of the flattening as a table. `run F S1 .. Sn` reads 1 to 64 scripts of at most 262,144 bytes, runs them beside each other on
-/// the design of F, each by a worker of its own, which tells the gate of its lines, and writes the report of the run. `gen N` makes a
-/// design and a run of size N, from 1 to 4,096, and writes a summary. Whatever it answers, it changes no file.
+/// `write F` reads the design file F and writes its canonical text; `write F used` that of what is left of the design without the cells
+/// that its top does not use. `flat F` writes the items of its flattening, a line each, and then `end`; `flat F limit N` at most N of
+/// them, N from 1 to 4,294,967,295, and then `end`, or `more` where items are left; `flat F workers W` what `flat F` writes, made by W
+/// workers beside each other, W from 1 to 64. `csv F` writes the pins of the flattening as a table. `erc F` writes the nets without a
+/// driver or with several and the inputs that stand open, a line each, and then `end`. `run F S1 .. Sn` reads 1 to 64 scripts of at most
+/// 262,144 bytes, runs them beside each other on the design of F, each by a worker of its own, which tells the gate of its lines, and
+/// writes the report of the run; `uses F S1 .. Sn` does the same, and writes the users of each cell of the last version behind it.
+/// `check F R S1 .. Sn` reads a report of at most 134,217,728 bytes too, and writes `yes` where it is the report of a history of the
+/// scripts on the design of F, else `no`. `gen N` makes a design and a run of size N, from 1 to 4,096, and writes a summary. Whatever it
+/// answers, it changes no file.
 ///
 /// At `Ok` the whole text was written. What `write` wrote spells a tree that means the design that was read. What `run` wrote is the
 /// report of one legal history whose callers are just the scripts: each script fits the events of its caller there in order, each walk is
 /// the flattening of its pinned version, a commit was refused for a conflict exactly where a later commit wrote what it had read, and the
-/// last part is the canonical text of the last version, which reads back. At `LogFull`, which says that some script met a full log, the
-/// whole report was written as well. At `WriteFault` and `NoMemory` a front of such a text was written, or nothing; at each other status
-/// nothing.
+/// last part is the canonical text of the last version, which reads back. What `uses` wrote is such a report, and behind it the uses of
+/// the last version of that history. `check` wrote `yes` where the bytes are the report of some history, and `no` where they are that of
+/// none. At `LogFull`, which says that some script met a full log, the whole report was written as well, and for `uses` the uses. At
+/// `WriteFault` and `NoMemory` a front of such a text was written, or nothing; at each other status nothing.
 ///
 /// Of several causes the first of these is answered: the words are no command; of F: a fault in reading, no such file, too many bytes,
-/// bytes without a meaning; of each script in the order of the words: a fault in reading, no such file, too many bytes, a bad line; no top
-/// where a flattening is wanted, by the command or a line of a script; a fault in writing; a full log. `NoMemory` may come at any point.
-/// Scripts that want no more places than a history has, whatever comes of them, meet no full log.
+/// bytes without a meaning; of the report: a fault in reading, no such file, too many bytes; of each script in the order of the words: a
+/// fault in reading, no such file, too many bytes, a bad line; no top where one is needed, by the command or a line of a script that
+/// walks; a fault in writing; a full log. `NoMemory` may come at any point. Scripts that want no more places than a history has, whatever
+/// comes of them, meet no full log.
 pub fn run_netdb<R: Threads + Wait + Sync, F: Files, K: Sink, G: Gate + Sync>(
     rt: &R,
     alloc: Global,

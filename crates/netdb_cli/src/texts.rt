@@ -1,11 +1,11 @@
 //! What is said of a status.
 ghost use Rattle.std.specs.Prelude.{◌≡◌, ◌++◌, IfOk, OnOk, codes};
 ghost use Rattle.std.specs.Fmt.{decimal};
-ghost use Rattle.call_spec.specs.StatusText.{status_text as text_of, status_words};
+ghost use Rattle.netdb_spec.specs.StatusText.{status_text as text_of, status_words};
 
-use call_spec::Status;
-use design_file::fault_text;
+use edif_file::fault_text;
 use itoa::Buffer;
+use netdb_spec::Status;
 use netlist_schema::{NoMemory, Text};
 use std::alloc::Global;
 
@@ -47,7 +47,8 @@ fn words_of(status: &Status) -> &'static [u8]
 {
     match status {
         Status::Ok => b"",
-        Status::Usage => b"usage: write F, flat F [limit N], csv F, run F S.., gen N",
+        Status::Usage =>
+            b"usage: write F [used], flat F [limit N | workers W], csv F, run F S.., gen N, erc F, uses F S.., check F R S..",
         Status::Missing { .. } => b"missing",
         Status::ReadFault { .. } => b"read fault",
         Status::WriteFault => b"write fault",

@@ -9,7 +9,7 @@ use std::alloc::Global;
 use std::marker::Model;
 
 /// From how many bytes on they are put.
-const PIECE: usize = 8_192;
+const PIECE: usize = 32_768;
 
 /// What can be appended to bytes.
 pub trait Appended {

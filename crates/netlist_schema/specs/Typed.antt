@@ -60,7 +60,7 @@ pub record IsTypedContents (contents : Contents) : Type 0 where
   pub insts : All IsTypedInst contents.insts
   pub nets : All IsTypedNet contents.nets
 
--- what holds of each cell by the types of its fields
+-- what holds of each cell by the types of its fields, but of what is inside
 pub record IsTypedCellData (body : CellBody) : Type 0 where
   pub name : IsTypedName body.name
   pub properties : All IsTypedProperty body.properties
@@ -68,7 +68,6 @@ pub record IsTypedCellData (body : CellBody) : Type 0 where
   pub view_properties : All IsTypedProperty body.view_properties
   pub interface_properties : All IsTypedProperty body.interface_properties
   pub ports : All IsTypedPort body.ports
-  pub contents : IfSome body.contents IsTypedContents
 
 pub record IsTypedCell (body : CellBody) : Type 0 where
   pub name : IsTypedName body.name

@@ -2,6 +2,7 @@
 use crate::ids::CellId;
 use crate::property::{Name, Property};
 use crate::row::Row;
+use crate::shared::Shared;
 use crate::text::Text;
 use crate::width::Width;
 
@@ -85,8 +86,8 @@ impl Drop for Net {
 /// What is inside a cell.
 #[derive(Debug, PartialEq, Eq, Drop)]
 pub struct Contents {
-    pub insts: Row<Inst>,
-    pub nets: Row<Net>,
+    pub insts: Row<Shared<Inst>>,
+    pub nets: Row<Shared<Net>>,
 }
 
 /// The kind of a cell.
@@ -107,7 +108,7 @@ pub struct CellBody {
     pub view_properties: Row<Property>,
     pub interface_properties: Row<Property>,
     pub ports: Row<Port>,
-    pub contents: Option<Contents>,
+    pub contents: Option<Shared<Contents>>,
 }
 
 impl Drop for CellBody {

@@ -1,7 +1,7 @@
 //! `Copied`: an equal value, in memory of its own.
 ghost use Rattle.std.specs.Prelude.{◌≡◌, All, IfOk, IfSome, OnOk};
 ghost use Rattle.netlist_schema.specs.Ident.{IsIdentifier};
-ghost use Rattle.netlist_schema.specs.Typed.{IsBytes, IsTypedCellData, IsTypedContents, IsTypedInst, IsTypedName, IsTypedNet, IsTypedNote, IsTypedNum, IsTypedPort, IsTypedProperty, IsTypedValue};
+ghost use Rattle.netlist_schema.specs.Typed.{IsBytes, IsTypedCellData, IsTypedInst, IsTypedName, IsTypedNet, IsTypedNote, IsTypedNum, IsTypedPort, IsTypedProperty, IsTypedValue};
 
 use crate::cell::{CellBody, Contents, End, Inst, Net, Port};
 use crate::ident::Ident;
@@ -38,7 +38,7 @@ impl<T: Copied + Drop> Copied for Row<T> {
     ghost typed = { λ row. All T.typed row };
 
     fn copy(&self, alloc: Global) -> Result<Row<T>, NoMemory> {
-        let mut copies = Vec::new(alloc);
+        let mut copies = Vec::with_capacity(alloc, self.items.len())?;
         for item in self.as_slice() {
             copies.push(item.copy(alloc)?)?;
         }
@@ -157,7 +157,7 @@ impl Copied for Net {
 }
 
 impl Copied for Contents {
-    ghost typed = { IsTypedContents };
+    ghost typed = { λ _. Unit {0} };
 
     fn copy(&self, alloc: Global) -> Result<Contents, NoMemory> {
         Ok(Contents {

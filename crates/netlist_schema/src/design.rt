@@ -99,8 +99,8 @@ impl Design {
     }
 
     /// Puts a net at a place in the contents of a cell that is no leaf: it replaces the one there, or goes behind the last,
-    /// where the place is their number. The design has to be valid with it. Only a net behind the last takes memory, and
-    /// where it is refused, the design stays.
+    /// where the place is their number. The design has to be valid with it. It takes memory, and where that is
+    /// refused, the design stays.
     pub fn put_net(&mut self, id: CellId, place: usize, net: Net) -> Result<(), NoMemory>
         requires there { IsSomeAnd (cell_at self.old id) (λ body. IsSomeAnd body.contents (λ contents. place ≤ length contents.nets)) }
         requires valid { IsValid (with_inside self.old id (with_net_put place net)) }
@@ -111,8 +111,8 @@ impl Design {
     }
 
     /// Puts an instance at a place in the contents of a cell that is no leaf: it replaces the one there, or goes behind the
-    /// last, where the place is their number. The design has to be valid with it. Only an instance behind the last takes
-    /// memory, and where it is refused, the design stays.
+    /// last, where the place is their number. The design has to be valid with it. It takes memory, and where that is
+    /// refused, the design stays.
     pub fn put_inst(&mut self, id: CellId, place: usize, inst: Inst) -> Result<(), NoMemory>
         requires there { IsSomeAnd (cell_at self.old id) (λ body. IsSomeAnd body.contents (λ contents. place ≤ length contents.insts)) }
         requires valid { IsValid (with_inside self.old id (with_inst_put place inst)) }

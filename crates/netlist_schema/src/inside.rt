@@ -1,14 +1,27 @@
 //! Changes of what is inside a cell, in place.
 ghost use Rattle.std.specs.Option.{ForSome};
 ghost use Rattle.std.specs.Prelude.{◌≡◌, ◌≤◌, OnErr, OnOk, Some, length, slice_get, slice_set};
-ghost use Rattle.netlist_schema.specs.Change.{body_with, lib_with_cell, with_inst_put, with_net_put};
+ghost use Rattle.netlist_schema.specs.Change.{body_with, lib_with_cell, put_at, with_inst_put, with_net_put};
 ghost use Rattle.netlist_schema.specs.Types.{CellBody as Body, Lib as Library};
 
 use crate::cell::{CellBody, Contents, Inst, Net};
+use crate::copied::Copied;
 use crate::ids::CellId;
 use crate::library::Lib;
 use crate::memory::NoMemory;
 use crate::row::Row;
+use crate::shared::Shared;
+use std::sync::Arc;
+
+/// Puts an item at a place, in a share of its own.
+fn put_shared<T: Drop>(row: &mut Row<Shared<T>>, place: usize, item: T) -> Result<(), NoMemory>
+    requires { place ≤ length row.old }
+    ensures ok { OnOk result (row.new ≡ put_at row.old place item) }
+    ensures err { OnErr result (row.new ≡ row.old) }
+{
+    let alloc = *row.items.allocator();
+    row.put(place, Shared::of(alloc, item)?)
+}
 
 impl Contents {
     /// Puts a net at a place: it replaces the one there, or goes behind the last. Where memory is refused, the contents
@@ -18,7 +31,7 @@ impl Contents {
         ensures ok { OnOk result (self.new ≡ with_net_put place net self.old) }
         ensures err { OnErr result (self.new ≡ self.old) }
     {
-        self.nets.put(place, net)
+        put_shared(&mut self.nets, place, net)
     }
 
     /// Puts an instance at a place: it replaces the one there, or goes behind the last. Where memory is refused, the
@@ -28,11 +41,59 @@ impl Contents {
         ensures ok { OnOk result (self.new ≡ with_inst_put place inst self.old) }
         ensures err { OnErr result (self.new ≡ self.old) }
     {
-        self.insts.put(place, inst)
+        put_shared(&mut self.insts, place, inst)
+    }
+}
+
+/// Puts a net in contents, in place where nobody else holds them, and else in a copy of their own.
+fn put_net_own(contents: &mut Shared<Contents>, place: usize, net: Net) -> Result<(), NoMemory>
+    requires { place ≤ length contents.old.nets }
+    ensures ok { OnOk result (contents.new ≡ with_net_put place net contents.old) }
+    ensures err { OnErr result (contents.new ≡ contents.old) }
+{
+    let alloc = *contents.nets.items.allocator();
+    match Arc::get_mut(&mut contents.item) {
+        Some(own) => own.put_net(place, net),
+        None => {
+            let mut own = contents.get().copy(alloc)?;
+            own.put_net(place, net)?;
+            *contents = Shared::of(alloc, own)?;
+            Ok(())
+        }
+    }
+}
+
+/// Puts an instance in contents, in place where nobody else holds them, and else in a copy of their own.
+fn put_inst_own(contents: &mut Shared<Contents>, place: usize, inst: Inst) -> Result<(), NoMemory>
+    requires { place ≤ length contents.old.insts }
+    ensures ok { OnOk result (contents.new ≡ with_inst_put place inst contents.old) }
+    ensures err { OnErr result (contents.new ≡ contents.old) }
+{
+    let alloc = *contents.insts.items.allocator();
+    match Arc::get_mut(&mut contents.item) {
+        Some(own) => own.put_inst(place, inst),
+        None => {
+            let mut own = contents.get().copy(alloc)?;
+            own.put_inst(place, inst)?;
+            *contents = Shared::of(alloc, own)?;
+            Ok(())
+        }
     }
 }
 
 impl CellBody {
+    /// Puts other contents in the place of those there, where there are any. Where memory is refused, the body stays.
+    pub fn set_contents(&mut self, contents: Contents) -> Result<(), NoMemory>
+        ensures ok { OnOk result (self.new ≡ body_with (λ _. contents) self.old) }
+        ensures err { OnErr result (self.new ≡ self.old) }
+    {
+        if self.contents.is_some() {
+            let alloc = *contents.nets.items.allocator();
+            self.contents = Some(Shared::of(alloc, contents)?);
+        }
+        Ok(())
+    }
+
     /// Puts a net at a place in the contents, where the cell has any: `Contents::put_net`.
     pub fn put_net(&mut self, place: usize, net: Net) -> Result<(), NoMemory>
         requires { ForSome self.old.contents (λ contents. place ≤ length contents.nets) }
@@ -40,7 +101,7 @@ impl CellBody {
         ensures err { OnErr result (self.new ≡ self.old) }
     {
         match &mut self.contents {
-            Some(contents) => contents.put_net(place, net),
+            Some(contents) => put_net_own(contents, place, net),
             None => Ok(()),
         }
     }
@@ -52,7 +113,7 @@ impl CellBody {
         ensures err { OnErr result (self.new ≡ self.old) }
     {
         match &mut self.contents {
-            Some(contents) => contents.put_inst(place, inst),
+            Some(contents) => put_inst_own(contents, place, inst),
             None => Ok(()),
         }
     }

@@ -100,10 +100,10 @@ pub entered : (d : Design) → IsValid d → (old : Stand) (frame : Frame) (new 
 entered d valid old frame new stands done below moved =
     let i : ℕ = old.here.next in
     let path : List ℕ = old.path ++ i ∷ [] in
-    let to : Stand = record { above = old.above ++ going_on old.here (i + 1) ∷ []; here = frame; stage = Whole; path = path } in
+    let to : Stand = record { above = old.above ++ going_on old.here (i + 1) frame.upto ∷ []; here = frame; stage = Whole; path = path } in
     let same : new ≡ to = λ t. record { above = moved.above t; here = moved.here t; stage = moved.stage t; path = moved.path t } in
-    let up : IsFrame d old.path (going_on old.here (i + 1)) = record { reached = stands.here.reached; names = stands.here.names } in
-    let may : MayStand d to = record { above = lowest_added d [] old.path i old.above (going_on old.here (i + 1)) stands.above up; here = below.is; stage = tt } in
+    let up : IsFrame d old.path (going_on old.here (i + 1) frame.upto) = record { reached = stands.here.reached; names = stands.here.names } in
+    let may : MayStand d to = record { above = lowest_added d [] old.path i old.above (going_on old.here (i + 1) frame.upto) stands.above up; here = below.is; stage = tt } in
     let own = own_left d (record { path = path; cell = below.inst.of }) Whole in
     let inner = below_from d path below.inst.of 0 in
     let others = below_from d old.path old.here.cell (i + 1) in
@@ -113,7 +113,7 @@ entered d valid old frame new stands done below moved =
     ∙ ap (λ v. v ++ above) (below_opened d valid old.path old.here.cell i below.inst below.there)
     ∙ four own inner others above in
     let is : left d to ≡ own ++ (inner ++ (others ++ above)) =
-    ap (λ v. own_left d (record { path = path; cell = frame.cell }) Whole ++ (below_from d path frame.cell frame.next ++ v)) (above_pushed d [] old.path i old.above (going_on old.here (i + 1)) stands.above)
+    ap (λ v. own_left d (record { path = path; cell = frame.cell }) Whole ++ (below_from d path frame.cell frame.next ++ v)) (above_pushed d [] old.path i old.above (going_on old.here (i + 1) frame.upto) stands.above)
     ∙ ap (λ (c : CellId). own_left d (record { path = path; cell = c }) Whole ++ (below_from d path c frame.next ++ (others ++ above))) below.cell_is
     ∙ ap (λ n. own ++ (below_from d path below.inst.of n ++ (others ++ above))) below.fresh in
     (subst (MayStand d) (sym same) may, ap (left d) same ∙ is ∙ sym was)

@@ -1,4 +1,4 @@
 mod AtLemmas
-mod BelowLemmas
-mod LeftLemmas
+pub mod BelowLemmas
+pub mod LeftLemmas
 mod StartLemmas

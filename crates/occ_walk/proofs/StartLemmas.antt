@@ -35,7 +35,7 @@ pub went_down : (d : Design) (path : List ℕ) (old : Stand) (step count : ℕ) 
     → IsFrameBelow d old.path old.here.cell step frame → length (insts_at d old.here.cell) ≤ count → HasEntered old step count frame new
     → IsAtStart d (path ++ step ∷ []) new
 went_down d path old step count frame new start below past moved =
-    let up : Frame = going_on old.here count in
+    let up : Frame = going_on old.here count frame.upto in
     let here : IsFrame d old.path up = record { reached = start.stands.here.reached; names = start.stands.here.names } in
     let to : Stand = record { above = old.above ++ up ∷ []; here = frame; stage = Whole; path = old.path ++ step ∷ [] } in
     let same : new ≡ to = λ t. record { above = moved.above t; here = moved.here t; stage = moved.stage t; path = moved.path t } in

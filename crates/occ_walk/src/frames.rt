@@ -5,7 +5,7 @@ ghost use Rattle.netlist_schema.specs.Types.{Inst};
 ghost use Rattle.occ_walk.specs.Below.{IsFrameAt};
 ghost use Rattle.walk_items.specs.Stand.{IsFrame, IsGround, top_of};
 
-use cell_lookup::inst_at;
+use flat_lookup::inst_at;
 use net_names::{joints_on, names_below, top_names};
 use netlist_schema::{CellId, NoMemory, Shown};
 use walk_items::{Frame, Ground};
@@ -20,6 +20,9 @@ pub fn top_frame<S: Shown + Drop>(ground: &Ground<S>, top: CellId) -> Result<Fra
     Ok(Frame {
         cell: top,
         next: 0,
+        from: 0,
+        upto: 0,
+        near: 0,
         names: top_names(ground.alloc, &ground.design, top)?,
     })
 }
@@ -38,20 +41,23 @@ fn frame_below<S: Shown + Drop>(
     ensures frame { IfOk result (IsFrame (S.design ground.now.design) (path.now ++ step ∷ [])) }
     ensures fresh { IfOk result (λ frame. (frame.cell ≡ of) × (frame.next ≡ 0)) }
 {
-    let joints = joints_on(ground.classes.joints(here.cell), step);
+    let run = joints_on(ground.classes.joints(here.cell), here.near, step);
     let names = names_below(
         ground.alloc,
         &ground.design,
         &ground.classes,
         of,
         path.len() as u32 + 1,
-        joints,
+        run.joints,
         here.names.as_slice(),
         ground.classes.firsts(here.cell),
     )?;
     Ok(Frame {
         cell: of,
         next: 0,
+        from: run.from,
+        upto: run.upto,
+        near: 0,
         names,
     })
 }

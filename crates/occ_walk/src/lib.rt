@@ -2,8 +2,8 @@
 #![tactic(auto)]
 
 mod frames;
-mod start;
-mod steps;
+pub mod start;
+pub mod steps;
 pub mod walk;
 
 pub use walk::{Walk, WalkError};

@@ -6,7 +6,7 @@ ghost use Rattle.occ_walk.specs.Starts.{IsAtStart};
 ghost use Rattle.walk_items.specs.Stand.{IsGround, stand_of, top_of};
 
 use crate::frames::{frame_at, top_frame};
-use cell_lookup::insts_at;
+use flat_lookup::insts_at;
 use netlist_schema::{CellId, NoMemory, Shown};
 use placed_notes::Steps;
 use walk_items::{Ground, Place, Stage};

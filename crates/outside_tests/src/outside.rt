@@ -163,7 +163,7 @@ fn buffered(alloc: Global, length: Option<u64>, count: usize) -> Result<Buffered
 /// The length of a sink, the number of bytes of the second piece, and what comes of the two in a buffer.
 static BUFFERED: [(Option<u64>, usize, Buffered); 3] = [
     (None, 10, (0, 12, Ok(()))),
-    (None, 10_000, (10_002, 10_002, Ok(()))),
+    (None, 40_000, (40_002, 40_002, Ok(()))),
     (Some(5), 10, (0, 5, Err(WriteError::WriteFault))),
 ];
 

@@ -8,7 +8,7 @@ use Rattle.std.proofs.lemmas.List.Folds.{list_any-append}
 use Rattle.std.proofs.lemmas.List.Sums.{sum_by-cons}
 use Rattle.netlist_schema.specs.Design.{Design}
 use Rattle.netlist_schema.specs.Types.{CellId}
-use Rattle.edit_core.proofs.Lists.{Apart}
+use Rattle.edit_rules_spec.proofs.Lists.{Apart}
 use Rattle.flat_spec.specs.Occurrences.{Occurrence}
 use Rattle.uniquify_spec.specs.Blocks.{root_of}
 use Rattle.uniquify_spec.specs.Copies.{Copy, copies_after, copy_after}

@@ -9,7 +9,7 @@ use Rattle.netlist_schema.specs.Types.{CellId}
 use Rattle.netlist_schema.specs.Valid.{IsValid}
 use Rattle.flat_spec.proofs.PathLemmas.{slice_get-within}
 use Rattle.netlist_schema.proofs.WithCell.{same_id}
-use Rattle.edit_core.proofs.Lists.{Apart}
+use Rattle.edit_rules_spec.proofs.Lists.{Apart}
 use Rattle.flat_spec.proofs.ListLemmas.{Member}
 use Rattle.uniquify_spec.specs.Copies.{Copy}
 use Rattle.uniquify_spec.proofs.CopyLists.{AreNew, later_apart}

@@ -7,11 +7,11 @@ use Rattle.netlist_schema.specs.Design.{Design}
 use Rattle.netlist_schema.specs.Types.{CellId, Object, TopHead}
 use Rattle.netlist_schema.specs.Valid.{IsValid}
 use Rattle.netlist_schema.specs.declared.ids.Object.TheVariants.{Directory}
-use Rattle.edit_core.specs.Edit.{edited}
-use Rattle.edit_core.specs.Paths.{is_path, resolves}
-use Rattle.edit_core.specs.Rule.{Outcome, refuse, unless}
-use Rattle.edit_core.specs.declared.reply.Reply.{Reply}
-use Rattle.edit_core.specs.declared.reply.Reply.TheVariants.{Copies, NoPath, NoTop, TooMany}
+use Rattle.edit_rules_spec.specs.Edit.{edited}
+use Rattle.edit_rules_spec.specs.Paths.{is_path, resolves}
+use Rattle.edit_rules_spec.specs.Rule.{Outcome, refuse, unless}
+use Rattle.edit_rules_spec.specs.declared.reply.Reply.{Reply}
+use Rattle.edit_rules_spec.specs.declared.reply.Reply.TheVariants.{Copies, NoPath, NoTop, TooMany}
 use Rattle.edit_spec.specs.Needs.{Needs}
 use Rattle.edit_spec.specs.Rows.{outcome}
 use Rattle.edit_spec.specs.declared.ops.Op.TheVariants.{UniquePath}
@@ -23,8 +23,8 @@ use Rattle.uniquify_spec.specs.Needs.{UniquePathNeedsBelow}
 use Rattle.uniquify_spec.specs.Parts.{IsPartOf}
 use Rattle.uniquify_spec.specs.Rows.{below_top, too_many_cells}
 use Rattle.uniquify_spec.specs.Split.{Split, split_edits}
-use Rattle.cells_model.specs.Change.{HasMade, edits_of}
-use Rattle.cells_model.specs.State.{State, HasReadSome}
+use Rattle.edit_cells.specs.Change.{HasMade, edits_of}
+use Rattle.edit_cells.specs.State.{State, HasReadSome}
 use Rattle.eco_reads.specs.Done.{IsDone, IsDoneOrFails}
 use Rattle.eco_reads.specs.Plan.{IsGood}
 use Rattle.eco_reads.proofs.Reading.{done_made, done_read, read_nothing, read_some}

@@ -9,17 +9,17 @@ use Rattle.std.proofs.lemmas.List.Elements.{filter-append}
 use Rattle.netlist_schema.specs.Design.{Design, cell_at, insts_in}
 use Rattle.netlist_schema.specs.Hierarchy.{insts_at}
 use Rattle.netlist_schema.specs.Types.{CellId, Inst}
-use Rattle.edit_core.specs.Find.{inst_place}
-use Rattle.edit_core.specs.Paths.{resolves}
-use Rattle.edit_core.specs.Seen.{contents_at}
+use Rattle.edit_rules_spec.specs.Find.{inst_place}
+use Rattle.edit_rules_spec.specs.Paths.{resolves}
+use Rattle.edit_rules_spec.specs.Seen.{contents_at}
 use Rattle.flat_spec.specs.Occurrences.{Occurrence, under}
 use Rattle.flat_spec.proofs.ListLemmas.{Contains-member, Member-append_left, Member-append_right, Member-append_cases, Member-contains}
 use Rattle.uniquify_spec.specs.Blocks.{blocks, is_block, root_of, steps_along}
 use Rattle.uniquify_spec.specs.Parts.{IsPartOf}
 use Rattle.uniquify_spec.proofs.Reached.{block_of_inst}
 use Rattle.uniquify_spec.proofs.Agreed.{insts_inside}
-use Rattle.cells_model.specs.State.{State, HasRead}
-use Rattle.cells_model.proofs.Growing.{grows_by_same}
+use Rattle.edit_cells.specs.State.{State, HasRead}
+use Rattle.edit_cells.proofs.Growing.{grows_by_same}
 use Rattle.eco_reads.proofs.Reading.{read_then}
 use Rattle.block_reads.specs.ForBlocks.{IsForBlock}
 use Rattle.path_copies.specs.Along.{ArePathBlocks, HasGone, IsForEach, IsOnPath, IsStep, chain}

@@ -4,12 +4,12 @@ use Rattle.std.specs.List.{Contains}
 use Rattle.netlist_schema.specs.Design.{Design}
 use Rattle.netlist_schema.specs.Types.{CellId, Inst, Object}
 use Rattle.netlist_schema.specs.Hierarchy.{insts_at}
-use Rattle.edit_core.specs.Find.{inst_place}
-use Rattle.edit_core.specs.Paths.{resolves}
+use Rattle.edit_rules_spec.specs.Find.{inst_place}
+use Rattle.edit_rules_spec.specs.Paths.{resolves}
 use Rattle.flat_spec.specs.Occurrences.{Occurrence}
 use Rattle.uniquify_spec.specs.Blocks.{blocks, is_block, steps_along}
 use Rattle.uniquify_spec.specs.Parts.{IsPartOf}
-use Rattle.cells_model.specs.State.{State, HasRead}
+use Rattle.edit_cells.specs.State.{State, HasRead}
 use Rattle.block_reads.specs.ForBlocks.{IsForBlock}
 use Rattle.cell_copies.specs.declared.spot.Step.{Step}
 

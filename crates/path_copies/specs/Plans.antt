@@ -3,14 +3,14 @@ use Rattle.std.specs.Prelude.{◌≡◌, true, List, [], Option, Some, None, map
 use Rattle.netlist_schema.specs.Design.{Design}
 use Rattle.netlist_schema.specs.Types.{CellId}
 use Rattle.netlist_schema.specs.declared.limits.TheConstants.{MOST_CELLS}
-use Rattle.edit_core.specs.declared.reply.Reply.{Reply}
-use Rattle.edit_core.specs.declared.reply.Reply.TheVariants.{Copies, TooMany}
+use Rattle.edit_rules_spec.specs.declared.reply.Reply.{Reply}
+use Rattle.edit_rules_spec.specs.declared.reply.Reply.TheVariants.{Copies, TooMany}
 use Rattle.flat_spec.specs.Occurrences.{Occurrence}
 use Rattle.uniquify_spec.specs.Copies.{copies_after}
 use Rattle.uniquify_spec.specs.Rows.{too_many_cells}
 use Rattle.uniquify_spec.specs.Split.{Split, split_edits}
-use Rattle.cells_model.specs.Change.{CanAllBeMade, HasMade, edits_of}
-use Rattle.cells_model.specs.State.{State}
+use Rattle.edit_cells.specs.Change.{CanAllBeMade, HasMade, edits_of}
+use Rattle.edit_cells.specs.State.{State}
 use Rattle.cell_copies.specs.Drafts.{IsDraft, Marked, has_no_room}
 use Rattle.cell_copies.specs.declared.draft.Draft.{Draft}
 use Rattle.path_copies.specs.Along.{chain}

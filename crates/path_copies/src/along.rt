@@ -2,15 +2,15 @@
 ghost use Rattle.std.specs.Prelude.{◌≡◌, ◌++◌, [], ◌∷◌, IfOk, IfSome, MatchResult, OnErr, OnOk, cond, option_map};
 ghost use Rattle.std.specs.Option.{option_copied};
 ghost use Rattle.netlist_schema.specs.Design.{insts_in};
-ghost use Rattle.edit_core.specs.Seen.{contents_at};
-ghost use Rattle.cells_model.specs.Parts.{HasLimits};
-ghost use Rattle.cells_model.specs.State.{HasRead, HasReadSome};
+ghost use Rattle.edit_rules_spec.specs.Seen.{contents_at};
+ghost use Rattle.edit_cells.specs.Parts.{HasLimits};
+ghost use Rattle.edit_cells.specs.State.{HasRead, HasReadSome};
 ghost use Rattle.path_copies.specs.Along.{ArePathBlocks, HasGone, IsOnPath, IsStep};
 
 use block_reads::{read_block, read_cell};
 use cell_copies::Step;
-use cells_model::Cells;
 use eco_reads::find::inst_place;
+use edit_cells::Cells;
 use netlist_schema::{CellId, Contents, Ident, NoMemory, Row};
 use std::alloc::Global;
 

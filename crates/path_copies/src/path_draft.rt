@@ -2,12 +2,12 @@
 ghost use Rattle.std.specs.Prelude.{All, IfOk, ◌≡◌};
 ghost use Rattle.netlist_schema.specs.Hierarchy.{IsCell};
 ghost use Rattle.netlist_schema.specs.Types.{CellId};
-ghost use Rattle.cells_model.specs.State.{HasReadSome};
+ghost use Rattle.edit_cells.specs.State.{HasReadSome};
 ghost use Rattle.path_copies.specs.Plans.{IsChainDraft};
 
 use block_reads::step_at;
 use cell_copies::{Draft, Step};
-use cells_model::Cells;
+use edit_cells::Cells;
 use netlist_schema::NoMemory;
 use std::alloc::Global;
 

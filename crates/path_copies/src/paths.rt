@@ -2,7 +2,7 @@
 ghost use Rattle.std.specs.Prelude.{◌≡◌, IfOk, List, MatchResult, Some, [], ℕ};
 ghost use Rattle.netlist_schema.specs.Types.{TopHead};
 ghost use Rattle.netlist_schema.specs.Valid.{IsValid};
-ghost use Rattle.cells_model.specs.State.{HasReadSome};
+ghost use Rattle.edit_cells.specs.State.{HasReadSome};
 ghost use Rattle.uniquify_spec.specs.Blocks.{along_path, blocks, steps_along};
 ghost use Rattle.eco_reads.specs.Done.{IsDone, IsDoneOrFails};
 ghost use Rattle.path_copies.specs.Along.{chain};
@@ -12,7 +12,7 @@ use crate::along::blocks_along;
 use crate::path_draft::draft_blocks;
 use crate::plan::{Plan, plan_of, put_plan};
 use cell_copies::Step;
-use cells_model::Cells;
+use edit_cells::Cells;
 use edit_spec::{Op, Reply};
 use netlist_schema::{CellId, Ident, NoMemory, Row};
 use std::alloc::Global;

@@ -2,7 +2,7 @@
 ghost use Rattle.std.specs.Prelude.{◌≡◌, IfOk, IfSome, MatchResult, is_some, false};
 ghost use Rattle.std.specs.List.{count_by};
 ghost use Rattle.netlist_schema.specs.Valid.{IsValid};
-ghost use Rattle.cells_model.specs.State.{HasReadSome};
+ghost use Rattle.edit_cells.specs.State.{HasReadSome};
 ghost use Rattle.cell_copies.specs.Changes.{AreSeats};
 ghost use Rattle.cell_copies.specs.Drafts.{has_no_room};
 ghost use Rattle.cell_copies.specs.Seats.{copies_of, seats, split_of};
@@ -10,7 +10,7 @@ ghost use Rattle.eco_reads.specs.Plan.{IsGood};
 ghost use Rattle.path_copies.specs.Plans.{IsPlan, IsPut};
 
 use cell_copies::{Spot, split_change};
-use cells_model::{Cells, Change};
+use edit_cells::{Cells, Change};
 use edit_spec::Reply;
 use netlist_schema::limits::MOST_CELLS;
 use netlist_schema::{CellId, NoMemory};

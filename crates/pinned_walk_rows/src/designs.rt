@@ -1,10 +1,10 @@
 //! The design, and an edit of it.
 use edit_spec::{CellName, Op};
-use hand_designs::{CellPlan, Inside, Plan, design};
 use netlist_schema::{Design, Ident};
 use std::alloc::Global;
 use std::process::Abort;
 use std::test::Fail;
+use test_hand_designs::{CellPlan, Inside, Plan, design};
 
 const EMPTY: Inside = Inside {
     insts: &[],

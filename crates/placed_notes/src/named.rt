@@ -8,9 +8,9 @@ ghost use Rattle.netlist_schema.specs.declared.limits.TheConstants.{MOST_INSTS};
 ghost use Rattle.placed_notes.specs.Named.{AreNamed, ArePlaces};
 ghost use Rattle.placed_notes.specs.Ways.{IsNameFound};
 
-use cell_lookup::insts_at;
+use flat_lookup::insts_at;
 use indexmap::IndexMap;
-use netlist_schema::{CellId, Ident, Inst, NoMemory, Shown};
+use netlist_schema::{CellId, Ident, Inst, NoMemory, Shared, Shown};
 use std::alloc::Global;
 use std::collections::BTreeMap;
 
@@ -26,7 +26,7 @@ impl Drop for NamedPlaces {
 }
 
 /// The places of instances by their identifiers.
-fn places_of(alloc: Global, insts: &[Inst]) -> Result<IndexMap<Ident, u32>, NoMemory>
+fn places_of(alloc: Global, insts: &[Shared<Inst>]) -> Result<IndexMap<Ident, u32>, NoMemory>
     requires { length insts.now ≤ MOST_INSTS }
     ensures { IfOk result (λ places. ArePlaces insts.now (get (pointwise nat_eq) places)) }
 {

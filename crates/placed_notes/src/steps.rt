@@ -6,7 +6,7 @@ ghost use Rattle.placed_notes.specs.Named.{AreNamed};
 ghost use Rattle.placed_notes.specs.Ways.{IsWay};
 
 use crate::named::NamedPlaces;
-use cell_lookup::insts_at;
+use flat_lookup::insts_at;
 use netlist_schema::{CellId, NoMemory, Note, Shown};
 use std::alloc::Global;
 

@@ -7,14 +7,14 @@ use Rattle.netlist_schema.specs.Design.{Design, cell_at, insts_in, lib_at}
 use Rattle.netlist_schema.specs.Hierarchy.{IsBelow, IsCell, insts_at, placed, deeper}
 use Rattle.netlist_schema.specs.Types.{CellBody, CellId, End, Inst, Lib, LibId, Note, Object, TopHead}
 use Rattle.netlist_schema.specs.declared.ids.Object.TheVariants.{Directory}
-use Rattle.edit_core.specs.Find.{cell_named, inst_named, inst_place, lib_named}
-use Rattle.edit_core.specs.Objects.{IsClosed, IsThere, contents_object, face_object, face_of, of_contents, of_interface}
-use Rattle.edit_core.specs.Reading.{IsFaceOf, IsFor, IsForCell, IsForEnd, IsForLib, IsForName, IsForNotes, IsForPath, IsForPlacing, IsInside, IsNotesBelow, IsReached, IsReachedBy}
-use Rattle.edit_core.specs.Seen.{contents_at, inside, placed as placed_inst}
-use Rattle.edit_core.specs.declared.reply.CellName.{CellName}
-use Rattle.edit_core.proofs.Closed.{valid_is_closed}
-use Rattle.edit_core.proofs.Named.{inst_at, named_inst}
-use Rattle.edit_core.proofs.There.{named_cell_there, named_lib_there, some_map}
+use Rattle.edit_rules_spec.specs.Find.{cell_named, inst_named, inst_place, lib_named}
+use Rattle.edit_rules_spec.specs.Objects.{IsClosed, IsThere, contents_object, face_object, face_of, of_contents, of_interface}
+use Rattle.edit_rules_spec.specs.Reading.{IsFaceOf, IsFor, IsForCell, IsForEnd, IsForLib, IsForName, IsForNotes, IsForPath, IsForPlacing, IsInside, IsNotesBelow, IsReached, IsReachedBy}
+use Rattle.edit_rules_spec.specs.Seen.{contents_at, inside, placed as placed_inst}
+use Rattle.edit_rules_spec.specs.declared.reply.CellName.{CellName}
+use Rattle.edit_rules_spec.proofs.Closed.{valid_is_closed}
+use Rattle.edit_rules_spec.proofs.Named.{inst_at, named_inst}
+use Rattle.edit_rules_spec.proofs.There.{named_cell_there, named_lib_there, some_map}
 use Rattle.edit_spec.specs.Needs.{Needs}
 use Rattle.edit_spec.specs.ShowNet.{IsAtEnd, ends_of_net, inst_of_end}
 use Rattle.edit_spec.specs.declared.ops.Op.{Op}

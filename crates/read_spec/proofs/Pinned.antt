@@ -4,8 +4,8 @@ use Rattle.netlist_schema.specs.Design.{Design}
 use Rattle.netlist_schema.specs.Hierarchy.{IsCell}
 use Rattle.netlist_schema.specs.Types.{CellId, Object}
 use Rattle.netlist_schema.specs.declared.ids.Object.TheVariants.{Directory, Interface, Contents, Notes}
-use Rattle.edit_core.specs.Objects.{IsThere}
-use Rattle.edit_core.proofs.Closed.{valid_is_closed}
+use Rattle.edit_rules_spec.specs.Objects.{IsThere}
+use Rattle.edit_rules_spec.proofs.Closed.{valid_is_closed}
 use Rattle.edit_spec.specs.Needs.{Reads, Written}
 use Rattle.edit_spec.specs.Step.{run}
 use Rattle.edit_spec.specs.declared.ops.Op.{Op}

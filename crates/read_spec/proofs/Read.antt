@@ -7,11 +7,11 @@ use Rattle.netlist_schema.specs.Hierarchy.{IsCell}
 use Rattle.netlist_schema.specs.Names.{cell_names}
 use Rattle.netlist_schema.specs.Types.{CellBody, CellId, Lib, LibId, Object, TopHead}
 use Rattle.netlist_schema.specs.declared.ids.Object.TheVariants.{Directory, Interface, Contents, Notes}
-use Rattle.edit_core.specs.Edit.{Edit, fresh, inner, own, noted, IsChanged, IsMade}
-use Rattle.edit_core.specs.Rule.{first, unless}
-use Rattle.edit_core.specs.declared.reply.Reply.{Reply}
-use Rattle.edit_core.specs.Objects.{Agrees, Grown, IsClosed, IsThere, face_of, of_contents, of_directory, of_interface}
-use Rattle.edit_core.proofs.There.{there_stays, some_from_map}
+use Rattle.edit_rules_spec.specs.Edit.{Edit, fresh, inner, own, noted, IsChanged, IsMade}
+use Rattle.edit_rules_spec.specs.Rule.{first, unless}
+use Rattle.edit_rules_spec.specs.declared.reply.Reply.{Reply}
+use Rattle.edit_rules_spec.specs.Objects.{Agrees, Grown, IsClosed, IsThere, face_of, of_contents, of_directory, of_interface}
+use Rattle.edit_rules_spec.proofs.There.{there_stays, some_from_map}
 use Rattle.edit_spec.specs.Needs.{Needs, Reads, Writes, Written}
 use Rattle.edit_spec.specs.Rows.{row_of}
 use Rattle.edit_spec.specs.Step.{step}

@@ -3,7 +3,7 @@ use Rattle.std.specs.Prelude.{ℕ, List}
 use Rattle.netlist_schema.specs.Design.{Design}
 use Rattle.netlist_schema.specs.Types.{Object}
 use Rattle.netlist_schema.specs.Valid.{IsValid}
-use Rattle.edit_core.specs.Objects.{IsThere}
+use Rattle.edit_rules_spec.specs.Objects.{IsThere}
 use Rattle.edit_spec.specs.Needs.{Needs}
 use Rattle.edit_spec.specs.declared.ops.Op.{Op}
 use Rattle.history_spec.specs.Answers.{IsConflict}

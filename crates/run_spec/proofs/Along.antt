@@ -3,9 +3,9 @@ use Rattle.std.proofs.Common.{◌≡◌, ◌∙◌, ℕ, List, [], ◌∷◌, �
 use Rattle.netlist_schema.specs.Design.{Design}
 use Rattle.history_spec.specs.History.{Legal, version_at}
 use Rattle.history_spec.specs.declared.event.Event.{Event}
-use Rattle.session_spec.specs.Report.{transcript, word_text, last_design}
-use Rattle.session_spec.specs.Session.{Ending, Exchange, Held, Nothing, Runs, Word, exchanges}
-use Rattle.session_spec.specs.declared.script.Step.{Step}
+use Rattle.script_spec.specs.Report.{transcript, word_text, last_design}
+use Rattle.script_spec.specs.Session.{Ending, Exchange, Held, Nothing, Runs, Word, exchanges}
+use Rattle.script_spec.specs.declared.script.Step.{Step}
 use Rattle.run_spec.specs.Along.{Resumes}
 use Rattle.run_spec.specs.Calls.{Makes}
 use Rattle.run_spec.specs.Laws.{ComesFurther, ComesToBegin}

@@ -3,7 +3,7 @@ use Rattle.std.proofs.Common.{◌≡◌, ◌∙◌, ℕ, zero, suc, ◌≤◌, L
 use Rattle.std.specs.Prelude.{codes, decimal}
 use Rattle.netlist_schema.specs.Design.{Design}
 use Rattle.netlist_schema.specs.Types.{Object}
-use Rattle.edit_core.specs.declared.reply.Reply.{Reply}
+use Rattle.edit_rules_spec.specs.declared.reply.Reply.{Reply}
 use Rattle.edit_spec.specs.declared.ops.Op.{Op}
 use Rattle.history_spec.specs.Answers.{HasPlaces}
 use Rattle.history_spec.specs.History.{Legal, state_after, version_at}
@@ -12,10 +12,10 @@ use Rattle.history_spec.specs.declared.event.Answer.TheVariants as answer
 use Rattle.history_spec.specs.declared.event.Call.TheVariants as call
 use Rattle.history_spec.specs.declared.event.Event.{Event}
 use Rattle.history_spec.proofs.Histories.{version_stays}
-use Rattle.session_spec.specs.Report.{transcript}
-use Rattle.session_spec.specs.Session.{Began, Committed, Commits, Conflict, LogFull, Word, Exchange, Held, Nothing, OnPin, InBlock, On, Stop, Told, last_release, release, replied}
-use Rattle.session_spec.specs.Texts.{line}
-use Rattle.session_spec.specs.declared.script.Step.TheVariants as step
+use Rattle.script_spec.specs.Report.{transcript}
+use Rattle.script_spec.specs.Session.{Began, Committed, Commits, Conflict, LogFull, Word, Exchange, Held, Nothing, OnPin, InBlock, On, Stop, Told, last_release, release, replied}
+use Rattle.script_spec.specs.Texts.{line}
+use Rattle.script_spec.specs.declared.script.Step.TheVariants as step
 use Rattle.run_spec.specs.Calls.{HoldsJust, Makes, Writes}
 use Rattle.run_spec.specs.Lines.{GoesOn, IsBroken, IsFilled, RunsAgain}
 use Rattle.run_spec.proofs.Along.{behind_both, transcript-append}

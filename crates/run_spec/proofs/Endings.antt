@@ -5,10 +5,10 @@ use Rattle.history_spec.specs.Answers.{HasPlaces}
 use Rattle.history_spec.specs.History.{Legal, state_after, version_at}
 use Rattle.history_spec.specs.declared.event.Event.{Event}
 use Rattle.history_spec.proofs.Promised.{growth}
-use Rattle.session_spec.specs.Headline.{HoldsNone}
-use Rattle.session_spec.specs.Report.{transcript}
-use Rattle.session_spec.specs.Session.{Whole, Full, Exchange, Goes, Held, Nothing, Runs, Stop, Word, exchanges, last_release}
-use Rattle.session_spec.proofs.Stays.{filter_append}
+use Rattle.script_spec.specs.Headline.{HoldsNone}
+use Rattle.script_spec.specs.Report.{transcript}
+use Rattle.script_spec.specs.Session.{Whole, Full, Exchange, Goes, Held, Nothing, Runs, Stop, Word, exchanges, last_release}
+use Rattle.script_spec.proofs.Stays.{filter_append}
 use Rattle.run_spec.specs.Calls.{HoldsJust, Makes}
 use Rattle.run_spec.specs.Laws.{ComesToBreak, ComesToEnd, ComesToFull}
 use Rattle.run_spec.proofs.Along.{resumed, written_more, written_on}

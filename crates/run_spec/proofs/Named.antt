@@ -3,16 +3,16 @@ use Rattle.std.proofs.Common.{◌≡◌, ℕ, ◌-◌, ◌≤◌, List, [], ◌�
 use Rattle.std.specs.Prelude.{codes, decimal}
 use Rattle.netlist_schema.specs.Design.{Design}
 use Rattle.netlist_schema.specs.Types.{Object}
-use Rattle.edit_core.specs.Objects.{Grown, IsThere}
+use Rattle.edit_rules_spec.specs.Objects.{Grown, IsThere}
 use Rattle.history_spec.specs.History.{state_after, version_at}
 use Rattle.history_spec.specs.State.{head}
 use Rattle.history_spec.specs.declared.event.Event.{Event}
 use Rattle.history_spec.proofs.Histories.{version_stays}
 use Rattle.history_spec.proofs.Versions.{follows_after, grown_on}
-use Rattle.session_spec.specs.Report.{last_design, word_text}
-use Rattle.session_spec.specs.Session.{Conflict}
-use Rattle.session_spec.specs.Texts.{conflict_words, line}
-use Rattle.session_spec.proofs.Settled.{words_stay, later}
+use Rattle.script_spec.specs.Report.{last_design, word_text}
+use Rattle.script_spec.specs.Session.{Conflict}
+use Rattle.script_spec.specs.Texts.{conflict_words, line}
+use Rattle.script_spec.proofs.Settled.{words_stay, later}
 
 -- ---- along a history
 

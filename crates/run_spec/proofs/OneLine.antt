@@ -10,12 +10,12 @@ use Rattle.history_spec.specs.declared.event.Answer.TheVariants as answer
 use Rattle.history_spec.specs.declared.event.Call.TheVariants as call
 use Rattle.history_spec.specs.declared.event.Event.{Event}
 use Rattle.history_spec.proofs.Histories.{version_stays}
-use Rattle.report_spec.specs.Lines.{flattening_text}
-use Rattle.session_spec.specs.Report.{last_design, word_text}
-use Rattle.session_spec.specs.Session.{Abandoned, Began, Collected, Gone, LogFull, NoPin, NoVersion, Pinned, Released, Replied, Walked, Word, Exchange, Goes, Held, Nothing, OnPin, OffPin, InBlock, On, Stop, Told, last_release, release, reply_behind}
-use Rattle.session_spec.specs.Texts.{line}
-use Rattle.session_spec.specs.declared.script.Step.{Step}
-use Rattle.session_spec.specs.declared.script.Step.TheVariants as step
+use Rattle.flat_lines_spec.specs.Lines.{flattening_text}
+use Rattle.script_spec.specs.Report.{last_design, word_text}
+use Rattle.script_spec.specs.Session.{Abandoned, Began, Collected, Gone, LogFull, NoPin, NoVersion, Pinned, Released, Replied, Walked, Word, Exchange, Goes, Held, Nothing, OnPin, OffPin, InBlock, On, Stop, Told, last_release, release, reply_behind}
+use Rattle.script_spec.specs.Texts.{line}
+use Rattle.script_spec.specs.declared.script.Step.{Step}
+use Rattle.script_spec.specs.declared.script.Step.TheVariants as step
 use Rattle.run_spec.specs.Calls.{HoldsJust, Makes, Writes}
 use Rattle.run_spec.specs.Lines.{Begins, GoesOn, IsBroken, IsFilled, IsNoBlock}
 use Rattle.run_spec.proofs.Pins.{holds_after, one_released}

@@ -15,9 +15,9 @@ use Rattle.history_spec.specs.declared.event.Event.{Event}
 use Rattle.history_spec.proofs.Histories.{legal-left, legal-right, state_from-append}
 use Rattle.history_spec.proofs.Lists.{from_filter, in_head, in_tail, to_filter}
 use Rattle.history_spec.proofs.Sound.{IsFine, fine_after, fine_opening, is_sound, kept_up_after, one_pin}
-use Rattle.session_spec.specs.Headline.{HoldsNone}
-use Rattle.session_spec.specs.Session.{Exchange, Told, Held, Nothing, OnPin, OffPin, InBlock, exchanges, last_release, release}
-use Rattle.session_spec.proofs.Stays.{filter_append}
+use Rattle.script_spec.specs.Headline.{HoldsNone}
+use Rattle.script_spec.specs.Session.{Exchange, Told, Held, Nothing, OnPin, OffPin, InBlock, exchanges, last_release, release}
+use Rattle.script_spec.proofs.Stays.{filter_append}
 use Rattle.run_spec.specs.Calls.{HoldsJust, Makes, held_pins, pins_of}
 
 pub same_number : (n : ℕ) → (n == n) ≡ true

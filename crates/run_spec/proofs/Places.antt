@@ -2,10 +2,10 @@
 use Rattle.std.proofs.Common.{◌≡◌, ◌∙◌, ℕ, zero, suc, List, [], ◌∷◌, ◌++◌, Some, None, inl, inr, refl, sym, subst, append_assoc}
 use Rattle.netlist_schema.specs.Design.{Design}
 use Rattle.edit_spec.specs.declared.ops.Op.{Op}
-use Rattle.session_spec.specs.ScriptText.{Place, Free, Block, Holding, ArePlaced, behind}
-use Rattle.session_spec.specs.Session.{Word, LogFull, Commits, Ending, Whole, Full, Exchange, Goes, Held, Nothing, OnPin, OffPin, InBlock, Outcome, On, Stop, Runs, last_release, release}
-use Rattle.session_spec.specs.declared.script.Step.{Step}
-use Rattle.session_spec.specs.declared.script.Step.TheVariants.{Begin, Run, Commit, Abandon, Pin, PinAt, Walk, Release, Collect}
+use Rattle.script_spec.specs.ScriptText.{Place, Free, Block, Holding, ArePlaced, behind}
+use Rattle.script_spec.specs.Session.{Word, LogFull, Commits, Ending, Whole, Full, Exchange, Goes, Held, Nothing, OnPin, OffPin, InBlock, Outcome, On, Stop, Runs, last_release, release}
+use Rattle.script_spec.specs.declared.script.Step.{Step}
+use Rattle.script_spec.specs.declared.script.Step.TheVariants.{Begin, Run, Commit, Abandon, Pin, PinAt, Walk, Release, Collect}
 use Rattle.run_spec.specs.Lines.{place_of}
 
 -- ---- the place behind a line

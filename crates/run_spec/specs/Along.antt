@@ -3,10 +3,10 @@ use Rattle.std.specs.Prelude.{◌≡◌, ℕ, List, ◌++◌}
 use Rattle.netlist_schema.specs.Design.{Design}
 use Rattle.history_spec.specs.History.{Legal, version_at}
 use Rattle.history_spec.specs.declared.event.Event.{Event}
-use Rattle.session_spec.specs.Report.{transcript}
-use Rattle.session_spec.specs.ScriptText.{ArePlaced}
-use Rattle.session_spec.specs.Session.{Ending, Exchange, Held, Nothing, Runs, Word, exchanges}
-use Rattle.session_spec.specs.declared.script.Step.{Step}
+use Rattle.script_spec.specs.Report.{transcript}
+use Rattle.script_spec.specs.ScriptText.{ArePlaced}
+use Rattle.script_spec.specs.Session.{Ending, Exchange, Held, Nothing, Runs, Word, exchanges}
+use Rattle.script_spec.specs.declared.script.Step.{Step}
 use Rattle.run_spec.specs.Calls.{HoldsJust}
 use Rattle.run_spec.specs.Lines.{place_of}
 

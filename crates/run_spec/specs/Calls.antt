@@ -4,8 +4,8 @@ use Rattle.netlist_schema.specs.Design.{Design}
 use Rattle.history_spec.specs.History.{Legal, state_after}
 use Rattle.history_spec.specs.State.{State, LivePin, live_pin}
 use Rattle.history_spec.specs.declared.event.Event.{Event}
-use Rattle.session_spec.specs.Report.{transcript}
-use Rattle.session_spec.specs.Session.{Exchange, Held, Nothing, OnPin, OffPin, InBlock, Word, exchanges}
+use Rattle.script_spec.specs.Report.{transcript}
+use Rattle.script_spec.specs.Session.{Exchange, Held, Nothing, OnPin, OffPin, InBlock, Word, exchanges}
 
 -- the history went on, still legal, and in what came the caller made just these calls and had these answers
 pub record Makes (d : Design) (caller : ℕ) (old new : List Event) (done : List Exchange) : Type 0 where

@@ -3,10 +3,10 @@ use Rattle.std.specs.Prelude.{◌≡◌, ℕ, List, [], ◌∷◌, true, false}
 use Rattle.netlist_schema.specs.Design.{Design}
 use Rattle.history_spec.specs.History.{Legal}
 use Rattle.history_spec.specs.declared.event.Event.{Event}
-use Rattle.session_spec.specs.Headline.{Ran}
-use Rattle.session_spec.specs.ScriptText.{ArePlaced, Free}
-use Rattle.session_spec.specs.Session.{Held, Nothing, exchanges, last_release}
-use Rattle.session_spec.specs.declared.script.Step.{Step}
+use Rattle.script_spec.specs.Headline.{Ran}
+use Rattle.script_spec.specs.ScriptText.{ArePlaced, Free}
+use Rattle.script_spec.specs.Session.{Held, Nothing, exchanges, last_release}
+use Rattle.script_spec.specs.declared.script.Step.{Step}
 use Rattle.run_spec.specs.Along.{HasCome}
 use Rattle.run_spec.specs.Calls.{Makes}
 use Rattle.run_spec.specs.Lines.{GoesOn, IsBroken, IsFilled}

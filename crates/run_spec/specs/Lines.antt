@@ -9,9 +9,9 @@ use Rattle.history_spec.specs.State.{head}
 use Rattle.history_spec.specs.declared.event.Answer.TheVariants as answer
 use Rattle.history_spec.specs.declared.event.Call.TheVariants as call
 use Rattle.history_spec.specs.declared.event.Event.{Event}
-use Rattle.session_spec.specs.ScriptText.{Place, Free, Block, Holding}
-use Rattle.session_spec.specs.Session.{Began, Conflict, Exchange, Goes, Held, Nothing, OnPin, OffPin, InBlock, Outcome, On, Stop, Told, Word, last_release, release, replied}
-use Rattle.session_spec.specs.declared.script.Step.{Step}
+use Rattle.script_spec.specs.ScriptText.{Place, Free, Block, Holding}
+use Rattle.script_spec.specs.Session.{Began, Conflict, Exchange, Goes, Held, Nothing, OnPin, OffPin, InBlock, Outcome, On, Stop, Told, Word, last_release, release, replied}
+use Rattle.script_spec.specs.declared.script.Step.{Step}
 use Rattle.run_spec.specs.Calls.{HoldsJust, Makes, Writes}
 
 -- the place in the text, by what is held

@@ -3,9 +3,9 @@ use Rattle.std.specs.Prelude.{◌≡◌, ℕ, List, ◌++◌}
 use Rattle.netlist_schema.specs.Design.{Design}
 use Rattle.history_spec.specs.History.{version_at}
 use Rattle.history_spec.specs.declared.event.Event.{Event}
-use Rattle.session_spec.specs.Headline.{HoldsNone}
-use Rattle.session_spec.specs.Session.{Ending, Exchange, Held, Nothing, Runs, Word, exchanges, last_release}
-use Rattle.session_spec.specs.declared.script.Step.{Step}
+use Rattle.script_spec.specs.Headline.{HoldsNone}
+use Rattle.script_spec.specs.Session.{Ending, Exchange, Held, Nothing, Runs, Word, exchanges, last_release}
+use Rattle.script_spec.specs.declared.script.Step.{Step}
 
 -- A script was run as a caller who had no events before, and was broken off: the caller's calls are the first ones of some session
 -- of the script, and then the release of a held pin; and no pin of the caller is live.

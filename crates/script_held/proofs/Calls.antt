@@ -6,7 +6,7 @@ use Rattle.history_spec.specs.declared.event.Answer.TheVariants.{Released}
 use Rattle.history_spec.specs.declared.event.Call.TheVariants.{Release}
 use Rattle.history_spec.specs.declared.event.Event.{Event}
 use Rattle.turn_cell.specs.Seats.{entries_of}
-use Rattle.session_spec.specs.Session.{Exchange, Told, last_release, release}
+use Rattle.script_spec.specs.Session.{Exchange, Told, last_release, release}
 use Rattle.run_spec.specs.Calls.{Makes}
 use Rattle.run_spec.proofs.OneLine.{makes_nothing}
 use Rattle.edit_tx.specs.Facts.{PinFacts}

@@ -2,7 +2,7 @@
 use Rattle.std.specs.Prelude.{Bool, true, false, Option, Some, None, Result, Ok, Err}
 use Rattle.edit_tx.specs.Facts.{PinFacts}
 use Rattle.netlist_schema.specs.declared.memory.NoMemory.{NoMemory}
-use Rattle.session_spec.specs.Session.{Held as SessionHeld, Nothing, OnPin, OffPin, InBlock}
+use Rattle.script_spec.specs.Session.{Held as SessionHeld, Nothing, OnPin, OffPin, InBlock}
 use Rattle.db_share.specs.Passes.{Shared, Pass, HasPin}
 use Rattle.script_held.specs.declared.held.Block.{Block}
 use Rattle.script_held.specs.declared.held.Held.{Held}

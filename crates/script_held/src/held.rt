@@ -1,6 +1,6 @@
 //! What a script holds between two of its lines, and why it stops before its end.
 ghost use Rattle.std.specs.Prelude.{◌≡◌};
-ghost use Rattle.session_spec.specs.Session.{last_release};
+ghost use Rattle.script_spec.specs.Session.{last_release};
 ghost use Rattle.run_spec.specs.Calls.{Makes};
 ghost use Rattle.db_share.specs.Passes.{IsReady};
 ghost use Rattle.db_share.specs.Calls.{GoesOn};

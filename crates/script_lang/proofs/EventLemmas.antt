@@ -4,9 +4,9 @@ use Rattle.std.specs.Prelude.{codes}
 use Rattle.edif_names.specs.Parts.{Grows}
 use Rattle.edit_spec.specs.declared.ops.Op.{Op}
 use Rattle.edit_spec.specs.declared.ops.Op.TheVariants as op
-use Rattle.edit_core.specs.declared.reply.Reply.{Reply}
-use Rattle.session_spec.specs.Lines.{op_text}
-use Rattle.session_spec.specs.Texts.{op_lines, reply_text}
+use Rattle.edit_rules_spec.specs.declared.reply.Reply.{Reply}
+use Rattle.script_spec.specs.Lines.{op_text}
+use Rattle.script_spec.specs.Texts.{op_lines, reply_text}
 use Rattle.script_texts.specs.Parts.{behind_blanks, op_words}
 use Rattle.script_texts.proofs.LineLemmas.{IsFilled, blank_filled}
 use Rattle.script_lang.specs.Parts.{op_line}

@@ -3,8 +3,8 @@ ghost use Rattle.std.specs.Prelude.{◌≡◌, ◌∷◌, [], ◌++◌, codes, d
 ghost use Rattle.std.specs.Fmt.{decimal};
 ghost use Rattle.std.specs.Option.{option_copied};
 ghost use Rattle.edif_names.specs.Parts.{Grows};
-ghost use Rattle.report_spec.specs.Lines.{spaced};
-ghost use Rattle.session_spec.specs.Texts.{answer_words, call_words, conflict_words, event_text, op_lines, ops_of, replies_of};
+ghost use Rattle.flat_lines_spec.specs.Lines.{spaced};
+ghost use Rattle.script_spec.specs.Texts.{answer_words, call_words, conflict_words, event_text, op_lines, ops_of, replies_of};
 ghost use Rattle.script_texts.specs.Parts.{behind_blanks};
 ghost use Rattle.script_lang.specs.Parts.{event_words, op_line, told_text};
 

@@ -5,5 +5,5 @@ pub mod events;
 
 pub use events::event_text;
 pub use script_reader::{ScriptError, parse};
+pub use script_spec::{Script, ScriptLine, Step};
 pub use script_texts::{object_text, reply_text, texts};
-pub use session_spec::{Script, ScriptLine, Step};

@@ -1,14 +1,14 @@
 -- An operation by its verb.
 use Rattle.std.proofs.Common.{◌≡◌, List, ℕ, Bool, [], ◌∷◌, ◌++◌, map}
 use Rattle.netlist_schema.specs.Types.{Property}
-use Rattle.edit_core.specs.declared.reply.CellName.{CellName}
-use Rattle.edit_core.specs.declared.reply.EndName.{EndName}
+use Rattle.edit_rules_spec.specs.declared.reply.CellName.{CellName}
+use Rattle.edit_rules_spec.specs.declared.reply.EndName.{EndName}
 use Rattle.edit_spec.specs.declared.ops.Op.{Op}
 use Rattle.edit_spec.specs.declared.ops.Op.TheVariants as op
 use Rattle.edit_spec.specs.declared.ops.PortDecl.{PortDecl}
 use Rattle.edit_spec.specs.declared.ops.Target.{Target}
-use Rattle.session_spec.specs.Lines.{cell_pieces, end_pieces, leaf_word, name, path_piece, port_piece, property_pieces, said, target_pieces}
-use Rattle.session_spec.specs.Pieces.{SpellPieces}
+use Rattle.script_spec.specs.Lines.{cell_pieces, end_pieces, leaf_word, name, path_piece, port_piece, property_pieces, said, target_pieces}
+use Rattle.script_spec.specs.Pieces.{SpellPieces}
 use Rattle.script_ops.specs.Verbs.{op_rest, verb_of_op}
 use Rattle.script_ops.specs.declared.verbs.Inside.{Inside}
 use Rattle.script_ops.specs.declared.verbs.Inside.TheVariants as inside

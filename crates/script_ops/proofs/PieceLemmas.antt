@@ -6,10 +6,10 @@ use Rattle.std.proofs.lemmas.List.{drop_all, drop_more}
 use Rattle.std.proofs.lemmas.List.Splits.{join_with_byte-slice_split, length-slice_split}
 use Rattle.netlist_schema.specs.Ident.{IsIdentifier}
 use Rattle.edit_spec.specs.declared.ops.PortDecl.{PortDecl}
-use Rattle.session_spec.specs.Lines.{path_piece, port_piece, width_atoms}
-use Rattle.session_spec.specs.Pieces.{Atom, Named, Number, Joined, Piece, joined, SpellAtoms, SpellPieces, SpellsAtom, SpellsPiece}
-use Rattle.session_spec.proofs.OneStep.{names_free, port_free}
-use Rattle.session_spec.proofs.Spelled.{AtomsAreFree, parts_spelled}
+use Rattle.script_spec.specs.Lines.{path_piece, port_piece, width_atoms}
+use Rattle.script_spec.specs.Pieces.{Atom, Named, Number, Joined, Piece, joined, SpellAtoms, SpellPieces, SpellsAtom, SpellsPiece}
+use Rattle.script_spec.proofs.OneStep.{names_free, port_free}
+use Rattle.script_spec.proofs.Spelled.{AtomsAreFree, parts_spelled}
 use Rattle.script_ops.specs.Pieces.{AreNames, port_atoms}
 use Rattle.script_words.specs.Reading.{lent, Reads}
 use Rattle.script_words.specs.declared.unread.Unread.{Unread}

@@ -5,9 +5,9 @@ use Rattle.netlist_schema.specs.Types.{Value}
 use Rattle.netlist_schema.specs.declared.property.Num.TheVariants as numbers
 use Rattle.netlist_schema.specs.declared.property.Value.TheVariants as values
 use Rattle.edif_spec.specs.Means.{equal}
-use Rattle.spelling_spec.specs.Grammar.{SpellsString}
-use Rattle.session_spec.specs.Lines.{value_pieces}
-use Rattle.session_spec.specs.Pieces.{Alone, Quoted, SpellPieces}
+use Rattle.edif_spelling_spec.specs.Grammar.{SpellsString}
+use Rattle.script_spec.specs.Lines.{value_pieces}
+use Rattle.script_spec.specs.Pieces.{Alone, Quoted, SpellPieces}
 use Rattle.script_words.specs.Reading.{Reads}
 use Rattle.script_ops.specs.Values.{kind_of, kind_word, ReadsValue, value_rest}
 use Rattle.script_words.specs.declared.unread.Unread.{Unread}

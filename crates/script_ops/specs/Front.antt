@@ -1,7 +1,7 @@
 -- What it is to take words from the front of others.
 use Rattle.std.specs.Prelude.{◌≡◌, ℕ, List, ◌++◌, Result, MatchResult}
 use Rattle.std.specs.Borrow.{Bor}
-use Rattle.session_spec.specs.Pieces.{Piece, SpellPieces}
+use Rattle.script_spec.specs.Pieces.{Piece, SpellPieces}
 use Rattle.script_words.specs.Reading.{lent}
 use Rattle.script_words.specs.declared.unread.Unread.{Unread}
 use Rattle.script_words.specs.declared.unread.Unread.TheVariants.{Bad}

@@ -2,8 +2,8 @@
 use Rattle.std.specs.Prelude.{ℕ, List, [], ◌∷◌}
 use Rattle.edit_spec.specs.declared.ops.PortDecl.{PortDecl}
 use Rattle.netlist_schema.specs.Ident.{IsIdentifier}
-use Rattle.session_spec.specs.Lines.{direction_word, width_atoms}
-use Rattle.session_spec.specs.Pieces.{Atom, Said, Named}
+use Rattle.script_spec.specs.Lines.{direction_word, width_atoms}
+use Rattle.script_spec.specs.Pieces.{Atom, Said, Named}
 
 -- each is an identifier
 abbrev pub AreNames : List (List ℕ) → Type 0

@@ -4,8 +4,8 @@ use Rattle.netlist_schema.specs.Types.{Value}
 use Rattle.netlist_schema.specs.declared.property.Num.{Num}
 use Rattle.netlist_schema.specs.declared.property.Num.TheVariants as numbers
 use Rattle.netlist_schema.specs.declared.property.Value.TheVariants as values
-use Rattle.session_spec.specs.Lines.{said}
-use Rattle.session_spec.specs.Pieces.{Alone, Exponent, Integer, Quoted, Piece, SpellPieces}
+use Rattle.script_spec.specs.Lines.{said}
+use Rattle.script_spec.specs.Pieces.{Alone, Exponent, Integer, Quoted, Piece, SpellPieces}
 use Rattle.script_words.specs.declared.unread.Unread.{Unread}
 use Rattle.script_words.specs.declared.unread.Unread.TheVariants.{Bad}
 use Rattle.script_ops.specs.declared.values.Kind.{Kind}

@@ -6,8 +6,8 @@ use Rattle.netlist_schema.specs.Types.{Value}
 use Rattle.netlist_schema.specs.declared.property.Value.TheVariants.{Text}
 use Rattle.edit_spec.specs.declared.ops.Op.{Op}
 use Rattle.edit_spec.specs.declared.ops.Op.TheVariants as op
-use Rattle.session_spec.specs.Lines.{IsPlainOp, said, name, cell_pieces, path_piece, end_pieces, target_pieces, property_pieces, port_piece, leaf_word}
-use Rattle.session_spec.specs.Pieces.{Piece, SpellPieces}
+use Rattle.script_spec.specs.Lines.{IsPlainOp, said, name, cell_pieces, path_piece, end_pieces, target_pieces, property_pieces, port_piece, leaf_word}
+use Rattle.script_spec.specs.Pieces.{Piece, SpellPieces}
 use Rattle.script_words.specs.declared.unread.Unread.{Unread}
 use Rattle.script_words.specs.declared.unread.Unread.TheVariants.{Bad}
 use Rattle.script_ops.specs.declared.verbs.Verb.{Verb}

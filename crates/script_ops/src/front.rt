@@ -1,7 +1,7 @@
 //! Words taken from the front of a line.
 ghost use Rattle.std.specs.Prelude.{◌≡◌, ◌∷◌, [], MatchResult};
-ghost use Rattle.session_spec.specs.Lines.{cell_pieces, end_pieces, inst_piece, leaf_word, name, number, path_piece, said, target_pieces};
-ghost use Rattle.session_spec.specs.Pieces.{Piece, SpellPieces};
+ghost use Rattle.script_spec.specs.Lines.{cell_pieces, end_pieces, inst_piece, leaf_word, name, number, path_piece, said, target_pieces};
+ghost use Rattle.script_spec.specs.Pieces.{Piece, SpellPieces};
 ghost use Rattle.script_words.specs.Reading.{lent, Reads};
 ghost use Rattle.script_ops.specs.Front.{TakesFront};
 ghost use Rattle.script_words.specs.declared.unread.Unread.TheVariants.{Bad};

@@ -1,7 +1,7 @@
 //! Operations, from the words behind the first.
 ghost use Rattle.std.specs.Prelude.{◌≡◌, ◌∷◌, ◌++◌, []};
-ghost use Rattle.session_spec.specs.Lines.{cell_pieces, name, IsPlainOp};
-ghost use Rattle.session_spec.specs.Pieces.{SpellPieces};
+ghost use Rattle.script_spec.specs.Lines.{cell_pieces, name, IsPlainOp};
+ghost use Rattle.script_spec.specs.Pieces.{SpellPieces};
 ghost use Rattle.script_words.specs.Reading.{lent, Reads};
 ghost use Rattle.script_ops.specs.Verbs.{op_rest, OpHasBytes, ReadsOp, verb_of_op};
 ghost use Rattle.script_ops.specs.declared.verbs.OpVerb.TheVariants as verbs;

@@ -2,8 +2,8 @@
 ghost use Rattle.std.specs.Prelude.{◌≡◌, ◌==◌, ◌≤◌, ◌∷◌, [], IfOk, MatchOption, MatchResult, map};
 ghost use Rattle.std.specs.List.{slice_split};
 ghost use Rattle.netlist_schema.specs.declared.limits.TheConstants.{MOST_WIDTH};
-ghost use Rattle.session_spec.specs.Lines.{direction_word, inst_piece, leaf_word, path_piece, port_piece, width_atoms};
-ghost use Rattle.session_spec.specs.Pieces.{SpellAtoms, SpellPieces, SpellsPiece};
+ghost use Rattle.script_spec.specs.Lines.{direction_word, inst_piece, leaf_word, path_piece, port_piece, width_atoms};
+ghost use Rattle.script_spec.specs.Pieces.{SpellAtoms, SpellPieces, SpellsPiece};
 ghost use Rattle.script_ops.specs.Pieces.{AreNames, port_atoms};
 ghost use Rattle.script_words.specs.Reading.{lent, Reads};
 ghost use Rattle.script_words.specs.declared.unread.Unread.TheVariants.{Bad};

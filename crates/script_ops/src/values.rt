@@ -1,7 +1,7 @@
 //! Values and properties.
 ghost use Rattle.std.specs.Prelude.{◌≡◌, ◌≢◌, ◌∷◌, [], codes, IfOk, MatchResult};
-ghost use Rattle.session_spec.specs.Lines.{IsPlainProperty, property_pieces, said, value_pieces};
-ghost use Rattle.session_spec.specs.Pieces.{Alone, Exponent, SpellPieces};
+ghost use Rattle.script_spec.specs.Lines.{IsPlainProperty, property_pieces, said, value_pieces};
+ghost use Rattle.script_spec.specs.Pieces.{Alone, Exponent, SpellPieces};
 ghost use Rattle.script_words.specs.Reading.{lent, Reads};
 ghost use Rattle.script_ops.specs.Values.{kind_word, num_rest, ReadsValue};
 ghost use Rattle.script_ops.specs.Verbs.{HasBytes};

@@ -5,7 +5,7 @@ use Rattle.std.specs.List.{list_all}
 use Rattle.std.proofs.lemmas.Bool.{eq-eqb}
 use Rattle.std.proofs.lemmas.Bool.Decides.{eqb_tells}
 use Rattle.script_reader.specs.Parts.{last_line}
-use Rattle.session_spec.specs.ScriptText.{is_blank, lines_of_parts, trimmed, without_return}
+use Rattle.script_spec.specs.ScriptText.{is_blank, lines_of_parts, trimmed, without_return}
 
 pub dropped : (front : List ℕ) (b : ℕ) → eqb b 13 ≡ true → without_return (front ++ b ∷ []) ≡ front
 dropped [] b e = ap (λ t. cond t [] (b ∷ [])) e

@@ -6,12 +6,12 @@ use Rattle.std.proofs.lemmas.List.{drop_more, map-append, take-append-drop, take
 use Rattle.std.proofs.lemmas.List.Elements.{All-from_recursion}
 use Rattle.std.proofs.lemmas.List.Kept.{AllPairs-cons}
 use Rattle.netlist_schema.proofs.Lists.{all_push, all_weaker}
-use Rattle.session_spec.specs.Lines.{IsSayable}
-use Rattle.session_spec.specs.ScriptText.{AreScript, AreSome, ArePlaced, Free, IsFirstBad, IsScript, IsScriptText, lines_of, Parts, Place, Says, SayLines, behind, is_comment, steps_of, words}
-use Rattle.session_spec.specs.declared.script.ScriptLine.{ScriptLine}
-use Rattle.session_spec.specs.declared.script.Step.{Step}
-use Rattle.session_spec.proofs.OneScript.{one_reading}
-use Rattle.session_spec.proofs.OneStep.{one_step}
+use Rattle.script_spec.specs.Lines.{IsSayable}
+use Rattle.script_spec.specs.ScriptText.{AreScript, AreSome, ArePlaced, Free, IsFirstBad, IsScript, IsScriptText, lines_of, Parts, Place, Says, SayLines, behind, is_comment, steps_of, words}
+use Rattle.script_spec.specs.declared.script.ScriptLine.{ScriptLine}
+use Rattle.script_spec.specs.declared.script.Step.{Step}
+use Rattle.script_spec.proofs.OneScript.{one_reading}
+use Rattle.script_spec.proofs.OneStep.{one_step}
 use Rattle.script_words.specs.Reading.{lent}
 use Rattle.script_reader.proofs.WordLemmas.{lines_are_few}
 use Rattle.script_reader.specs.Line.{AreRead, Goes, IsBadLine, IsFirst, Leads, SaysIt}

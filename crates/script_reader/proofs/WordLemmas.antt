@@ -7,9 +7,9 @@ use Rattle.std.proofs.lemmas.List.{drop_all, drop_at, take_all}
 use Rattle.std.proofs.lemmas.List.Sums.{passes_at_first, split_at_first}
 use Rattle.edif_strings.proofs.CutLemmas.{cond_none, position_cases}
 use Rattle.std.proofs.lemmas.List.Splits.{length-slice_split}
-use Rattle.spelling_spec.specs.Bytes.{is_quote}
-use Rattle.spelling_spec.specs.Names.{is_empty}
-use Rattle.session_spec.specs.ScriptText.{extended, from_quote, is_blank, is_line_feed, lines_of, lines_of_parts, trimmed, words}
+use Rattle.edif_spelling_spec.specs.Bytes.{is_quote}
+use Rattle.edif_spelling_spec.specs.Names.{is_empty}
+use Rattle.script_spec.specs.ScriptText.{extended, from_quote, is_blank, is_line_feed, lines_of, lines_of_parts, trimmed, words}
 
 -- ---- the last part of a list that is cut is its end
 

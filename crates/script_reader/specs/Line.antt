@@ -1,11 +1,11 @@
 -- Lines read one after another.
 use Rattle.std.specs.Prelude.{◌≡◌, ◌⊎◌, ◌+◌, ℕ, List, [], ◌∷◌, ◌++◌, length, true, false, Option, Some, Result, MatchOption, MatchResult}
 use Rattle.std.specs.List.{AllByRecursion}
-use Rattle.session_spec.specs.Lines.{IsSayable}
-use Rattle.session_spec.specs.ScriptText as text
-use Rattle.session_spec.specs.ScriptText.{AreSome, Says, SayLines, behind, is_comment, steps_of, words}
-use Rattle.session_spec.specs.declared.script.ScriptLine.{ScriptLine}
-use Rattle.session_spec.specs.declared.script.Step.{Step}
+use Rattle.script_spec.specs.Lines.{IsSayable}
+use Rattle.script_spec.specs.ScriptText as text
+use Rattle.script_spec.specs.ScriptText.{AreSome, Says, SayLines, behind, is_comment, steps_of, words}
+use Rattle.script_spec.specs.declared.script.ScriptLine.{ScriptLine}
+use Rattle.script_spec.specs.declared.script.Step.{Step}
 use Rattle.script_reader.specs.declared.script.Place.{Place}
 use Rattle.script_reader.specs.declared.script.Place.TheVariants.{Free, Block, Holding}
 use Rattle.script_reader.specs.declared.script.Progress.{Progress}

@@ -1,9 +1,9 @@
 -- The verb of a step, and what stands behind the first word of its line.
 use Rattle.std.specs.Prelude.{◌≡◌, ◌⊎◌, ℕ, List, [], ◌∷◌, Option, None, Some, Result, codes, MatchResult}
-use Rattle.session_spec.specs.declared.script.Step.{Step}
-use Rattle.session_spec.specs.declared.script.Step.TheVariants as step
-use Rattle.session_spec.specs.Lines.{IsPlainOp, said, number}
-use Rattle.session_spec.specs.Pieces.{Piece, Alone, Number, SpellPieces}
+use Rattle.script_spec.specs.declared.script.Step.{Step}
+use Rattle.script_spec.specs.declared.script.Step.TheVariants as step
+use Rattle.script_spec.specs.Lines.{IsPlainOp, said, number}
+use Rattle.script_spec.specs.Pieces.{Piece, Alone, Number, SpellPieces}
 use Rattle.script_words.specs.declared.unread.Unread.{Unread}
 use Rattle.script_words.specs.declared.unread.Unread.TheVariants.{Bad}
 use Rattle.script_ops.specs.Verbs.{op_rest, OpHasBytes, verb_of_op}

@@ -2,7 +2,7 @@
 ghost use Rattle.std.specs.Prelude.{◌≡◌, ◌++◌, map, IfOk, OnOk};
 ghost use Rattle.std.specs.List.{slice_split};
 ghost use Rattle.script_reader.specs.Parts.{last_line};
-ghost use Rattle.session_spec.specs.ScriptText.{is_blank, is_line_feed, lines_of, trimmed, without_return};
+ghost use Rattle.script_spec.specs.ScriptText.{is_blank, is_line_feed, lines_of, trimmed, without_return};
 
 use netlist_schema::NoMemory;
 use std::alloc::{AllocError, Global};

@@ -1,17 +1,17 @@
 //! Words of a line, and what it says.
 ghost use Rattle.std.specs.Prelude.{◌≡◌, ◌++◌, ◌<◌, ◌≤◌, ◌+◌, IfOk, IfSome, IfNone, filter, not, MatchOption, OnOk, length};
 ghost use Rattle.std.specs.List.{before_first, list_any, position};
-ghost use Rattle.spelling_spec.specs.Bytes.{is_quote};
-ghost use Rattle.spelling_spec.specs.Names.{is_empty};
-ghost use Rattle.session_spec.specs.ScriptText.{is_comment, words};
+ghost use Rattle.edif_spelling_spec.specs.Bytes.{is_quote};
+ghost use Rattle.edif_spelling_spec.specs.Names.{is_empty};
+ghost use Rattle.script_spec.specs.ScriptText.{is_comment, words};
 ghost use Rattle.script_words.specs.Reading.{lent};
 ghost use Rattle.script_reader.specs.Line.{ReadsLine};
 
 use crate::cut::{blank_parts, trimmed};
 use crate::steps::read_step;
 use netlist_schema::NoMemory;
+use script_spec::Step;
 use script_words::unread::Unread;
-use session_spec::Step;
 use std::alloc::Global;
 
 /// The place of the first quote.

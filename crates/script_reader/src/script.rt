@@ -1,8 +1,8 @@
 //! Reads a script.
 ghost use Rattle.std.specs.Prelude.{◌≡◌, ◌≤◌, ◌<◌, ◌+◌, IfOk, IfErr, MatchResult, length, ℕ};
 ghost use Rattle.std.specs.Option.{option_map};
-ghost use Rattle.session_spec.specs.ScriptText as text;
-ghost use Rattle.session_spec.specs.ScriptText.{IsFirstBad, IsScriptText};
+ghost use Rattle.script_spec.specs.ScriptText as text;
+ghost use Rattle.script_spec.specs.ScriptText.{IsFirstBad, IsScriptText};
 ghost use Rattle.script_reader.specs.Line.{AreRead, Goes, IsBadLine, IsFirst, place_of};
 ghost use Rattle.script_words.specs.Reading.{lent};
 ghost use Rattle.script_words.specs.declared.unread.Unread.TheVariants.{Bad};
@@ -11,8 +11,8 @@ ghost use Rattle.script_reader.specs.declared.script.ScriptError.TheVariants.{No
 use crate::cut::cut_lines;
 use crate::line::read_line;
 use netlist_schema::{NoMemory, Row};
+use script_spec::{Script, ScriptLine, Step};
 use script_words::unread::Unread;
-use session_spec::{Script, ScriptLine, Step};
 use std::alloc::Global;
 
 /// Why a text was not read as a script.

@@ -1,8 +1,8 @@
 //! Steps, from the words of a line.
 ghost use Rattle.std.specs.Prelude.{◌∷◌, [], codes, IfOk};
-ghost use Rattle.session_spec.specs.Lines.{IsSayable, number, said};
-ghost use Rattle.session_spec.specs.Pieces.{Alone, Number, SpellPieces};
-ghost use Rattle.session_spec.specs.ScriptText.{SayStep};
+ghost use Rattle.script_spec.specs.Lines.{IsSayable, number, said};
+ghost use Rattle.script_spec.specs.Pieces.{Alone, Number, SpellPieces};
+ghost use Rattle.script_spec.specs.ScriptText.{SayStep};
 ghost use Rattle.script_words.specs.Reading.{lent, Reads};
 ghost use Rattle.script_reader.specs.Steps.{IsStepOf, limit_pieces, ReadsStep, SaysRetries};
 ghost use Rattle.script_ops.specs.declared.verbs.Verb.TheVariants as verbs;
@@ -10,9 +10,9 @@ ghost use Rattle.script_ops.specs.declared.verbs.Verb.TheVariants as verbs;
 use script_ops::front::{finished, first, only};
 use script_ops::ops::read_op;
 use script_ops::verbs::{Bare, OpVerb, Verb, find_verb};
+use script_spec::Step;
 use script_words::atoms::number;
 use script_words::unread::Unread;
-use session_spec::Step;
 use std::alloc::Global;
 
 /// `retry` and a number.

@@ -3,7 +3,7 @@ use Rattle.std.proofs.Common.{◌≡◌, ◌∙◌, ℕ, suc, ◌+◌, ◌<◌, 
 use Rattle.std.proofs.lemmas.Grind.{flat_map-append, take_at_read}
 use Rattle.std.specs.Prelude.{OnOk}
 use Rattle.netlist_schema.specs.Design.{Design}
-use Rattle.edit_core.specs.declared.reply.Reply.{Reply}
+use Rattle.edit_rules_spec.specs.declared.reply.Reply.{Reply}
 use Rattle.edit_spec.specs.Step.{run, step as stepped}
 use Rattle.edit_spec.specs.declared.ops.Op.{Op}
 use Rattle.edit_spec.proofs.Overlaid.{replies_push}
@@ -12,10 +12,10 @@ use Rattle.history_spec.specs.History.{version_at}
 use Rattle.history_spec.specs.declared.event.Answer.TheVariants as answer
 use Rattle.history_spec.specs.declared.event.Call.TheVariants as call
 use Rattle.history_spec.specs.declared.event.Event.{Event}
-use Rattle.session_spec.specs.Report.{transcript}
-use Rattle.session_spec.specs.Session.{Began, Conflict, LogFull, Replied, Word, Exchange, Goes, Held as SessionHeld, Nothing, OnPin, InBlock, On, Stop as Stopped, Told, last_release, release, replied, reply_behind}
-use Rattle.session_spec.specs.Texts.{line, reply_text}
-use Rattle.session_spec.specs.declared.script.Step.TheVariants as step
+use Rattle.script_spec.specs.Report.{transcript}
+use Rattle.script_spec.specs.Session.{Began, Conflict, LogFull, Replied, Word, Exchange, Goes, Held as SessionHeld, Nothing, OnPin, InBlock, On, Stop as Stopped, Told, last_release, release, replied, reply_behind}
+use Rattle.script_spec.specs.Texts.{line, reply_text}
+use Rattle.script_spec.specs.declared.script.Step.TheVariants as step
 use Rattle.run_spec.specs.Calls.{HoldsJust, Makes, Writes}
 use Rattle.run_spec.specs.Lines.{Begins, GoesOn, IsBroken, IsFilled}
 use Rattle.run_spec.proofs.Blocks.{again_broken, again_filled, again_goes, gives_up_goes, writes_both}

@@ -4,8 +4,8 @@ use Rattle.std.specs.Prelude.{IfOk, OnOk, codes, decimal}
 use Rattle.netlist_schema.specs.Design.{Design}
 use Rattle.netlist_schema.specs.Types.{Object}
 use Rattle.netlist_schema.specs.Valid.{IsValid}
-use Rattle.edit_core.specs.Objects.{IsThere}
-use Rattle.edit_core.specs.declared.reply.Reply.{Reply}
+use Rattle.edit_rules_spec.specs.Objects.{IsThere}
+use Rattle.edit_rules_spec.specs.declared.reply.Reply.{Reply}
 use Rattle.edit_spec.specs.declared.ops.Op.{Op}
 use Rattle.edit_tx.specs.Facts.{PinFacts, TxFacts}
 use Rattle.history_spec.specs.Answers.{IsConflict}
@@ -18,10 +18,10 @@ use Rattle.history_spec.specs.declared.event.Event.{Event}
 use Rattle.history_spec.proofs.Histories.{state_after-push, version_stays}
 use Rattle.history_spec.proofs.Promised.{valid_at}
 use Rattle.history_spec.proofs.Sound.{kept_up_after, one_pin}
-use Rattle.session_spec.specs.Report.{transcript}
-use Rattle.session_spec.specs.Session.{Conflict, Exchange, Nothing, OnPin, Told, Word, release}
-use Rattle.session_spec.specs.Texts.{conflict_words, line}
-use Rattle.session_spec.specs.declared.script.Step.TheVariants as step
+use Rattle.script_spec.specs.Report.{transcript}
+use Rattle.script_spec.specs.Session.{Conflict, Exchange, Nothing, OnPin, Told, Word, release}
+use Rattle.script_spec.specs.Texts.{conflict_words, line}
+use Rattle.script_spec.specs.declared.script.Step.TheVariants as step
 use Rattle.run_spec.specs.Calls.{HoldsJust, Makes, Writes}
 use Rattle.run_spec.proofs.Along.{behind_both}
 use Rattle.run_spec.proofs.Blocks.{accepted_broken, accepted_goes, commit_broken, commit_filled, refused_released_broken}

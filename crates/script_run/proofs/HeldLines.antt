@@ -8,10 +8,10 @@ use Rattle.history_spec.specs.History.{state_after}
 use Rattle.history_spec.specs.State.{head}
 use Rattle.history_spec.specs.declared.event.Answer.TheVariants as answer
 use Rattle.history_spec.specs.declared.event.Call.TheVariants as call
-use Rattle.report_spec.specs.Lines.{flattening_text}
-use Rattle.session_spec.specs.Session.{Abandoned, NoPin, Released, Replied, Walked, Nothing, OffPin, OnPin, InBlock, On, release, reply_behind}
-use Rattle.session_spec.specs.Texts.{line, reply_text}
-use Rattle.session_spec.specs.declared.script.Step.TheVariants as step
+use Rattle.flat_lines_spec.specs.Lines.{flattening_text}
+use Rattle.script_spec.specs.Session.{Abandoned, NoPin, Released, Replied, Walked, Nothing, OffPin, OnPin, InBlock, On, release, reply_behind}
+use Rattle.script_spec.specs.Texts.{line, reply_text}
+use Rattle.script_spec.specs.declared.script.Step.TheVariants as step
 use Rattle.run_spec.specs.Calls.{HoldsJust}
 use Rattle.run_spec.specs.Lines.{GoesOn, IsNoBlock}
 use Rattle.run_spec.proofs.OneLine.{abandon_goes, broken, collect_broken, collect_filled, collect_goes, collected_broken, makes_nothing, off_release_goes, off_walk_goes, op_goes, release_goes, walk_goes}

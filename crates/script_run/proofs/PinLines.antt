@@ -7,10 +7,10 @@ use Rattle.history_spec.specs.Answers.{HasPlaces}
 use Rattle.history_spec.specs.declared.event.Answer.TheVariants as answer
 use Rattle.history_spec.specs.declared.event.Call.{Call}
 use Rattle.history_spec.specs.declared.event.Call.TheVariants as call
-use Rattle.session_spec.specs.Session.{Began, Gone, LogFull, NoVersion, Pinned, Goes, Nothing, OffPin, OnPin, InBlock, On, Stop as Stopped, Told}
-use Rattle.session_spec.specs.Texts.{line}
-use Rattle.session_spec.specs.declared.script.Step.{Step}
-use Rattle.session_spec.specs.declared.script.Step.TheVariants as step
+use Rattle.script_spec.specs.Session.{Began, Gone, LogFull, NoVersion, Pinned, Goes, Nothing, OffPin, OnPin, InBlock, On, Stop as Stopped, Told}
+use Rattle.script_spec.specs.Texts.{line}
+use Rattle.script_spec.specs.declared.script.Step.{Step}
+use Rattle.script_spec.specs.declared.script.Step.TheVariants as step
 use Rattle.run_spec.specs.Lines.{Begins, GoesOn, IsBroken}
 use Rattle.run_spec.proofs.OneLine.{begin_goes, broken, gone_goes, no_version_goes, pin_at_goes, pin_filled, pin_goes}
 use Rattle.run_spec.proofs.Pins.{holds_after}

@@ -4,11 +4,11 @@ use Rattle.std.specs.Option.{option_map_or}
 use Rattle.std.proofs.lemmas.List.{drop_more}
 use Rattle.std.proofs.lemmas.Option.{slice_get-get_or}
 use Rattle.netlist_schema.specs.Design.{Design}
-use Rattle.session_spec.specs.Headline.{CanWalk, IsWalk}
-use Rattle.session_spec.specs.ScriptText.{steps_of}
-use Rattle.session_spec.specs.declared.script.ScriptLine.{ScriptLine}
-use Rattle.session_spec.specs.declared.script.Step.{Step}
-use Rattle.session_spec.specs.declared.script.Step.TheVariants.{Collect, Walk}
+use Rattle.script_spec.specs.Headline.{CanWalk, IsWalk}
+use Rattle.script_spec.specs.ScriptText.{steps_of}
+use Rattle.script_spec.specs.declared.script.ScriptLine.{ScriptLine}
+use Rattle.script_spec.specs.declared.script.Step.{Step}
+use Rattle.script_spec.specs.declared.script.Step.TheVariants.{Collect, Walk}
 use Rattle.edit_tx.specs.Facts.{PinFacts}
 use Rattle.history_spec.specs.History.{state_after}
 use Rattle.history_spec.specs.State.{State, opening}

@@ -2,11 +2,11 @@
 use Rattle.std.proofs.Common.{◌≡◌, ◌∙◌, ℕ, ◌+◌, ◌<◌, Bool, true, false, List, [], ◌∷◌, length, drop, get_or, map, Result, Ok, Err, ap, sym, subst}
 use Rattle.history_spec.specs.declared.event.Event.{Event}
 use Rattle.netlist_schema.specs.declared.memory.NoMemory.{NoMemory}
-use Rattle.session_spec.specs.Headline.{CanWalk, Ran}
-use Rattle.session_spec.specs.ScriptText.{ArePlaced, Free, steps_of}
-use Rattle.session_spec.specs.Session.{last_release}
-use Rattle.session_spec.specs.declared.script.ScriptLine.{ScriptLine}
-use Rattle.session_spec.specs.declared.script.Step.{Step}
+use Rattle.script_spec.specs.Headline.{CanWalk, Ran}
+use Rattle.script_spec.specs.ScriptText.{ArePlaced, Free, steps_of}
+use Rattle.script_spec.specs.Session.{last_release}
+use Rattle.script_spec.specs.declared.script.ScriptLine.{ScriptLine}
+use Rattle.script_spec.specs.declared.script.Step.{Step}
 use Rattle.run_spec.specs.Along.{HasCome}
 use Rattle.run_spec.specs.Calls.{Makes}
 use Rattle.run_spec.specs.Lines.{place_of}

@@ -1,7 +1,7 @@
 -- What the lines of a script come to, on a shared database.
 use Rattle.std.specs.Prelude.{◌≡◌, ℕ, ◌+◌, List, [], ◌∷◌, Option, Some, None, Result, Ok, Err, slice_get, true, false}
 use Rattle.std.specs.List.{flat_map}
-use Rattle.edit_core.specs.declared.reply.Reply.{Reply}
+use Rattle.edit_rules_spec.specs.declared.reply.Reply.{Reply}
 use Rattle.edit_spec.specs.declared.ops.Op.{Op}
 use Rattle.edit_tx.specs.Facts.{started}
 use Rattle.history_spec.specs.History.{version_at}
@@ -9,13 +9,13 @@ use Rattle.history_spec.specs.declared.event.Answer.TheVariants as answer
 use Rattle.history_spec.specs.declared.event.Call.TheVariants as call
 use Rattle.history_spec.specs.declared.event.Event.{Event}
 use Rattle.netlist_schema.specs.Types.{Object}
-use Rattle.session_spec.specs.Headline.{Ran}
-use Rattle.session_spec.specs.Session.{Began, Conflict, Held as SessionHeld, Nothing, Told, last_release, release, replied}
-use Rattle.session_spec.specs.Texts.{line, reply_text}
-use Rattle.session_spec.specs.declared.script.Step.{Step}
-use Rattle.session_spec.specs.declared.script.Step.TheVariants.{Begin, Collect, Commit}
-use Rattle.session_spec.specs.declared.script.ScriptLine.{ScriptLine}
-use Rattle.session_spec.specs.ScriptText.{Place, behind}
+use Rattle.script_spec.specs.Headline.{Ran}
+use Rattle.script_spec.specs.Session.{Began, Conflict, Held as SessionHeld, Nothing, Told, last_release, release, replied}
+use Rattle.script_spec.specs.Texts.{line, reply_text}
+use Rattle.script_spec.specs.declared.script.Step.{Step}
+use Rattle.script_spec.specs.declared.script.Step.TheVariants.{Begin, Collect, Commit}
+use Rattle.script_spec.specs.declared.script.ScriptLine.{ScriptLine}
+use Rattle.script_spec.specs.ScriptText.{Place, behind}
 use Rattle.std.specs.Option.{option_map_or}
 use Rattle.run_spec.specs.Calls.{Makes, Writes}
 use Rattle.run_spec.specs.Lines.{GoesOn, IsBroken, IsFilled, RunsAgain}

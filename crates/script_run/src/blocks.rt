@@ -2,8 +2,8 @@
 ghost use Rattle.std.specs.Prelude.{◌≡◌, ◌++◌, ◌∷◌, [], IfOk, OnOk};
 ghost use Rattle.edit_spec.specs.Step.{run};
 ghost use Rattle.edit_tx.specs.Facts.{HasRun, started};
-ghost use Rattle.session_spec.specs.Session.{reply_behind};
-ghost use Rattle.session_spec.specs.Texts.{conflict_words, line, reply_text};
+ghost use Rattle.script_spec.specs.Session.{reply_behind};
+ghost use Rattle.script_spec.specs.Texts.{conflict_words, line, reply_text};
 ghost use Rattle.db_share.specs.Passes.{HasPin, IsReady};
 ghost use Rattle.db_share.specs.Calls.{GoesOn, HasReleased};
 ghost use Rattle.script_held.specs.Holding.{block_of};

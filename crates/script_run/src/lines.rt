@@ -1,7 +1,7 @@
 //! The lines that pin, walk, release and collect, and those that begin and abandon a transaction.
 ghost use Rattle.std.specs.Prelude.{◌≡◌, ◌++◌, None, OnOk};
-ghost use Rattle.report_spec.specs.Lines.{flattening_text};
-ghost use Rattle.session_spec.specs.Session.{Nothing, OnPin};
+ghost use Rattle.flat_lines_spec.specs.Lines.{flattening_text};
+ghost use Rattle.script_spec.specs.Session.{Nothing, OnPin};
 ghost use Rattle.run_spec.specs.Lines.{IsNoBlock};
 ghost use Rattle.db_share.specs.Calls.{GoesOn};
 ghost use Rattle.script_held.specs.Holding.{block_of, held_of};

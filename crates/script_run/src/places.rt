@@ -1,8 +1,8 @@
 //! What a line does, by what is held.
 ghost use Rattle.std.specs.Prelude.{◌≡◌, ◌<◌, None, length};
-ghost use Rattle.session_spec.specs.Headline.{IsWalk};
-ghost use Rattle.session_spec.specs.ScriptText.{Block as InsideBlock, Free, Holding};
-ghost use Rattle.session_spec.specs.Session.{Nothing, OffPin, OnPin};
+ghost use Rattle.script_spec.specs.Headline.{IsWalk};
+ghost use Rattle.script_spec.specs.ScriptText.{Block as InsideBlock, Free, Holding};
+ghost use Rattle.script_spec.specs.Session.{Nothing, OffPin, OnPin};
 ghost use Rattle.run_spec.specs.Lines.{place_of};
 ghost use Rattle.db_share.specs.Calls.{GoesOn};
 ghost use Rattle.script_held.specs.Holding.{block_of, held_of};

@@ -1,7 +1,7 @@
 //! A script, line by line.
 ghost use Rattle.std.specs.Prelude.{◌≡◌, ◌∷◌, [], IfOk, OnErr};
-ghost use Rattle.session_spec.specs.Headline.{CanWalk, Ran};
-ghost use Rattle.session_spec.specs.ScriptText.{ArePlaced, Free, steps_of};
+ghost use Rattle.script_spec.specs.Headline.{CanWalk, Ran};
+ghost use Rattle.script_spec.specs.ScriptText.{ArePlaced, Free, steps_of};
 ghost use Rattle.run_spec.specs.Whole.{IsBrokenOff};
 ghost use Rattle.db_share.specs.Passes.{IsReady};
 ghost use Rattle.db_share.specs.Calls.{GoesOn};

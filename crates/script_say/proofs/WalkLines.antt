@@ -3,7 +3,7 @@ use Rattle.std.proofs.Common.{◌≡◌, ◌∙◌, ℕ, zero, suc, ◌+◌, ◌
 use Rattle.edif_names.specs.Parts.{Grows}
 use Rattle.netlist_schema.specs.Design.{Design}
 use Rattle.flat_spec.specs.Types.{Item}
-use Rattle.report_spec.specs.Lines.{item_line, item_lines}
+use Rattle.flat_lines_spec.specs.Lines.{item_line, item_lines}
 
 -- one item more is said: what was said and what is left are the whole still
 one_more : (d : Design) (text more whole : List ℕ) (item : Item) (left rest : List Item) → left ≡ item ∷ rest → more ≡ text ++ item_line d item → text ++ item_lines d left ≡ whole

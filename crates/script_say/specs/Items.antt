@@ -2,7 +2,7 @@
 use Rattle.std.specs.Prelude.{◌≡◌, ◌<◌, ℕ, List, [], ◌∷◌, ◌++◌, length, Bool, true, false}
 use Rattle.netlist_schema.specs.Design.{Design}
 use Rattle.flat_spec.specs.Types.{Item}
-use Rattle.report_spec.specs.Lines.{item_line}
+use Rattle.flat_lines_spec.specs.Lines.{item_line}
 
 -- the next item was said, or none is left
 abbrev pub SaysNext : Design → List Item → List Item → List ℕ → List ℕ → Bool → Type 0

@@ -2,7 +2,7 @@
 ghost use Rattle.std.specs.Prelude.{◌≡◌, ◌∷◌, [], ◌++◌, OnOk};
 ghost use Rattle.std.specs.Fmt.{decimal};
 ghost use Rattle.edif_names.specs.Parts.{Grows};
-ghost use Rattle.session_spec.specs.Texts.{line};
+ghost use Rattle.script_spec.specs.Texts.{line};
 
 use itoa::Buffer;
 use netlist_schema::NoMemory;

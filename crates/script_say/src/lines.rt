@@ -2,7 +2,7 @@
 ghost use Rattle.std.specs.Prelude.{◌≡◌, ◌∷◌, [], ◌++◌, codes, OnOk};
 ghost use Rattle.std.specs.Fmt.{decimal};
 ghost use Rattle.edif_names.specs.Parts.{Grows};
-ghost use Rattle.session_spec.specs.Texts.{conflict_words, line, reply_text};
+ghost use Rattle.script_spec.specs.Texts.{conflict_words, line, reply_text};
 
 use crate::bytes::{push_bytes, push_numbered};
 use edit_spec::Reply;

@@ -1,7 +1,7 @@
 //! The lines of a walk.
 ghost use Rattle.std.specs.Prelude.{◌≡◌, ◌++◌, None, IfOk, OnOk};
 ghost use Rattle.edif_names.specs.Parts.{Grows};
-ghost use Rattle.report_spec.specs.Lines.{flattening_text, item_lines, last_line, shown_items};
+ghost use Rattle.flat_lines_spec.specs.Lines.{flattening_text, item_lines, last_line, shown_items};
 ghost use Rattle.script_say.specs.Items.{IsLeft, SaysNext};
 
 use crate::bytes::push_bytes;

@@ -2,11 +2,11 @@
 use Rattle.std.proofs.Common.{◌≡◌, ◌∙◌, ℕ, List, [], ◌∷◌, ◌++◌, map, refl, sym, ap, append_assoc, append-nil}
 use Rattle.std.specs.Prelude.{codes}
 use Rattle.std.proofs.lemmas.Grind.{flat_map-append}
-use Rattle.edit_core.specs.declared.reply.EndName.{EndName}
-use Rattle.report_spec.specs.Lines.{spaced}
-use Rattle.session_spec.specs.Lines.{path_piece}
-use Rattle.session_spec.specs.Pieces.{Named, atom_text, joined, piece_text}
-use Rattle.session_spec.specs.Texts.{end_words, ends_text}
+use Rattle.edit_rules_spec.specs.declared.reply.EndName.{EndName}
+use Rattle.flat_lines_spec.specs.Lines.{spaced}
+use Rattle.script_spec.specs.Lines.{path_piece}
+use Rattle.script_spec.specs.Pieces.{Named, atom_text, joined, piece_text}
+use Rattle.script_spec.specs.Texts.{end_words, ends_text}
 use Rattle.script_texts.specs.Parts.{behind, behind_blanks, more_ends}
 
 -- the first word has no blank before it, and each other has

@@ -1,11 +1,11 @@
 -- What the code writes, one after another.
 use Rattle.std.specs.Prelude.{ℕ, List, ◌∷◌, ◌++◌, map, codes}
 use Rattle.std.specs.List.{flat_map}
-use Rattle.edit_core.specs.declared.reply.EndName.{EndName}
+use Rattle.edit_rules_spec.specs.declared.reply.EndName.{EndName}
 use Rattle.edit_spec.specs.declared.ops.Op.{Op}
-use Rattle.session_spec.specs.Lines.{op_pieces}
-use Rattle.session_spec.specs.Pieces.{Piece, piece_text}
-use Rattle.session_spec.specs.Texts.{end_words}
+use Rattle.script_spec.specs.Lines.{op_pieces}
+use Rattle.script_spec.specs.Pieces.{Piece, piece_text}
+use Rattle.script_spec.specs.Texts.{end_words}
 
 -- each word behind a blank
 abbrev pub behind_blanks : List (List ℕ) → List ℕ

@@ -2,8 +2,8 @@
 ghost use Rattle.std.specs.Prelude.{◌≡◌, ◌∷◌, [], ◌++◌, codes, map, OnOk};
 ghost use Rattle.std.specs.Fmt.{signed_decimal};
 ghost use Rattle.edif_names.specs.Parts.{Grows};
-ghost use Rattle.session_spec.specs.Lines.{direction_word, end_pieces, inst_piece, leaf_word, path_piece, port_piece, property_pieces, target_pieces, value_pieces};
-ghost use Rattle.session_spec.specs.Pieces.{piece_text};
+ghost use Rattle.script_spec.specs.Lines.{direction_word, end_pieces, inst_piece, leaf_word, path_piece, port_piece, property_pieces, target_pieces, value_pieces};
+ghost use Rattle.script_spec.specs.Pieces.{piece_text};
 ghost use Rattle.script_texts.specs.Parts.{behind_blanks, behind_pieces, op_words};
 
 use crate::words::{push_cell, push_digits, push_integer, push_marked, push_number, push_word};

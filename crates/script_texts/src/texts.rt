@@ -3,8 +3,8 @@ ghost use Rattle.std.specs.Prelude.{◌≡◌, ◌∷◌, [], ◌++◌, codes, m
 ghost use Rattle.std.specs.Fmt.{decimal};
 ghost use Rattle.std.specs.Option.{option_map_or};
 ghost use Rattle.edif_names.specs.Parts.{Grows};
-ghost use Rattle.report_spec.specs.Lines.{cell_text, lib_text, spaced};
-ghost use Rattle.session_spec.specs.Texts.{cell_words, end_words, ends_text, leaf_words, library_text, object_text, object_words, reply_text};
+ghost use Rattle.flat_lines_spec.specs.Lines.{cell_text, lib_text, spaced};
+ghost use Rattle.script_spec.specs.Texts.{cell_words, end_words, ends_text, leaf_words, library_text, object_text, object_words, reply_text};
 ghost use Rattle.script_texts.specs.Parts.{behind_blanks, more_ends};
 
 use crate::words::{push_cell, push_digits, push_number, push_shown, push_word};

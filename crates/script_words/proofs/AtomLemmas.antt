@@ -4,16 +4,16 @@ use Rattle.std.specs.Prelude.{Option, MatchOption, ◌==◌, slice_index}
 use Rattle.std.specs.Str.{IsUtf8, all_ascii_digits}
 use Rattle.std.specs.Str.Parse.{IsNumeral, ParsesUnsigned, digits_value, without_leading_plus}
 use Rattle.std.proofs.lemmas.Str.{IsUtf8-from_ascii}
-use Rattle.spelling_spec.specs.Bytes.{is_unquoted}
-use Rattle.spelling_spec.specs.Grammar.{SpellsInteger, SpellsString, StandsFor}
-use Rattle.spelling_spec.specs.Strings.{escape_fault, segments, value}
-use Rattle.spelling_spec.specs.Words.{begins_number, identifier, integer, or_fault, word_kind}
-use Rattle.spelling_spec.specs.declared.token.LexKind.TheVariants.{BadByte, BadNumber}
-use Rattle.spelling_spec.specs.declared.token.TokenKind.TheVariants as kinds
-use Rattle.spelling_spec.proofs.IntegerLemmas.{digits_test}
-use Rattle.spelling_spec.proofs.RowLemmas.{integer_spells, integer_word}
-use Rattle.spelling_spec.proofs.TextLemmas.{stands_value, value_stands}
-use Rattle.spelling_spec.proofs.ParseLemmas.{IsAscii-from_word}
+use Rattle.edif_spelling_spec.specs.Bytes.{is_unquoted}
+use Rattle.edif_spelling_spec.specs.Grammar.{SpellsInteger, SpellsString, StandsFor}
+use Rattle.edif_spelling_spec.specs.Strings.{escape_fault, segments, value}
+use Rattle.edif_spelling_spec.specs.Words.{begins_number, identifier, integer, or_fault, word_kind}
+use Rattle.edif_spelling_spec.specs.declared.token.LexKind.TheVariants.{BadByte, BadNumber}
+use Rattle.edif_spelling_spec.specs.declared.token.TokenKind.TheVariants as kinds
+use Rattle.edif_spelling_spec.proofs.IntegerLemmas.{digits_test}
+use Rattle.edif_spelling_spec.proofs.RowLemmas.{integer_spells, integer_word}
+use Rattle.edif_spelling_spec.proofs.TextLemmas.{stands_value, value_stands}
+use Rattle.edif_spelling_spec.proofs.ParseLemmas.{IsAscii-from_word}
 use Rattle.edif_strings.proofs.CodeLemmas.{IsAscii-from_digits}
 use Rattle.script_words.specs.Reading.{IsBetween}
 

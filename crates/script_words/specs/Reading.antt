@@ -2,7 +2,7 @@
 use Rattle.std.specs.Prelude.{◌≡◌, ℕ, ◌<◌, ◌^◌, true, List, [], ◌∷◌, ◌++◌, Option, Result, map, MatchResult, MatchOption}
 use Rattle.std.specs.Borrow.{Bor}
 use Rattle.std.specs.Str.Parse.{IsNumeral, digits_value}
-use Rattle.spelling_spec.specs.Bytes.{is_unquoted}
+use Rattle.edif_spelling_spec.specs.Bytes.{is_unquoted}
 use Rattle.script_words.specs.declared.unread.Unread.{Unread}
 use Rattle.script_words.specs.declared.unread.Unread.TheVariants.{Bad}
 

@@ -1,8 +1,8 @@
 //! What a word stands for by itself: an identifier, a number, an integer, a string.
 ghost use Rattle.std.specs.Prelude.{◌≡◌, ◌<◌, ℤ, All, IfOk, MatchOption};
-ghost use Rattle.spelling_spec.specs.Bytes.{is_unquoted};
-ghost use Rattle.spelling_spec.specs.Grammar.{SpellsInteger};
-ghost use Rattle.session_spec.specs.Pieces.{Exponent, Integer, Named, Number, Quoted, SpellsAtom};
+ghost use Rattle.edif_spelling_spec.specs.Bytes.{is_unquoted};
+ghost use Rattle.edif_spelling_spec.specs.Grammar.{SpellsInteger};
+ghost use Rattle.script_spec.specs.Pieces.{Exponent, Integer, Named, Number, Quoted, SpellsAtom};
 ghost use Rattle.script_words.specs.Reading.{IsBodyOf, IsNumberOf, Reads};
 
 use crate::unread::Unread;

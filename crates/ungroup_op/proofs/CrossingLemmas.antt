@@ -6,8 +6,8 @@ use Rattle.std.specs.Option.{option_map_or}
 use Rattle.netlist_schema.specs.Design.{Design}
 use Rattle.netlist_schema.specs.Hierarchy.{insts_at}
 use Rattle.netlist_schema.specs.Types.{CellId, Inst, Note, TopHead}
-use Rattle.edit_core.specs.Find.{inst_named}
-use Rattle.edit_core.specs.Paths.{goes_through}
+use Rattle.edit_rules_spec.specs.Find.{inst_named}
+use Rattle.edit_rules_spec.specs.Paths.{goes_through}
 use Rattle.eco_reads.proofs.Paths.{end_of, next}
 use Rattle.ungroup_spec.specs.Dissolved.{children}
 use Rattle.ungroup_spec.specs.Groups.{Site}

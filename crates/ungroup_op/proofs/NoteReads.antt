@@ -5,9 +5,9 @@ use Rattle.std.specs.Prelude.{Err, MatchResult, Ok, Result}
 use Rattle.netlist_schema.specs.Design.{Design}
 use Rattle.netlist_schema.specs.Types.{CellId, Note, TopHead}
 use Rattle.netlist_schema.specs.declared.ids.Object.TheVariants.{Notes}
-use Rattle.edit_core.specs.Reading.{IsForNotes}
-use Rattle.cells_model.specs.Parts.{IsFace, IsInside}
-use Rattle.cells_model.specs.State.{State, HasRead, HasReadSome}
+use Rattle.edit_rules_spec.specs.Reading.{IsForNotes}
+use Rattle.edit_cells.specs.Parts.{IsFace, IsInside}
+use Rattle.edit_cells.specs.State.{State, HasRead, HasReadSome}
 use Rattle.eco_reads.proofs.Reading.{read_then}
 use Rattle.eco_reads.proofs.NoteReads.{some_after, no_top}
 use Rattle.ungroup_op.specs.Crossing.{crossing, crossings}

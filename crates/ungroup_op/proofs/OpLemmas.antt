@@ -7,21 +7,21 @@ use Rattle.std.proofs.lemmas.List.{length-map}
 use Rattle.netlist_schema.specs.Design.{Design, insts_in}
 use Rattle.netlist_schema.specs.Types.{CellId, Contents, Inst, Note, Object, TopHead}
 use Rattle.netlist_schema.specs.Valid.{IsValid}
-use Rattle.edit_core.specs.Edit.{Edit, inner, noted}
-use Rattle.edit_core.specs.Find.{cell_named, inst_named, inst_place, is_name}
-use Rattle.edit_core.specs.Objects.{contents_object, face_object}
-use Rattle.edit_core.specs.Reading.{IsForCell, IsForName, IsForNotes, IsInside as IsInsideOf}
-use Rattle.edit_core.specs.Rule.{Outcome, first, no_cell, no_lib, unless}
-use Rattle.edit_core.specs.Seen.{contents_at, inside, named, placed}
-use Rattle.edit_core.specs.declared.reply.CellName.{CellName}
-use Rattle.edit_core.specs.declared.reply.Reply.{Reply}
-use Rattle.edit_core.specs.declared.reply.Reply.TheVariants.{Done}
-use Rattle.edit_core.proofs.Refusals.{same_name}
+use Rattle.edit_rules_spec.specs.Edit.{Edit, inner, noted}
+use Rattle.edit_rules_spec.specs.Find.{cell_named, inst_named, inst_place, is_name}
+use Rattle.edit_rules_spec.specs.Objects.{contents_object, face_object}
+use Rattle.edit_rules_spec.specs.Reading.{IsForCell, IsForName, IsForNotes, IsInside as IsInsideOf}
+use Rattle.edit_rules_spec.specs.Rule.{Outcome, first, no_cell, no_lib, unless}
+use Rattle.edit_rules_spec.specs.Seen.{contents_at, inside, named, placed}
+use Rattle.edit_rules_spec.specs.declared.reply.CellName.{CellName}
+use Rattle.edit_rules_spec.specs.declared.reply.Reply.{Reply}
+use Rattle.edit_rules_spec.specs.declared.reply.Reply.TheVariants.{Done}
+use Rattle.edit_rules_spec.proofs.Refusals.{same_name}
 use Rattle.edit_spec.specs.Needs.{Needs}
 use Rattle.edit_spec.specs.Rows.{outcome}
 use Rattle.edit_spec.specs.declared.ops.Op.TheVariants.{Ungroup}
-use Rattle.cells_model.specs.Parts.{IsFace, IsInside}
-use Rattle.cells_model.specs.State.{State, HasRead}
+use Rattle.edit_cells.specs.Parts.{IsFace, IsInside}
+use Rattle.edit_cells.specs.State.{State, HasRead}
 use Rattle.eco_reads.specs.Done.{IsDone, IsDoneOrFails}
 use Rattle.eco_reads.specs.Plan.{CanBePut, IsPut}
 use Rattle.eco_reads.specs.Plan as eco

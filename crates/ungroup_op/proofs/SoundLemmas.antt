@@ -7,7 +7,7 @@ use Rattle.std.proofs.lemmas.Option.{slice_get_within}
 use Rattle.netlist_schema.specs.Design.{Design, cell_at, ends_of, insts_in, insts_of, nets_in, nets_of}
 use Rattle.netlist_schema.specs.Types.{CellBody, CellId, Contents, End, Inst, Net}
 use Rattle.netlist_schema.specs.Valid.{HasBit, IsEndAt, IsEndOf, IsValid, IsValidCell}
-use Rattle.edit_core.specs.Seen.{contents_at}
+use Rattle.edit_rules_spec.specs.Seen.{contents_at}
 use Rattle.flat_spec.proofs.ListLemmas.{Ascends, Contains-member, Member}
 use Rattle.flat_spec.proofs.PinLemmas.{AllPairs-ascends, ends-member, joined_once}
 use Rattle.ungroup_spec.specs.Groups.{ends_of_net}

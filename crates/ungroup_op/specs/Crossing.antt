@@ -3,8 +3,8 @@ use Rattle.std.specs.Prelude.{◌+◌, ◌&&◌, ℕ, Bool, cond, List, [], ◌�
 use Rattle.netlist_schema.specs.Design.{Design}
 use Rattle.netlist_schema.specs.Hierarchy.{insts_at}
 use Rattle.netlist_schema.specs.Types.{CellId, Note}
-use Rattle.edit_core.specs.Find.{inst_named, is_name}
-use Rattle.edit_core.specs.Paths.{same_cell}
+use Rattle.edit_rules_spec.specs.Find.{inst_named, is_name}
+use Rattle.edit_rules_spec.specs.Paths.{same_cell}
 
 -- the step is the instance of the cell
 abbrev pub is_inst : CellId → List ℕ → CellId → List ℕ → Bool

@@ -2,7 +2,7 @@
 use Rattle.std.specs.Prelude.{◌≡◌, ◌⊎◌, List, ℕ, Option, Some, None, map}
 use Rattle.netlist_schema.specs.Design.{Design}
 use Rattle.netlist_schema.specs.Types.{CellId, Note, Object, TopHead}
-use Rattle.edit_core.specs.Objects.{contents_object, face_object}
+use Rattle.edit_rules_spec.specs.Objects.{contents_object, face_object}
 use Rattle.ungroup_op.specs.Crossing.{crossings}
 use Rattle.ungroup_op.specs.declared.notes.ReadNotes.{ReadNotes}
 

@@ -3,14 +3,16 @@ ghost use Rattle.std.specs.Prelude.{◌≡◌, ◌++◌, [], ◌∷◌, IfOk, Ma
 ghost use Rattle.std.specs.Option.{option_copied};
 ghost use Rattle.netlist_schema.specs.Design.{insts_in};
 ghost use Rattle.netlist_schema.specs.declared.ids.Object.TheVariants.{Notes};
-ghost use Rattle.edit_core.specs.Find.{inst_named};
-ghost use Rattle.edit_core.specs.Reading.{IsForNotes, IsReached, IsReachedBy};
-ghost use Rattle.cells_model.specs.State.{HasRead, HasReadSome};
+ghost use Rattle.edit_rules_spec.specs.Find.{inst_named};
+ghost use Rattle.edit_rules_spec.specs.Reading.{IsForNotes, IsReached, IsReachedBy};
+ghost use Rattle.edit_cells.specs.State.{HasRead, HasReadSome};
+ghost use Rattle.eco_reads.specs.Named.{AreNamed};
 ghost use Rattle.ungroup_op.specs.Crossing.{crossing, crossings, first_place, is_inst};
 ghost use Rattle.ungroup_op.specs.Read.{AreRead};
 
-use cells_model::Cells;
+use eco_reads::NamedInsts;
 use eco_reads::find::inst_place;
+use edit_cells::Cells;
 use netlist_schema::{CellId, Contents, Copied, Ident, NoMemory, Note, Row};
 use std::alloc::Global;
 
@@ -48,13 +50,18 @@ fn first_place(found: Option<usize>, is_here: bool, place: usize) -> Option<usiz
 }
 
 /// Reads what is inside the cells that a path reaches, and answers the place of the first step that is the instance of a cell.
+#[tactic(auto, using(eco_reads::proofs::NamedLemmas::still_named, eco_reads::proofs::NamedLemmas::named_still))]
 fn crossing<C: Cells>(
+    alloc: Global,
     cells: &mut C,
+    named: &mut NamedInsts,
     cell: CellId,
     inst: &Ident,
     top: CellId,
     path: &Row<Ident>,
 ) -> Result<Option<usize>, NoMemory>
+    requires { AreNamed (C.state cells.old).design named.old }
+    ensures named { AreNamed (C.state cells.old).design named.new }
     ensures found { IfOk result (λ found. found ≡ crossing (C.state cells.old).design cell inst.now top path.now) }
     ensures reads { MatchResult result (λ _. HasRead (C.state cells.old) (C.state cells.new) (IsReached (C.state cells.old).design top path.now)) (λ _. HasReadSome (C.state cells.old) (C.state cells.new)) }
 {
@@ -63,7 +70,7 @@ fn crossing<C: Cells>(
     let _top = cells.contents(top)?;
     for (place, step) in path.as_slice().iter().enumerate() {
         found = first_place(found, is_inst(cell, inst, at, step), place);
-        let Some(of) = cell_of_inst(cells.contents(at)?, step) else {
+        let Some(of) = named.next_cell(alloc, cells, at, step)? else {
             return Ok(found);
         };
         let _next = cells.contents(of)?;
@@ -74,17 +81,21 @@ fn crossing<C: Cells>(
 
 /// Adds the place for a note.
 fn add_crossing<C: Cells>(
+    alloc: Global,
     cells: &mut C,
+    named: &mut NamedInsts,
     cell: CellId,
     inst: &Ident,
     top: CellId,
     note: &Note,
     places: &mut Vec<Option<usize>>,
 ) -> Result<(), NoMemory>
+    requires { AreNamed (C.state cells.old).design named.old }
+    ensures named { AreNamed (C.state cells.old).design named.new }
     ensures places { OnOk result (places.new.items ≡ places.old.items ++ crossings (C.state cells.old).design cell inst.now top (note.now ∷ [])) }
     ensures reads { MatchResult result (λ _. HasRead (C.state cells.old) (C.state cells.new) (IsReached (C.state cells.old).design top note.now.path)) (λ _. HasReadSome (C.state cells.old) (C.state cells.new)) }
 {
-    let found = crossing(cells, cell, inst, top, &note.path)?;
+    let found = crossing(alloc, cells, named, cell, inst, top, &note.path)?;
     places.push(found)?;
     Ok(())
 }
@@ -102,8 +113,10 @@ fn list_crossings<C: Cells>(
     ensures reads { MatchResult result (λ _. HasRead (C.state cells.old) (C.state cells.new) (IsReachedBy (C.state cells.old).design top notes.now)) (λ _. HasReadSome (C.state cells.old) (C.state cells.new)) }
 {
     let mut places = Vec::new(alloc);
+    let mut named = NamedInsts::new(alloc);
     for note in notes.as_slice() {
-        let Ok(()) = add_crossing(cells, cell, inst, top, note, &mut places) else {
+        let Ok(()) = add_crossing(alloc, cells, &mut named, cell, inst, top, note, &mut places)
+        else {
             return Err(NoMemory);
         };
     }

@@ -5,10 +5,10 @@ ghost use Rattle.eco_reads.specs.Done.{IsDone, IsDoneOrFails};
 
 use crate::notes::read_notes;
 use crate::reads::{read_inst, read_within};
-use cells_model::Cells;
 use eco_reads::Plan;
 use eco_reads::read::read_named;
 use eco_reads::write::put_planned;
+use edit_cells::Cells;
 use edit_spec::{CellName, Reply};
 use netlist_schema::{Ident, NoMemory};
 use std::alloc::Global;

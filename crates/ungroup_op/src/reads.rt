@@ -2,14 +2,14 @@
 ghost use Rattle.std.specs.Prelude.{◌≡◌, IfOk, MatchResult, option_and_then, option_map};
 ghost use Rattle.std.specs.Option.{option_copied};
 ghost use Rattle.netlist_schema.specs.Design.{insts_in};
-ghost use Rattle.edit_core.specs.Find.{inst_named};
-ghost use Rattle.edit_core.specs.Seen.{contents_at};
-ghost use Rattle.cells_model.specs.Parts.{IsFace, IsInside};
-ghost use Rattle.cells_model.specs.State.{HasRead, HasReadSome};
+ghost use Rattle.edit_rules_spec.specs.Find.{inst_named};
+ghost use Rattle.edit_rules_spec.specs.Seen.{contents_at};
+ghost use Rattle.edit_cells.specs.Parts.{IsFace, IsInside};
+ghost use Rattle.edit_cells.specs.State.{HasRead, HasReadSome};
 ghost use Rattle.ungroup_op.specs.Read.{IsForCell};
 
 use crate::notes::cell_of_inst;
-use cells_model::Cells;
+use edit_cells::Cells;
 use netlist_schema::{CellId, Contents, Copied, Ident, NoMemory};
 use std::alloc::Global;
 

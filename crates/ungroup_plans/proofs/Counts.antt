@@ -4,9 +4,9 @@ use Rattle.std.specs.List.{flat_map}
 use Rattle.std.proofs.lemmas.List.{drop_all}
 use Rattle.std.proofs.lemmas.List.Concat.{flat_map-append}
 use Rattle.netlist_schema.specs.Types.{Contents, End, Inst, Name, Net}
-use Rattle.edit_core.specs.Rule.{first, refuse}
-use Rattle.edit_core.specs.declared.reply.Reply.{Reply}
-use Rattle.edit_core.specs.declared.reply.Reply.TheVariants.{TooMany}
+use Rattle.edit_rules_spec.specs.Rule.{first, refuse}
+use Rattle.edit_rules_spec.specs.declared.reply.Reply.{Reply}
+use Rattle.edit_rules_spec.specs.declared.reply.Reply.TheVariants.{TooMany}
 use Rattle.ungroup_spec.specs.Dissolved.{children, contents_after, insts_after, inst_name, joined, kept, loose, nets_after, net_name, new_nets, with_inst_name, with_net_name}
 use Rattle.ungroup_spec.specs.Groups.{Site, inner, outer}
 use Rattle.ungroup_spec.specs.Names.{named_up, name_up}

@@ -5,7 +5,7 @@ use Rattle.std.specs.List.{cons_option, list_any}
 use Rattle.std.specs.Option.{option_map_or}
 use Rattle.std.proofs.lemmas.List.{drop_all}
 use Rattle.netlist_schema.specs.Types.{Inst, Note}
-use Rattle.edit_core.specs.Find.{inst_place}
+use Rattle.edit_rules_spec.specs.Find.{inst_place}
 use Rattle.ungroup_plans.specs.Moved.{new_id, note_moved, notes_moved, past, path_moved}
 use Rattle.ungroup_plans.proofs.Steps.{drop_first}
 

@@ -4,7 +4,7 @@ use Rattle.std.specs.Prelude.{◌||◌}
 use Rattle.std.specs.List.{list_any}
 use Rattle.std.proofs.lemmas.List.{map-append, take_more, take_all}
 use Rattle.flat_spec.proofs.RunLemmas.{all_found}
-use Rattle.edit_core.specs.Find.{is_name}
+use Rattle.edit_rules_spec.specs.Find.{is_name}
 use Rattle.netlist_schema.specs.Types.{Name}
 use Rattle.ungroup_spec.specs.Names.{named_up, name_up}
 use Rattle.free_names.specs.Taken.{IsNamedUp, IsOf, lower}

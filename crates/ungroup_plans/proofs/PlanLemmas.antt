@@ -5,10 +5,10 @@ use Rattle.std.specs.Option.{option_or}
 use Rattle.netlist_schema.specs.Design.{insts_in}
 use Rattle.netlist_schema.specs.Types.{Contents, Inst, Note}
 use Rattle.netlist_schema.proofs.Lists.{take_front, drop_front}
-use Rattle.edit_core.specs.Find.{inst_place}
-use Rattle.edit_core.specs.Rule.{first, is_leaf, no_inst, refuse}
-use Rattle.edit_core.specs.declared.reply.Reply.{Reply}
-use Rattle.edit_core.specs.declared.reply.Reply.TheVariants.{IsLeaf, NoInst}
+use Rattle.edit_rules_spec.specs.Find.{inst_place}
+use Rattle.edit_rules_spec.specs.Rule.{first, is_leaf, no_inst, refuse}
+use Rattle.edit_rules_spec.specs.declared.reply.Reply.{Reply}
+use Rattle.edit_rules_spec.specs.declared.reply.Reply.TheVariants.{IsLeaf, NoInst}
 use Rattle.ungroup_spec.specs.Dissolved.{children, contents_after, insts_after, inst_name, with_inst_name}
 use Rattle.ungroup_spec.specs.Groups.{Site}
 use Rattle.ungroup_spec.specs.Names.{named_up}

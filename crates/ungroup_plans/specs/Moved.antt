@@ -3,7 +3,7 @@ use Rattle.std.specs.Prelude.{◌+◌, ℕ, cond, List, [], ◌∷◌, ◌++◌,
 use Rattle.std.specs.List.{list_any, zip}
 use Rattle.std.specs.Option.{option_map_or}
 use Rattle.netlist_schema.specs.Types.{Inst, Note}
-use Rattle.edit_core.specs.Find.{inst_place}
+use Rattle.edit_rules_spec.specs.Find.{inst_place}
 
 -- the new identifier of a child: that of the instance now in its place
 abbrev pub new_id : List Inst → List Inst → List ℕ → List ℕ

@@ -2,8 +2,8 @@
 use Rattle.std.specs.Prelude.{◌≡◌, ◌<◌, List, [], ◌∷◌, Option, Some, None, Result, Ok, Err, ℕ, slice_get}
 use Rattle.netlist_schema.specs.Types.{Contents, Inst, Note}
 use Rattle.netlist_schema.specs.declared.limits.TheConstants.{MOST_ENDS, MOST_INSTS, MOST_NETS}
-use Rattle.edit_core.specs.Rule.{first, is_leaf, no_inst}
-use Rattle.edit_core.specs.declared.reply.Reply.{Reply}
+use Rattle.edit_rules_spec.specs.Rule.{first, is_leaf, no_inst}
+use Rattle.edit_rules_spec.specs.declared.reply.Reply.{Reply}
 use Rattle.ungroup_spec.specs.Dissolved.{children, contents_after}
 use Rattle.ungroup_spec.specs.Groups.{Site}
 use Rattle.ungroup_spec.specs.Ungroup.{count_ends, count_insts, count_nets, over, site_of}

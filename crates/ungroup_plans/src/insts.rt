@@ -8,11 +8,11 @@ ghost use Rattle.ungroup_spec.specs.Dissolved.{insts_after, inst_name, with_inst
 ghost use Rattle.ungroup_spec.specs.Names.{named_up};
 
 use free_names::Taken;
-use netlist_schema::{Contents, Copied, Inst, Name, NoMemory, Row};
+use netlist_schema::{Contents, Copied, Inst, Name, NoMemory, Row, Shared};
 use std::alloc::Global;
 
 /// The names of instances, taken.
-fn taken_names(alloc: Global, insts: &[Inst]) -> Result<Taken, NoMemory>
+fn taken_names(alloc: Global, insts: &[Shared<Inst>]) -> Result<Taken, NoMemory>
     ensures { IfOk result (λ taken. IsOf taken (map (λ inst. inst.name.id) insts.now)) }
 {
     let mut taken = Taken::new(alloc);
@@ -23,7 +23,11 @@ fn taken_names(alloc: Global, insts: &[Inst]) -> Result<Taken, NoMemory>
 }
 
 /// Adds equal instances.
-fn add_copies(alloc: Global, insts: &[Inst], made: &mut Vec<Inst>) -> Result<(), NoMemory>
+fn add_copies(
+    alloc: Global,
+    insts: &[Shared<Inst>],
+    made: &mut Vec<Shared<Inst>>,
+) -> Result<(), NoMemory>
     ensures { OnOk result (made.new.items ≡ made.old.items ++ insts.now) }
 {
     for inst in insts {
@@ -32,25 +36,34 @@ fn add_copies(alloc: Global, insts: &[Inst], made: &mut Vec<Inst>) -> Result<(),
     Ok(())
 }
 
+/// The instance under a name.
+fn named(alloc: Global, name: Name, inst: &Shared<Inst>) -> Result<Shared<Inst>, NoMemory>
+    ensures { IfOk result (λ made. made ≡ with_inst_name name inst.now) }
+{
+    let inst = inst.get();
+    let made = Inst {
+        name,
+        of: inst.of,
+        designator: inst.designator.copy(alloc)?,
+        properties: inst.properties.copy(alloc)?,
+    };
+    Shared::of(alloc, made)
+}
+
 /// Adds the instances under the names that they get where they move up out of an instance with this name.
 fn add_children(
     alloc: Global,
     taken: &mut Taken,
     inst: &Name,
-    children: &[Inst],
-    made: &mut Vec<Inst>,
+    children: &[Shared<Inst>],
+    made: &mut Vec<Shared<Inst>>,
 ) -> Result<(), NoMemory>
     ensures { OnOk result ((names : List (List ℕ)) → IsOf taken.old names → length names + length children.now < 2 ^ 62
         → made.new.items ≡ made.old.items ++ named_up inst_name with_inst_name names inst.now children.now) }
 {
     for child in children {
         let name = taken.name_up(inst, &child.name)?;
-        made.push(Inst {
-            name,
-            of: child.of,
-            designator: child.designator.copy(alloc)?,
-            properties: child.properties.copy(alloc)?,
-        })?;
+        made.push(named(alloc, name, child)?)?;
     }
     Ok(())
 }
@@ -61,7 +74,7 @@ pub fn insts_after(
     around: &Contents,
     place: u32,
     within: &Contents,
-) -> Result<Row<Inst>, NoMemory>
+) -> Result<Row<Shared<Inst>>, NoMemory>
     requires around { length around.now.insts ≤ MOST_INSTS }
     requires within { length within.now.insts ≤ MOST_INSTS }
     requires place { place < length around.now.insts }

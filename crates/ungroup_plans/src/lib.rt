@@ -6,7 +6,6 @@ pub mod insts;
 pub mod limits;
 pub mod nets;
 pub mod notes;
-pub mod places;
 pub mod plan;
 
 pub use plan::{Ungrouped, plan_ungroup};

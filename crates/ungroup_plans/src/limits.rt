@@ -2,15 +2,15 @@
 ghost use Rattle.std.specs.Prelude.{◌≡◌, ◌<◌, ◌+◌, ◌-◌, ◌^◌, [], ◌∷◌, length, min, nat_lt};
 ghost use Rattle.std.specs.List.{flat_map};
 ghost use Rattle.netlist_schema.specs.declared.limits.TheConstants.{MOST_ENDS, MOST_INSTS, MOST_NETS};
-ghost use Rattle.edit_core.specs.Rule.{first, refuse};
+ghost use Rattle.edit_rules_spec.specs.Rule.{first, refuse};
 
 use edit_spec::Reply;
 use net_groups::Grouped;
-use netlist_schema::Net;
 use netlist_schema::limits::{MOST_ENDS, MOST_INSTS, MOST_NETS};
+use netlist_schema::{Net, Shared};
 
 /// The ends of nets, added to a count; the greatest number of 64 bits stands for more.
-fn count_ends(nets: &[Net], count: u64) -> u64
+fn count_ends(nets: &[Shared<Net>], count: u64) -> u64
     ensures { result ≡ min (count + length (flat_map (λ net. net.ends) nets.now)) (2 ^ 64 - 1) }
 {
     let mut count = count;

@@ -9,11 +9,11 @@ ghost use Rattle.ungroup_spec.specs.Names.{named_up};
 
 use free_names::Taken;
 use net_groups::Grouped;
-use netlist_schema::{Copied, Name, Net, NoMemory, Row};
+use netlist_schema::{Copied, Name, Net, NoMemory, Row, Shared};
 use std::alloc::Global;
 
 /// The names of nets, taken.
-fn taken_names(alloc: Global, nets: &[Net]) -> Result<Taken, NoMemory>
+fn taken_names(alloc: Global, nets: &[Shared<Net>]) -> Result<Taken, NoMemory>
     ensures { IfOk result (λ taken. IsOf taken (map (λ net. net.name.id) nets.now)) }
 {
     let mut taken = Taken::new(alloc);
@@ -23,24 +23,33 @@ fn taken_names(alloc: Global, nets: &[Net]) -> Result<Taken, NoMemory>
     Ok(taken)
 }
 
+/// The net under a name.
+fn named(alloc: Global, name: Name, net: &Shared<Net>) -> Result<Shared<Net>, NoMemory>
+    ensures { IfOk result (λ made. made ≡ with_net_name name net.now) }
+{
+    let net = net.get();
+    let made = Net {
+        name,
+        ends: net.ends.copy(alloc)?,
+        properties: net.properties.copy(alloc)?,
+    };
+    Shared::of(alloc, made)
+}
+
 /// Adds the nets under the names that they get where they move up out of an instance with this name.
 fn add_new(
     alloc: Global,
     taken: &mut Taken,
     inst: &Name,
-    nets: &[Net],
-    made: &mut Vec<Net>,
+    nets: &[Shared<Net>],
+    made: &mut Vec<Shared<Net>>,
 ) -> Result<(), NoMemory>
     ensures { OnOk result ((names : List (List ℕ)) → IsOf taken.old names → length names + length nets.now < 2 ^ 62
         → made.new.items ≡ made.old.items ++ named_up net_name with_net_name names inst.now nets.now) }
 {
     for net in nets {
         let name = taken.name_up(inst, &net.name)?;
-        made.push(Net {
-            name,
-            ends: net.ends.copy(alloc)?,
-            properties: net.properties.copy(alloc)?,
-        })?;
+        made.push(named(alloc, name, net)?)?;
     }
     Ok(())
 }
@@ -48,10 +57,10 @@ fn add_new(
 /// The nets afterwards: those that stay, and then the new ones under their new names.
 pub fn nets_after(
     alloc: Global,
-    around: &[Net],
+    around: &[Shared<Net>],
     inst: &Name,
     grouped: Grouped,
-) -> Result<Row<Net>, NoMemory>
+) -> Result<Row<Shared<Net>>, NoMemory>
     requires around { length around.now ≤ MOST_NETS }
     requires loose { length grouped.loose ≤ MOST_NETS }
     ensures { IfOk result (λ made. (s : Site) → s.around.nets ≡ around.now → s.inst.name ≡ inst.now → AreGrouped s grouped → made ≡ nets_after s) }

@@ -2,22 +2,22 @@
 ghost use Rattle.std.specs.Prelude.{◌≡◌, ◌≤◌, ◌++◌, List, ℕ, IfOk, OnOk, Some, is_some, length, nat_eq, option_to_list};
 ghost use Rattle.std.specs.Cmp.Lexicographic.{pointwise};
 ghost use Rattle.std.specs.List.{list_any};
-ghost use Rattle.edit_core.specs.Find.{inst_place};
+ghost use Rattle.edit_rules_spec.specs.Find.{inst_place};
 ghost use Rattle.indexmap.specs.IndexMap.{get};
 ghost use Rattle.netlist_schema.specs.Types.{Inst as InstType};
 ghost use Rattle.netlist_schema.specs.declared.limits.TheConstants.{MOST_INSTS};
 ghost use Rattle.ungroup_plans.specs.Moved.{new_id, note_moved, notes_moved, path_moved};
 
-use crate::places::places_by_name;
+use eco_reads::places::places_by_name;
 use indexmap::IndexMap;
-use netlist_schema::{Copied, Ident, Inst, NoMemory, Note, Row};
+use netlist_schema::{Copied, Ident, Inst, NoMemory, Note, Row, Shared};
 use std::alloc::Global;
 
 /// The new identifier of a child: that of the instance now in its place.
 fn new_id(
     alloc: Global,
     places: &IndexMap<Ident, u32>,
-    children: &[Inst],
+    children: &[Shared<Inst>],
     name: &Ident,
 ) -> Result<Ident, NoMemory>
     ensures { IfOk result (λ id. (within : List InstType) → ((q : List ℕ) → get (pointwise nat_eq) places.now q ≡ inst_place q within)
@@ -46,7 +46,7 @@ fn add_copies(alloc: Global, ids: &[Ident], made: &mut Vec<Ident>) -> Result<(),
 fn moved_path(
     alloc: Global,
     places: &IndexMap<Ident, u32>,
-    children: &[Inst],
+    children: &[Shared<Inst>],
     path: &[Ident],
     place: usize,
 ) -> Result<Option<Row<Ident>>, NoMemory>
@@ -67,7 +67,7 @@ fn moved_path(
 fn moved_note(
     alloc: Global,
     places: &IndexMap<Ident, u32>,
-    children: &[Inst],
+    children: &[Shared<Inst>],
     note: &Note,
     place: Option<usize>,
 ) -> Result<Option<Note>, NoMemory>
@@ -90,7 +90,7 @@ fn moved_note(
 fn add_moved(
     alloc: Global,
     places: &IndexMap<Ident, u32>,
-    children: &[Inst],
+    children: &[Shared<Inst>],
     note: &Note,
     place: Option<usize>,
     made: &mut Vec<Note>,
@@ -118,8 +118,8 @@ pub fn moved_notes(
     alloc: Global,
     notes: &[Note],
     places: &[Option<usize>],
-    within: &[Inst],
-    children: &[Inst],
+    within: &[Shared<Inst>],
+    children: &[Shared<Inst>],
 ) -> Result<Option<Row<Note>>, NoMemory>
     requires few { length within.now ≤ MOST_INSTS }
     requires long { length places.now ≡ length notes.now }

@@ -7,9 +7,9 @@ use Rattle.std.proofs.lemmas.Option.{slice_get_within, slice_get-map}
 use Rattle.netlist_schema.specs.Design.{Design, cell_at, insts_in, insts_of, nets_in, nets_of}
 use Rattle.netlist_schema.specs.Hierarchy.{insts_at}
 use Rattle.netlist_schema.specs.Types.{CellBody, CellId, Contents, End, Inst, Net, Note}
-use Rattle.edit_core.specs.Edit.{inner, noted, edited, edited_once, with_contents}
-use Rattle.edit_core.specs.Seen.{contents_at}
-use Rattle.edit_core.proofs.Edits.{cell_at-changed_same, cell_at-changed_other}
+use Rattle.edit_rules_spec.specs.Edit.{inner, noted, edited, edited_once, with_contents}
+use Rattle.edit_rules_spec.specs.Seen.{contents_at}
+use Rattle.edit_rules_spec.proofs.Edits.{cell_at-changed_same, cell_at-changed_other}
 use Rattle.flat_spec.specs.Paths.{nets_at}
 use Rattle.flat_spec.proofs.ListLemmas.{Member, Contains-member, Member-contains}
 use Rattle.ungroup_spec.specs.Dissolved.{contents_after, insts_after, nets_after}

@@ -7,13 +7,13 @@ use Rattle.std.proofs.lemmas.Option.{slice_get_within}
 use Rattle.netlist_schema.specs.Design.{Design}
 use Rattle.netlist_schema.specs.Hierarchy.{insts_at}
 use Rattle.netlist_schema.specs.Types.{CellId, Inst, Net}
-use Rattle.edit_core.specs.Paths.{same_cell}
+use Rattle.edit_rules_spec.specs.Paths.{same_cell}
 use Rattle.flat_spec.specs.Connection.{Connected}
 use Rattle.flat_spec.specs.Paths.{Bit, on, at_path, nets_at, Reaches, IsNet}
 use Rattle.flat_spec.specs.Types.{NetAt}
 use Rattle.flat_spec.proofs.ListLemmas.{Member}
 use Rattle.flat_spec.proofs.PathLemmas.{Some-same, Reaches-parts, Reaches-cons, IsNet-parts, IsNet-from}
-use Rattle.edit_core.proofs.Levels.{is_same_cell}
+use Rattle.edit_rules_spec.proofs.Levels.{is_same_cell}
 use Rattle.ungroup_spec.specs.Dissolved.{moved_place, nets_after, ends_after}
 use Rattle.ungroup_spec.specs.Groups.{Site, Part, outer, inner, ends_of_part, IsPart, became, heads, head_of}
 use Rattle.ungroup_spec.specs.KeepsNets.{after}

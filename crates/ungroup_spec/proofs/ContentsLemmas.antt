@@ -11,8 +11,8 @@ use Rattle.netlist_schema.specs.Typed.{IsTypedCell, IsTypedInst, IsTypedName, Is
 use Rattle.netlist_schema.specs.Types.{CellBody, CellId, End, Inst, Name, Net}
 use Rattle.netlist_schema.specs.Valid.{HasBit, IsEndOf, IsValidCell}
 use Rattle.netlist_schema.proofs.Cells.{All-cell_at}
-use Rattle.edit_core.proofs.Filled.{fill}
-use Rattle.edit_core.proofs.InnerValid.{AreGoodContents}
+use Rattle.edit_rules_spec.proofs.Filled.{fill}
+use Rattle.edit_rules_spec.proofs.InnerValid.{AreGoodContents}
 use Rattle.flat_spec.specs.ConnectionTest.{bit_of}
 use Rattle.flat_spec.specs.Paths.{own, on}
 use Rattle.flat_spec.proofs.ListLemmas.{Member, Member-append_cases, Member-map, Member-from_map, Ascends-append, Ascends-pairs}

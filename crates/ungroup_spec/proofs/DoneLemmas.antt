@@ -4,14 +4,14 @@ use Rattle.std.specs.Prelude.{option_map, is_none, option_and_then, slice_get}
 use Rattle.std.proofs.lemmas.Bool.{false≢true, ltb-false}
 use Rattle.netlist_schema.specs.Design.{Design, insts_in}
 use Rattle.netlist_schema.specs.Types.{CellId, Contents, Inst}
-use Rattle.edit_core.specs.Edit.{Edit, edited}
-use Rattle.edit_core.specs.Find.{cell_named, inst_place, inst_named}
-use Rattle.edit_core.specs.Rule.{first, no_lib, no_cell, no_inst, is_leaf}
-use Rattle.edit_core.specs.Seen.{inside, contents_at, named}
-use Rattle.edit_core.specs.declared.reply.CellName.{CellName}
-use Rattle.edit_core.specs.declared.reply.Reply.TheVariants.{NoCell, IsLeaf, TooMany}
+use Rattle.edit_rules_spec.specs.Edit.{Edit, edited}
+use Rattle.edit_rules_spec.specs.Find.{cell_named, inst_place, inst_named}
+use Rattle.edit_rules_spec.specs.Rule.{first, no_lib, no_cell, no_inst, is_leaf}
+use Rattle.edit_rules_spec.specs.Seen.{inside, contents_at, named}
+use Rattle.edit_rules_spec.specs.declared.reply.CellName.{CellName}
+use Rattle.edit_rules_spec.specs.declared.reply.Reply.TheVariants.{NoCell, IsLeaf, TooMany}
 use Rattle.flat_spec.proofs.PathLemmas.{Some-same}
-use Rattle.edit_core.proofs.Refusals.{first_none, not_refused}
+use Rattle.edit_rules_spec.proofs.Refusals.{first_none, not_refused}
 use Rattle.ungroup_spec.specs.Groups.{Site}
 use Rattle.ungroup_spec.specs.MovedNotes.{changed_notes}
 use Rattle.ungroup_spec.specs.Ungroup.{site_of, inside_inst, site_named, over, count_insts, count_nets, count_ends, edits_if, edits_at, ungroup, HasDissolved, IsSite}

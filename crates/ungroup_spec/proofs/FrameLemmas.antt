@@ -7,15 +7,15 @@ use Rattle.netlist_schema.specs.Design.{Design}
 use Rattle.netlist_schema.specs.Hierarchy.{insts_at}
 use Rattle.netlist_schema.specs.Types.{CellId, Inst, Note, Object, TopHead}
 use Rattle.netlist_schema.specs.declared.ids.Object.TheVariants.{Notes}
-use Rattle.edit_core.specs.Edit.{AllGoLast, AllPlaceOld, IsChanged, noted, AllFindOld}
-use Rattle.edit_core.specs.Find.{is_name, cell_named, inst_named}
-use Rattle.edit_core.specs.Objects.{AgreesOn, AreSameObjects, Grown, IsClosed, contents_object}
-use Rattle.edit_core.specs.Reading.{IsForCell, IsForNotes, IsInside, IsReached, IsReachedBy}
-use Rattle.edit_core.specs.Paths.{same_cell, goes_through}
-use Rattle.edit_core.specs.Seen.{inside, placed, contents_at}
-use Rattle.edit_core.specs.declared.reply.CellName.{CellName}
-use Rattle.edit_core.proofs.Reached.{either_same, for_notes_same, goes_through_same, insts_same, iff_trans}
-use Rattle.edit_core.proofs.Same.{both_ways, by_name, cell_named_same, cell_needs_same, contents_same, inside_same, named_same, placed_same}
+use Rattle.edit_rules_spec.specs.Edit.{AllGoLast, AllPlaceOld, IsChanged, noted, AllFindOld}
+use Rattle.edit_rules_spec.specs.Find.{is_name, cell_named, inst_named}
+use Rattle.edit_rules_spec.specs.Objects.{AgreesOn, AreSameObjects, Grown, IsClosed, contents_object}
+use Rattle.edit_rules_spec.specs.Reading.{IsForCell, IsForNotes, IsInside, IsReached, IsReachedBy}
+use Rattle.edit_rules_spec.specs.Paths.{same_cell, goes_through}
+use Rattle.edit_rules_spec.specs.Seen.{inside, placed, contents_at}
+use Rattle.edit_rules_spec.specs.declared.reply.CellName.{CellName}
+use Rattle.edit_rules_spec.proofs.Reached.{either_same, for_notes_same, goes_through_same, insts_same, iff_trans}
+use Rattle.edit_rules_spec.proofs.Same.{both_ways, by_name, cell_named_same, cell_needs_same, contents_same, inside_same, named_same, placed_same}
 use Rattle.ungroup_spec.specs.Groups.{Site}
 use Rattle.ungroup_spec.specs.MovedNotes.{changed_notes, moved_note, moved_notes, moved_path, past_inst}
 use Rattle.ungroup_spec.specs.Needs.{IsForInst, Needs, UngroupIsLocal}
@@ -31,7 +31,7 @@ use Rattle.ungroup_spec.proofs.EndLemmas.{map-insts_after}
 use Rattle.ungroup_spec.proofs.FreshLemmas.{All-member}
 use Rattle.ungroup_spec.proofs.SoundLemmas.{Member-spliced, has-around, has-within}
 use Rattle.ungroup_spec.proofs.ValidLemmas.{valid_stays}
-use Rattle.edit_core.proofs.There.{named_cell_there}
+use Rattle.edit_rules_spec.proofs.There.{named_cell_there}
 
 -- ---- notes
 

@@ -9,11 +9,11 @@ use Rattle.std.proofs.lemmas.Str.Parse.{digit_from_value}
 use Rattle.netlist_schema.specs.Ident.{IsIdentifier, is_identifier_byte}
 use Rattle.netlist_schema.specs.Typed.{IsBytes, IsTypedName}
 use Rattle.netlist_schema.specs.Types.{Name}
-use Rattle.edit_core.specs.Find.{is_same}
-use Rattle.edit_core.proofs.Numbers.{lower, lower_numbered, numbers_apart}
-use Rattle.edit_core.proofs.Refusals.{same_name}
-use Rattle.edit_core.proofs.Closed.{All-contained, All-from_contained}
-use Rattle.edit_core.proofs.Refusals.{is_same-refl}
+use Rattle.edit_rules_spec.specs.Find.{is_same}
+use Rattle.edit_rules_spec.proofs.Numbers.{lower, lower_numbered, numbers_apart}
+use Rattle.edit_rules_spec.proofs.Refusals.{same_name}
+use Rattle.edit_rules_spec.proofs.Closed.{All-contained, All-from_contained}
+use Rattle.edit_rules_spec.proofs.Refusals.{is_same-refl}
 use Rattle.flat_spec.proofs.ListLemmas.{Member, Member-append_cases, Member-map, Member-from_map, Contains-member, Member-contains, pigeons}
 use Rattle.flat_spec.proofs.OccurrenceLemmas.{range_with_len-most, range_with_len-member}
 use Rattle.ungroup_spec.specs.Names.{is_taken, numbered, candidates, free_name, displayed, name_up, named_up}

@@ -10,9 +10,9 @@ use Rattle.netlist_schema.specs.Design.{Design}
 use Rattle.netlist_schema.specs.Hierarchy.{insts_at}
 use Rattle.netlist_schema.specs.Types.{CellId, Inst, Note, TopHead}
 use Rattle.netlist_schema.proofs.Lists.{get_unmapped}
-use Rattle.edit_core.specs.Edit.{inner, noted, edited}
-use Rattle.edit_core.specs.Find.{is_name, inst_named}
-use Rattle.edit_core.specs.Paths.{same_cell, goes_through}
+use Rattle.edit_rules_spec.specs.Edit.{inner, noted, edited}
+use Rattle.edit_rules_spec.specs.Find.{is_name, inst_named}
+use Rattle.edit_rules_spec.specs.Paths.{same_cell, goes_through}
 use Rattle.flat_spec.specs.Effective.{insts_along}
 use Rattle.ungroup_spec.specs.Dissolved.{children, contents_after, inst_name, with_inst_name}
 use Rattle.ungroup_spec.specs.Groups.{Site}

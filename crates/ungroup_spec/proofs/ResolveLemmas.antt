@@ -13,16 +13,16 @@ use Rattle.netlist_schema.specs.Types.{CellBody, CellId, Inst}
 use Rattle.netlist_schema.specs.Valid.{IsValid}
 use Rattle.netlist_schema.proofs.Cells.{All-cell_at}
 use Rattle.netlist_schema.proofs.Ranks.{below_trans}
-use Rattle.edit_core.specs.Find.{is_name, inst_named}
-use Rattle.edit_core.specs.Paths.{same_cell}
-use Rattle.edit_core.proofs.Refusals.{same_name}
-use Rattle.edit_core.proofs.Refusals.{is_name-refl}
+use Rattle.edit_rules_spec.specs.Find.{is_name, inst_named}
+use Rattle.edit_rules_spec.specs.Paths.{same_cell}
+use Rattle.edit_rules_spec.proofs.Refusals.{same_name}
+use Rattle.edit_rules_spec.proofs.Refusals.{is_name-refl}
 use Rattle.flat_spec.specs.Effective.{insts_along, names_along}
 use Rattle.flat_spec.specs.PathOrder.{PathBefore}
 use Rattle.flat_spec.proofs.ListLemmas.{Member, slice_get-contains}
 use Rattle.flat_spec.proofs.PathLemmas.{Some-same}
 use Rattle.flat_spec.proofs.RepresentativeLemmas.{PathBefore-total, PathBefore-not_both}
-use Rattle.edit_core.proofs.Levels.{is_same_cell}
+use Rattle.edit_rules_spec.proofs.Levels.{is_same_cell}
 use Rattle.ungroup_spec.specs.KeepsNets.{after, IsUngroup}
 use Rattle.ungroup_spec.specs.Maps.{Dissolving, step_after, child_after, path_after, path_inside}
 use Rattle.ungroup_spec.specs.MovedNotes.{past_inst, moved_path}

@@ -9,7 +9,7 @@ use Rattle.netlist_schema.specs.Hierarchy.{insts_at, HasInst, IsBelow, placed, d
 use Rattle.netlist_schema.specs.Types.{CellBody, CellId, End, Inst, Net}
 use Rattle.netlist_schema.specs.Valid.{IsValid, IsEndOf}
 use Rattle.netlist_schema.proofs.Ranks.{below_trans}
-use Rattle.edit_core.proofs.Closed.{All-contained}
+use Rattle.edit_rules_spec.proofs.Closed.{All-contained}
 use Rattle.flat_spec.specs.Paths.{Bit, on}
 use Rattle.flat_spec.specs.Representatives.{representative}
 use Rattle.flat_spec.proofs.ListLemmas.{Member, Member-append_cases, Member-map, Member-from_map, Member-contains, Contains-member}

@@ -9,10 +9,10 @@ use Rattle.netlist_schema.specs.Names.{note_key}
 use Rattle.netlist_schema.specs.Typed.{IsTypedNote, IsTypedProperty}
 use Rattle.netlist_schema.specs.Types.{CellId, Note, Property, TopHead}
 use Rattle.netlist_schema.specs.Valid.{IsNoteBelow, IsValid}
-use Rattle.edit_core.specs.Edit.{edited, edited_once, inner, noted}
-use Rattle.edit_core.specs.Paths.{goes_through}
-use Rattle.edit_core.proofs.Filled.{filled, inner_filled}
-use Rattle.edit_core.proofs.InnerValid.{AreGoodNotes, inner_valid, with_both}
+use Rattle.edit_rules_spec.specs.Edit.{edited, edited_once, inner, noted}
+use Rattle.edit_rules_spec.specs.Paths.{goes_through}
+use Rattle.edit_rules_spec.proofs.Filled.{filled, inner_filled}
+use Rattle.edit_rules_spec.proofs.InnerValid.{AreGoodNotes, inner_valid, with_both}
 use Rattle.flat_spec.specs.Effective.{names_along}
 use Rattle.flat_spec.proofs.ListLemmas.{Member, Member-map, Member-from_map, Ascends, Ascends-pairs}
 use Rattle.flat_spec.proofs.PinLemmas.{AllPairs-ascends}

@@ -14,10 +14,10 @@ use Rattle.flat_spec.specs.Representatives.{representative}
 use Rattle.flat_spec.specs.Types.{NetAt}
 use Rattle.ungroup_spec.specs.Maps.{Dissolving, path_after, image, occurrence_after}
 use Rattle.ungroup_spec.specs.MovedNotes.{moved_path, moved_notes}
-use Rattle.edit_core.specs.Edit.{edited}
-use Rattle.edit_core.specs.Find.{cell_named, inst_place}
-use Rattle.edit_core.specs.Rule.{first}
-use Rattle.edit_core.specs.declared.reply.CellName.{CellName}
+use Rattle.edit_rules_spec.specs.Edit.{edited}
+use Rattle.edit_rules_spec.specs.Find.{cell_named, inst_place}
+use Rattle.edit_rules_spec.specs.Rule.{first}
+use Rattle.edit_rules_spec.specs.declared.reply.CellName.{CellName}
 use Rattle.ungroup_spec.specs.Ungroup.{ungroup, IsSite, ungrouped, count_insts, count_nets, count_ends}
 
 -- in a valid design an instance is dissolved, and its cell has room for it

@@ -3,7 +3,7 @@ use Rattle.std.specs.Prelude.{◌+◌, ◌==◌, ◌&&◌, ℕ, Bool, cond, List
 use Rattle.netlist_schema.specs.Design.{Design}
 use Rattle.netlist_schema.specs.Hierarchy.{insts_at}
 use Rattle.netlist_schema.specs.Types.{CellId}
-use Rattle.edit_core.specs.Paths.{same_cell}
+use Rattle.edit_rules_spec.specs.Paths.{same_cell}
 use Rattle.flat_spec.specs.Occurrences.{Occurrence}
 use Rattle.flat_spec.specs.Paths.{at_path}
 use Rattle.flat_spec.specs.Types.{NetAt}

@@ -5,8 +5,8 @@ use Rattle.std.specs.Option.{option_map_or}
 use Rattle.netlist_schema.specs.Design.{Design}
 use Rattle.netlist_schema.specs.Hierarchy.{insts_at}
 use Rattle.netlist_schema.specs.Types.{CellId, Note}
-use Rattle.edit_core.specs.Find.{is_name, inst_place, inst_named}
-use Rattle.edit_core.specs.Paths.{same_cell, goes_through}
+use Rattle.edit_rules_spec.specs.Find.{is_name, inst_place, inst_named}
+use Rattle.edit_rules_spec.specs.Paths.{same_cell, goes_through}
 use Rattle.ungroup_spec.specs.Dissolved.{children}
 use Rattle.ungroup_spec.specs.Groups.{Site}
 

@@ -2,7 +2,7 @@
 use Rattle.std.specs.Prelude.{ℕ, Bool, not, List, [], ◌∷◌, ◌++◌, Some, length, map, find, unwrap_or, codes, decimal}
 use Rattle.std.specs.List.{list_any, range_with_len}
 use Rattle.netlist_schema.specs.Types.{Name}
-use Rattle.edit_core.specs.Find.{is_same}
+use Rattle.edit_rules_spec.specs.Find.{is_same}
 
 -- one of these names is the same, where the case of letters is ignored
 abbrev pub is_taken : List (List ℕ) → List ℕ → Bool

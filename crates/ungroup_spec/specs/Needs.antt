@@ -2,12 +2,12 @@
 use Rattle.std.specs.Prelude.{◌≡◌, ◌⊎◌, ℕ, List, Option, Some, None}
 use Rattle.netlist_schema.specs.Design.{Design}
 use Rattle.netlist_schema.specs.Types.{Inst, Object}
-use Rattle.edit_core.specs.Find.{cell_named}
-use Rattle.edit_core.specs.Local.{IsLocal}
-use Rattle.edit_core.specs.Objects.{contents_object, face_object}
-use Rattle.edit_core.specs.Reading.{IsForCell, IsForNotes}
-use Rattle.edit_core.specs.Seen.{placed}
-use Rattle.edit_core.specs.declared.reply.CellName.{CellName}
+use Rattle.edit_rules_spec.specs.Find.{cell_named}
+use Rattle.edit_rules_spec.specs.Local.{IsLocal}
+use Rattle.edit_rules_spec.specs.Objects.{contents_object, face_object}
+use Rattle.edit_rules_spec.specs.Reading.{IsForCell, IsForNotes}
+use Rattle.edit_rules_spec.specs.Seen.{placed}
+use Rattle.edit_rules_spec.specs.declared.reply.CellName.{CellName}
 use Rattle.ungroup_spec.specs.Ungroup.{ungroup}
 
 -- both objects of the instance's cell, where the instance is found

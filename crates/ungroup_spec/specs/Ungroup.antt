@@ -5,13 +5,13 @@ use Rattle.std.specs.Option.{option_map_or}
 use Rattle.netlist_schema.specs.Design.{Design}
 use Rattle.netlist_schema.specs.Types.{CellId, Contents, Note}
 use Rattle.netlist_schema.specs.declared.limits.TheConstants.{MOST_ENDS, MOST_INSTS, MOST_NETS}
-use Rattle.edit_core.specs.Edit.{Edit, inner, noted, edited}
-use Rattle.edit_core.specs.Find.{cell_named, inst_place}
-use Rattle.edit_core.specs.Rule.{Rule, refuse, no_lib, no_cell, no_inst, is_leaf, first}
-use Rattle.edit_core.specs.Seen.{Named, named, inside, placed, contents_at}
-use Rattle.edit_core.specs.declared.reply.CellName.{CellName}
-use Rattle.edit_core.specs.declared.reply.Reply.{Reply}
-use Rattle.edit_core.specs.declared.reply.Reply.TheVariants.{Done, TooMany}
+use Rattle.edit_rules_spec.specs.Edit.{Edit, inner, noted, edited}
+use Rattle.edit_rules_spec.specs.Find.{cell_named, inst_place}
+use Rattle.edit_rules_spec.specs.Rule.{Rule, refuse, no_lib, no_cell, no_inst, is_leaf, first}
+use Rattle.edit_rules_spec.specs.Seen.{Named, named, inside, placed, contents_at}
+use Rattle.edit_rules_spec.specs.declared.reply.CellName.{CellName}
+use Rattle.edit_rules_spec.specs.declared.reply.Reply.{Reply}
+use Rattle.edit_rules_spec.specs.declared.reply.Reply.TheVariants.{Done, TooMany}
 use Rattle.ungroup_spec.specs.Dissolved.{insts_after, nets_after, contents_after}
 use Rattle.ungroup_spec.specs.Groups.{Site}
 use Rattle.ungroup_spec.specs.MovedNotes.{changed_notes}

@@ -2,12 +2,12 @@
 use Rattle.std.specs.Prelude.{◌≡◌, ℕ, List, [], ◌∷◌, Some, codes}
 use Rattle.netlist_schema.specs.Design.{Design}
 use Rattle.netlist_schema.specs.Types.{CellBody, Contents, Inst, Note}
-use Rattle.edit_core.specs.Edit.{edited}
-use Rattle.edit_core.specs.Rule.{ruled}
-use Rattle.edit_core.specs.Seen.{contents_at}
-use Rattle.edit_core.specs.declared.reply.CellName.{CellName}
-use Rattle.edit_core.specs.declared.reply.Reply.{Reply}
-use Rattle.edit_core.specs.declared.reply.Reply.TheVariants.{Done}
+use Rattle.edit_rules_spec.specs.Edit.{edited}
+use Rattle.edit_rules_spec.specs.Rule.{ruled}
+use Rattle.edit_rules_spec.specs.Seen.{contents_at}
+use Rattle.edit_rules_spec.specs.declared.reply.CellName.{CellName}
+use Rattle.edit_rules_spec.specs.declared.reply.Reply.{Reply}
+use Rattle.edit_rules_spec.specs.declared.reply.Reply.TheVariants.{Done}
 use Rattle.flat_spec.specs.ExampleNotes.{pair}
 use Rattle.flat_spec.specs.ExampleParts.{named, renamed, id_of, on_port, inst, inst_named, net, net_named, own_port, scalar, says, body, cell, leaf, lib, top}
 use Rattle.flat_spec.specs.Flattening.{flattening}

@@ -6,8 +6,8 @@ use Rattle.netlist_schema.specs.Design.{Design, cell_at, insts_in}
 use Rattle.netlist_schema.specs.Hierarchy.{insts_at}
 use Rattle.netlist_schema.specs.Types.{CellId, Contents, Inst}
 use Rattle.netlist_schema.specs.Valid.{IsValid}
-use Rattle.edit_core.specs.Seen.{contents_at}
-use Rattle.edit_core.proofs.Lists.{filter_both}
+use Rattle.edit_rules_spec.specs.Seen.{contents_at}
+use Rattle.edit_rules_spec.proofs.Lists.{filter_both}
 use Rattle.flat_spec.specs.Occurrences.{Occurrence, occurrences, under}
 use Rattle.flat_spec.specs.Trees.{tree}
 use Rattle.flat_spec.proofs.OccurrenceLemmas.{occurrences_go_down}

@@ -8,8 +8,8 @@ use Rattle.std.proofs.lemmas.List.Folds.{list_any-append}
 use Rattle.netlist_schema.specs.Design.{Design}
 use Rattle.netlist_schema.specs.Order.{cell_cmp}
 use Rattle.netlist_schema.specs.Types.{CellId}
-use Rattle.edit_core.specs.Paths.{same_cell}
-use Rattle.edit_core.proofs.Levels.{is_same_cell}
+use Rattle.edit_rules_spec.specs.Paths.{same_cell}
+use Rattle.edit_rules_spec.proofs.Levels.{is_same_cell}
 use Rattle.flat_spec.specs.Occurrences.{Occurrence}
 use Rattle.uniquify_spec.specs.Blocks.{is_block}
 use Rattle.cell_copies.specs.declared.spot.Step.{Step}

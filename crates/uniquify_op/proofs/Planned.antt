@@ -5,9 +5,9 @@ use Rattle.netlist_schema.specs.Design.{Design}
 use Rattle.netlist_schema.specs.Names.{AreDistinct}
 use Rattle.netlist_schema.specs.Types.{CellId}
 use Rattle.netlist_schema.specs.Valid.{IsValid}
-use Rattle.edit_core.specs.Rule.{refuse}
-use Rattle.edit_core.specs.declared.reply.Reply.TheVariants.{TooMany}
-use Rattle.edit_core.proofs.Lists.{Apart, distinct_of}
+use Rattle.edit_rules_spec.specs.Rule.{refuse}
+use Rattle.edit_rules_spec.specs.declared.reply.Reply.TheVariants.{TooMany}
+use Rattle.edit_rules_spec.proofs.Lists.{Apart, distinct_of}
 use Rattle.flat_spec.specs.Occurrences.{Occurrence}
 use Rattle.flat_spec.specs.Paths.{Reaches}
 use Rattle.flat_spec.proofs.ListLemmas.{Ascends, Member, Member-from_filter, Ascends-filter}

@@ -13,9 +13,9 @@ use Rattle.netlist_schema.specs.Types.{CellId}
 use Rattle.netlist_schema.specs.Hierarchy.{IsCell}
 use Rattle.netlist_schema.specs.Valid.{IsValid}
 use Rattle.netlist_schema.proofs.Lists.{get_there, all_append, all_behind}
-use Rattle.edit_core.proofs.Lists.{each_left}
+use Rattle.edit_rules_spec.proofs.Lists.{each_left}
 use Rattle.flat_spec.specs.Occurrences.{Occurrence}
-use Rattle.edit_core.proofs.Edits.{last_of}
+use Rattle.edit_rules_spec.proofs.Edits.{last_of}
 use Rattle.uniquify_spec.specs.Blocks.{blocks_below, root_of}
 use Rattle.uniquify_spec.specs.Copies.{Copy, copies_after, copy_after}
 use Rattle.uniquify_spec.proofs.ForCode.{copies_go_on}

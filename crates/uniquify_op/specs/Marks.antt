@@ -3,7 +3,7 @@ use Rattle.std.specs.Prelude.{◌≡◌, Bool, true, List, [], ◌∷◌, ◌++�
 use Rattle.std.specs.List.{list_any}
 use Rattle.netlist_schema.specs.Design.{Design}
 use Rattle.netlist_schema.specs.Types.{CellId}
-use Rattle.edit_core.specs.Paths.{same_cell}
+use Rattle.edit_rules_spec.specs.Paths.{same_cell}
 use Rattle.flat_spec.specs.Occurrences.{Occurrence}
 use Rattle.uniquify_spec.specs.Blocks.{blocks_below}
 use Rattle.cell_copies.specs.Drafts.{IsDraft, Marked, has_no_room, made_for}

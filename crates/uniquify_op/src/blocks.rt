@@ -1,13 +1,13 @@
 //! Copies for the occurrences of blocks below a top.
 ghost use Rattle.std.specs.Prelude.{◌≡◌, IfOk};
 ghost use Rattle.netlist_schema.specs.Valid.{IsValid};
-ghost use Rattle.cells_model.specs.State.{HasReadSome};
+ghost use Rattle.edit_cells.specs.State.{HasReadSome};
 ghost use Rattle.uniquify_op.specs.Marks.{AreBlocksDrafted};
 
 use crate::visits::Visits;
 use crate::walk::{Turn, Walk};
 use cell_copies::Draft;
-use cells_model::Cells;
+use edit_cells::Cells;
 use netlist_schema::{CellId, NoMemory};
 use std::alloc::Global;
 

@@ -1,14 +1,14 @@
 //! Each occurrence of a block gets a cell of its own.
 ghost use Rattle.std.specs.Prelude.{◌≡◌, IfOk, MatchResult};
 ghost use Rattle.netlist_schema.specs.Valid.{IsValid};
-ghost use Rattle.cells_model.specs.State.{HasReadSome};
+ghost use Rattle.edit_cells.specs.State.{HasReadSome};
 ghost use Rattle.uniquify_spec.specs.Blocks.{each_block};
 ghost use Rattle.eco_reads.specs.Done.{IsDone, IsDoneOrFails};
 ghost use Rattle.path_copies.specs.Plans.{IsPlanned};
 
 use crate::blocks::draft_blocks;
 use block_kids::read_below;
-use cells_model::Cells;
+use edit_cells::Cells;
 use edit_spec::{Op, Reply};
 use netlist_schema::{CellId, NoMemory};
 use path_copies::{Plan, plan_of, put_plan};

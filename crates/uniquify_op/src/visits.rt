@@ -5,7 +5,7 @@ ghost use Rattle.netlist_schema.specs.Hierarchy.{IsCell};
 ghost use Rattle.netlist_schema.specs.Order.{cell_cmp};
 ghost use Rattle.netlist_schema.specs.Types.{CellId};
 ghost use Rattle.flat_spec.specs.Occurrences.{Occurrence};
-ghost use Rattle.cells_model.specs.State.{HasReadSome};
+ghost use Rattle.edit_cells.specs.State.{HasReadSome};
 ghost use Rattle.cell_copies.specs.Drafts.{IsNumbered, placed_in};
 ghost use Rattle.uniquify_op.specs.Marks.{marks_after};
 ghost use Rattle.uniquify_op.specs.Visited.{IsPut, IsPutAt, IsVisited};
@@ -13,7 +13,7 @@ ghost use Rattle.uniquify_op.specs.Visited.{IsPut, IsPutAt, IsVisited};
 use crate::met::Met;
 use block_kids::block_kids;
 use cell_copies::{Draft, Step};
-use cells_model::Cells;
+use edit_cells::Cells;
 use netlist_schema::NoMemory;
 use std::alloc::Global;
 

@@ -5,7 +5,7 @@ ghost use Rattle.netlist_schema.specs.Types.{CellId};
 ghost use Rattle.netlist_schema.specs.Valid.{IsValid};
 ghost use Rattle.flat_spec.specs.Occurrences.{Occurrence};
 ghost use Rattle.uniquify_spec.specs.Blocks.{blocks_below};
-ghost use Rattle.cells_model.specs.State.{HasReadSome};
+ghost use Rattle.edit_cells.specs.State.{HasReadSome};
 ghost use Rattle.uniquify_op.specs.Walks.{IsSomeWalk, IsTurned, IsWaiting, IsWalk};
 
 use crate::frame::{Frame, Next, take_next};
@@ -13,7 +13,7 @@ use crate::met::Met;
 use crate::visits::Visits;
 use block_kids::block_kids;
 use cell_copies::{Draft, Step};
-use cells_model::Cells;
+use edit_cells::Cells;
 use netlist_schema::{CellId, NoMemory};
 use std::alloc::Global;
 

@@ -8,15 +8,15 @@ use Rattle.netlist_schema.specs.Hierarchy.{insts_at}
 use Rattle.netlist_schema.specs.Names.{cell_names}
 use Rattle.netlist_schema.specs.Types.{CellBody, CellId, Contents, LibId, Object}
 use Rattle.netlist_schema.specs.declared.ids.Object.TheVariants.{Directory}
-use Rattle.edit_core.specs.Edit.{fresh, inner}
-use Rattle.edit_core.specs.Objects.{Agrees}
-use Rattle.edit_core.specs.Seen.{contents_at}
-use Rattle.edit_core.proofs.Same.{names_of_directory}
+use Rattle.edit_rules_spec.specs.Edit.{fresh, inner}
+use Rattle.edit_rules_spec.specs.Objects.{Agrees}
+use Rattle.edit_rules_spec.specs.Seen.{contents_at}
+use Rattle.edit_rules_spec.proofs.Same.{names_of_directory}
 use Rattle.flat_spec.specs.Occurrences.{Occurrence}
 use Rattle.flat_spec.proofs.ListLemmas.{Member}
 use Rattle.uniquify_spec.specs.Blocks.{is_block}
 use Rattle.uniquify_spec.specs.Copies.{Copy, names_with, copies_in, name_at, copy_name, copy_after, copies_after}
-use Rattle.edit_core.specs.Objects.{face_of, face_object, contents_object}
+use Rattle.edit_rules_spec.specs.Objects.{face_of, face_object, contents_object}
 use Rattle.uniquify_spec.specs.Parts.{IsPartOf}
 use Rattle.uniquify_spec.specs.Split.{Split, Owner, renamed, is_turned, turned, new_cell, turned_cell, owners, split_edits}
 

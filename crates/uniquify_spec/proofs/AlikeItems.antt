@@ -7,7 +7,7 @@ use Rattle.std.proofs.lemmas.List.{map-append}
 use Rattle.netlist_schema.specs.Design.{Design, cell_at, port_width}
 use Rattle.netlist_schema.specs.Hierarchy.{NoCellIsBelowItself}
 use Rattle.netlist_schema.specs.Types.{CellBody, CellId, Contents, Port, Property, TopHead}
-use Rattle.edit_core.specs.declared.reply.CellName.{CellName}
+use Rattle.edit_rules_spec.specs.declared.reply.CellName.{CellName}
 use Rattle.flat_spec.specs.Effective.{effective}
 use Rattle.flat_spec.specs.Flattening.{net_item, pin_item, items_of}
 use Rattle.flat_spec.specs.Occurrences.{Occurrence, occurrences, own_nets}

@@ -7,8 +7,8 @@ use Rattle.netlist_schema.specs.Design.{Design}
 use Rattle.netlist_schema.specs.Hierarchy.{IsCell}
 use Rattle.netlist_schema.specs.Types.{CellId}
 use Rattle.netlist_schema.specs.Valid.{IsValid}
-use Rattle.edit_core.specs.Paths.{same_cell}
-use Rattle.edit_core.proofs.Closed.{valid_is_closed}
+use Rattle.edit_rules_spec.specs.Paths.{same_cell}
+use Rattle.edit_rules_spec.proofs.Closed.{valid_is_closed}
 use Rattle.flat_spec.specs.Occurrences.{Occurrence}
 use Rattle.flat_spec.specs.PathOrder.{PathBefore}
 use Rattle.flat_spec.specs.Paths.{Reaches}

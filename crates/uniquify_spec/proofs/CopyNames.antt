@@ -3,8 +3,8 @@ use Rattle.std.proofs.Common.{◌≡◌, ◌≢◌, ◌≤◌, ◌<◌, ◌+◌,
 use Rattle.std.specs.Prelude.{find, codes, unwrap_or}
 use Rattle.std.specs.List.{list_any, range_with_len}
 use Rattle.std.proofs.lemmas.Bool.{cases_Bool, true≢false, cond-true, cond-false, or_cases}
-use Rattle.edit_core.specs.Find.{is_same}
-use Rattle.edit_core.proofs.Numbers.{lower, numbers_apart}
+use Rattle.edit_rules_spec.specs.Find.{is_same}
+use Rattle.edit_rules_spec.proofs.Numbers.{lower, numbers_apart}
 use Rattle.flat_spec.proofs.ListLemmas.{Member, pigeons}
 use Rattle.uniquify_spec.specs.Copies.{numbered, is_free, free_number}
 use Rattle.uniquify_spec.specs.Laws.{IsLeastFree}

@@ -9,10 +9,10 @@ use Rattle.netlist_schema.specs.Design.{Design}
 use Rattle.netlist_schema.specs.Hierarchy.{insts_at, NoCellIsBelowItself}
 use Rattle.netlist_schema.specs.Types.{CellId, Inst}
 use Rattle.netlist_schema.specs.Valid.{IsValid}
-use Rattle.edit_core.specs.Find.{is_same}
-use Rattle.edit_core.specs.Paths.{same_cell}
-use Rattle.edit_core.proofs.Levels.{same_cell-refl, is_same_cell}
-use Rattle.edit_core.proofs.Lists.{Apart, apart_of}
+use Rattle.edit_rules_spec.specs.Find.{is_same}
+use Rattle.edit_rules_spec.specs.Paths.{same_cell}
+use Rattle.edit_rules_spec.proofs.Levels.{same_cell-refl, is_same_cell}
+use Rattle.edit_rules_spec.proofs.Lists.{Apart, apart_of}
 use Rattle.flat_spec.specs.Occurrences.{Occurrence, under, occurrences_from, occurrences}
 use Rattle.flat_spec.specs.PathOrder.{PathBefore}
 use Rattle.flat_spec.specs.Trees.{Forest, Bare, Grown, UnfoldEach, tree}

@@ -5,9 +5,9 @@ use Rattle.std.specs.Option.{option_map, option_map_or, option_to_list}
 use Rattle.std.proofs.lemmas.Bool.{true≢false}
 use Rattle.netlist_schema.specs.Design.{Design, cell_at}
 use Rattle.netlist_schema.specs.Types.{CellBody, CellId, Contents, Inst}
-use Rattle.edit_core.specs.Edit.{Edit, inner, edited, edited_once, with_contents}
-use Rattle.edit_core.specs.Seen.{contents_at}
-use Rattle.edit_core.proofs.Edits.{cell_at-changed_same, cell_at-changed_other}
+use Rattle.edit_rules_spec.specs.Edit.{Edit, inner, edited, edited_once, with_contents}
+use Rattle.edit_rules_spec.specs.Seen.{contents_at}
+use Rattle.edit_rules_spec.proofs.Edits.{cell_at-changed_same, cell_at-changed_other}
 use Rattle.flat_spec.specs.ConnectionTest.{above}
 use Rattle.flat_spec.proofs.ListLemmas.{Member, Ascends}
 use Rattle.flat_spec.proofs.TestLemmas.{above-append}

@@ -7,9 +7,9 @@ use Rattle.std.proofs.lemmas.Bool.{cases_eq, ne_eqb, cond-true, cond-false, true
 use Rattle.netlist_schema.specs.Design.{Design, lib_at, cell_at, cells_in}
 use Rattle.netlist_schema.specs.Hierarchy.{IsCell}
 use Rattle.netlist_schema.specs.Types.{CellBody, CellId, Lib, LibId}
-use Rattle.edit_core.specs.Edit.{Edit, fresh, edited, with_more_cell, lib_with_more}
-use Rattle.edit_core.proofs.Edits.{cells_of, more_same, more_other, IsNext}
-use Rattle.edit_core.proofs.Edits.{directory_of, new_cell_at, other_cell_at}
+use Rattle.edit_rules_spec.specs.Edit.{Edit, fresh, edited, with_more_cell, lib_with_more}
+use Rattle.edit_rules_spec.proofs.Edits.{cells_of, more_same, more_other, IsNext}
+use Rattle.edit_rules_spec.proofs.Edits.{directory_of, new_cell_at, other_cell_at}
 use Rattle.flat_spec.proofs.ListLemmas.{Member}
 use Rattle.uniquify_spec.specs.Copies.{Copy, names_with}
 use Rattle.uniquify_spec.specs.Split.{renamed, new_cell}

@@ -6,8 +6,8 @@ use Rattle.netlist_schema.specs.Design.{Design}
 use Rattle.netlist_schema.specs.Hierarchy.{IsCell, insts_at}
 use Rattle.netlist_schema.specs.Types.{CellId, Inst}
 use Rattle.netlist_schema.specs.Valid.{IsValid}
-use Rattle.edit_core.specs.Find.{inst_place}
-use Rattle.edit_core.proofs.Closed.{valid_is_closed}
+use Rattle.edit_rules_spec.specs.Find.{inst_place}
+use Rattle.edit_rules_spec.proofs.Closed.{valid_is_closed}
 use Rattle.flat_spec.specs.Occurrences.{Occurrence, under}
 use Rattle.flat_spec.specs.Paths.{cell_along, Reaches}
 use Rattle.flat_spec.proofs.ListLemmas.{Member, Member-map, Member-from_map, Member-filter, Member-from_filter}

@@ -8,7 +8,7 @@ use Rattle.netlist_schema.specs.Hierarchy.{IsCell, IsBelow, placed, deeper, inst
 use Rattle.netlist_schema.specs.Names.{HasDistinctKeys}
 use Rattle.netlist_schema.specs.Types.{CellBody, CellId, Contents, Inst, TopHead}
 use Rattle.netlist_schema.specs.Valid.{IsValid}
-use Rattle.edit_core.specs.Objects.{IsClosed}
+use Rattle.edit_rules_spec.specs.Objects.{IsClosed}
 use Rattle.flat_spec.specs.Paths.{Reaches}
 use Rattle.flat_spec.proofs.ListLemmas.{slice_get-contains}
 use Rattle.flat_spec.proofs.PathLemmas.{Some-same, Reaches-parts}

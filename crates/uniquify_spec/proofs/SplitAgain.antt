@@ -6,13 +6,13 @@ use Rattle.std.proofs.lemmas.Bool.{true≢false, cond-false}
 use Rattle.netlist_schema.specs.Design.{Design}
 use Rattle.netlist_schema.specs.Types.{CellId, TopHead}
 use Rattle.netlist_schema.specs.Valid.{IsValid}
-use Rattle.edit_core.specs.Edit.{edited}
-use Rattle.edit_core.specs.Paths.{same_cell}
-use Rattle.edit_core.specs.Rule.{refuse, first, unless, ruled}
-use Rattle.edit_core.specs.declared.reply.Reply.{Reply}
-use Rattle.edit_core.specs.declared.reply.Reply.TheVariants.{Copies, NoTop}
-use Rattle.edit_core.proofs.Growing.{edited_is_grown}
-use Rattle.edit_core.proofs.Levels.{same_cell-refl, is_same_cell}
+use Rattle.edit_rules_spec.specs.Edit.{edited}
+use Rattle.edit_rules_spec.specs.Paths.{same_cell}
+use Rattle.edit_rules_spec.specs.Rule.{refuse, first, unless, ruled}
+use Rattle.edit_rules_spec.specs.declared.reply.Reply.{Reply}
+use Rattle.edit_rules_spec.specs.declared.reply.Reply.TheVariants.{Copies, NoTop}
+use Rattle.edit_rules_spec.proofs.Growing.{edited_is_grown}
+use Rattle.edit_rules_spec.proofs.Levels.{same_cell-refl, is_same_cell}
 use Rattle.flat_spec.specs.Occurrences.{Occurrence}
 use Rattle.flat_spec.specs.Paths.{Reaches}
 use Rattle.flat_spec.proofs.ListLemmas.{Member}

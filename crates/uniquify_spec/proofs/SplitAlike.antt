@@ -7,10 +7,10 @@ use Rattle.std.proofs.lemmas.Bool.{true≢false}
 use Rattle.netlist_schema.specs.Design.{Design, cell_at, insts_in, insts_of}
 use Rattle.netlist_schema.specs.Hierarchy.{insts_at}
 use Rattle.netlist_schema.specs.Types.{CellBody, CellId, Contents, Inst, LibHead, TopHead}
-use Rattle.edit_core.specs.Edit.{Edit, fresh, inner, edited}
-use Rattle.edit_core.specs.Objects.{Grown, outside_of, outside_at, head_at, name_of, cell_name_at}
-use Rattle.edit_core.specs.Seen.{contents_at}
-use Rattle.edit_core.proofs.Growing.{edited_is_grown}
+use Rattle.edit_rules_spec.specs.Edit.{Edit, fresh, inner, edited}
+use Rattle.edit_rules_spec.specs.Objects.{Grown, outside_of, outside_at, head_at, name_of, cell_name_at}
+use Rattle.edit_rules_spec.specs.Seen.{contents_at}
+use Rattle.edit_rules_spec.proofs.Growing.{edited_is_grown}
 use Rattle.flat_spec.specs.Paths.{cell_along, Reaches}
 use Rattle.flat_spec.proofs.PathLemmas.{Reaches-append, Reaches-cons}
 use Rattle.uniquify_spec.specs.Alike.{unplaced, all_unplaced, inside_of, AreAlikeBelow, AreAlike}

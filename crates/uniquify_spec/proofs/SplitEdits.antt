@@ -9,18 +9,18 @@ use Rattle.netlist_schema.specs.Design.{Design, cell_at, insts_in, insts_of}
 use Rattle.netlist_schema.specs.Hierarchy.{IsCell}
 use Rattle.netlist_schema.specs.Types.{CellBody, CellId, Contents, Inst, Object}
 use Rattle.netlist_schema.specs.declared.ids.Object.TheVariants.{Directory}
-use Rattle.edit_core.specs.Edit.{Edit, fresh, inner, edited_once, with_more_cell}
-use Rattle.edit_core.specs.Edit.{IsChanged}
-use Rattle.edit_core.specs.Objects.{IsClosed}
-use Rattle.edit_core.specs.Seen.{contents_at}
-use Rattle.edit_core.proofs.Closed.{is_cell_after}
+use Rattle.edit_rules_spec.specs.Edit.{Edit, fresh, inner, edited_once, with_more_cell}
+use Rattle.edit_rules_spec.specs.Edit.{IsChanged}
+use Rattle.edit_rules_spec.specs.Objects.{IsClosed}
+use Rattle.edit_rules_spec.specs.Seen.{contents_at}
+use Rattle.edit_rules_spec.proofs.Closed.{is_cell_after}
 use Rattle.flat_spec.specs.Occurrences.{Occurrence}
 use Rattle.flat_spec.proofs.ListLemmas.{Member, Member-contains, Member-from_map, Member-append_cases}
-use Rattle.edit_core.proofs.Edits.{changed-cases}
+use Rattle.edit_rules_spec.proofs.Edits.{changed-cases}
 use Rattle.uniquify_spec.specs.Blocks.{is_block}
 use Rattle.uniquify_spec.specs.Copies.{Copy}
-use Rattle.edit_core.specs.Edit.{IsMade, AllGoLast, AllFindOld, AllPlaceOld}
-use Rattle.edit_core.specs.Objects.{contents_object}
+use Rattle.edit_rules_spec.specs.Edit.{IsMade, AllGoLast, AllFindOld, AllPlaceOld}
+use Rattle.edit_rules_spec.specs.Objects.{contents_object}
 use Rattle.uniquify_spec.specs.Parts.{IsPartOf}
 use Rattle.uniquify_spec.specs.Split.{Split, Owner, copy_owner, kept_owner, owners, turned_inst, turned, renamed, is_turned, new_cell, turned_cell, split_edits}
 use Rattle.uniquify_spec.proofs.CopyLists.{AreNew, copy-cases}

@@ -6,16 +6,16 @@ use Rattle.netlist_schema.specs.Design.{Design, cell_at}
 use Rattle.netlist_schema.specs.Hierarchy.{IsCell}
 use Rattle.netlist_schema.specs.Types.{CellId, TopHead}
 use Rattle.netlist_schema.specs.Valid.{IsValid}
-use Rattle.edit_core.specs.Edit.{Edit, edited}
-use Rattle.edit_core.specs.Frame.{Stepped}
-use Rattle.edit_core.specs.Objects.{Grown}
-use Rattle.edit_core.specs.Rule.{Rule, refuse, first, unless, ruled}
-use Rattle.edit_core.specs.Paths.{is_path}
-use Rattle.edit_core.specs.Rule.{IsRefusal}
-use Rattle.edit_core.specs.declared.reply.Reply.{Reply}
-use Rattle.edit_core.specs.declared.reply.Reply.TheVariants.{NoPath, NoTop, TooMany}
-use Rattle.edit_core.proofs.Closed.{valid_is_closed}
-use Rattle.edit_core.proofs.Growing.{edited_is_grown}
+use Rattle.edit_rules_spec.specs.Edit.{Edit, edited}
+use Rattle.edit_rules_spec.specs.Frame.{Stepped}
+use Rattle.edit_rules_spec.specs.Objects.{Grown}
+use Rattle.edit_rules_spec.specs.Rule.{Rule, refuse, first, unless, ruled}
+use Rattle.edit_rules_spec.specs.Paths.{is_path}
+use Rattle.edit_rules_spec.specs.Rule.{IsRefusal}
+use Rattle.edit_rules_spec.specs.declared.reply.Reply.{Reply}
+use Rattle.edit_rules_spec.specs.declared.reply.Reply.TheVariants.{NoPath, NoTop, TooMany}
+use Rattle.edit_rules_spec.proofs.Closed.{valid_is_closed}
+use Rattle.edit_rules_spec.proofs.Growing.{edited_is_grown}
 use Rattle.flat_spec.specs.Occurrences.{Occurrence}
 use Rattle.flat_spec.proofs.PathLemmas.{Some-same}
 use Rattle.uniquify_spec.specs.Blocks.{is_block, each_block, along_path}

@@ -7,9 +7,9 @@ use Rattle.std.proofs.lemmas.Bool.{true≢false}
 use Rattle.netlist_schema.specs.Design.{Design, cell_at, insts_in, insts_of}
 use Rattle.netlist_schema.specs.Hierarchy.{IsCell, HasInst, IsBelow, placed, deeper, NoCellIsBelowItself, insts_at}
 use Rattle.netlist_schema.specs.Types.{CellBody, CellId, Inst}
-use Rattle.edit_core.specs.Objects.{IsClosed}
-use Rattle.edit_core.specs.Paths.{same_cell}
-use Rattle.edit_core.proofs.Levels.{same_cell-refl, is_same_cell}
+use Rattle.edit_rules_spec.specs.Objects.{IsClosed}
+use Rattle.edit_rules_spec.specs.Paths.{same_cell}
+use Rattle.edit_rules_spec.proofs.Levels.{same_cell-refl, is_same_cell}
 use Rattle.flat_spec.specs.Occurrences.{Occurrence}
 use Rattle.flat_spec.specs.Paths.{Reaches}
 use Rattle.flat_spec.proofs.ListLemmas.{Member, Contains-member, slice_get-contains}

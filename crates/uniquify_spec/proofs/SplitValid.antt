@@ -16,16 +16,16 @@ use Rattle.netlist_schema.specs.Valid.{IsValid, IsNoteBelow}
 use Rattle.netlist_schema.proofs.Cells.{All-slice_get, All-cell_at}
 use Rattle.netlist_schema.proofs.WithCell.{All-weaker}
 use Rattle.netlist_schema.proofs.Lists.{all_from_places}
-use Rattle.edit_core.specs.Edit.{edited}
-use Rattle.edit_core.specs.Objects.{Grown}
-use Rattle.edit_core.specs.Rule.{refuse}
-use Rattle.edit_core.specs.Paths.{is_path}
-use Rattle.edit_core.specs.declared.reply.Reply.TheVariants.{NoPath, NoTop, TooMany}
-use Rattle.edit_core.proofs.Closed.{valid_is_closed, is_cell_found}
-use Rattle.edit_core.proofs.Growing.{edited_is_grown}
-use Rattle.edit_core.proofs.InnerValid.{weaker_top}
-use Rattle.edit_core.proofs.Lists.{Apart, apart_of, distinct_of}
-use Rattle.edit_core.proofs.Refusals.{first_none, not_refused}
+use Rattle.edit_rules_spec.specs.Edit.{edited}
+use Rattle.edit_rules_spec.specs.Objects.{Grown}
+use Rattle.edit_rules_spec.specs.Rule.{refuse}
+use Rattle.edit_rules_spec.specs.Paths.{is_path}
+use Rattle.edit_rules_spec.specs.declared.reply.Reply.TheVariants.{NoPath, NoTop, TooMany}
+use Rattle.edit_rules_spec.proofs.Closed.{valid_is_closed, is_cell_found}
+use Rattle.edit_rules_spec.proofs.Growing.{edited_is_grown}
+use Rattle.edit_rules_spec.proofs.InnerValid.{weaker_top}
+use Rattle.edit_rules_spec.proofs.Lists.{Apart, apart_of, distinct_of}
+use Rattle.edit_rules_spec.proofs.Refusals.{first_none, not_refused}
 use Rattle.flat_spec.specs.Paths.{Reaches}
 use Rattle.flat_spec.proofs.ListLemmas.{Member, Contains-member, slice_get-contains}
 use Rattle.flat_spec.proofs.PathLemmas.{Some-same, Reaches-append, Reaches-cons}

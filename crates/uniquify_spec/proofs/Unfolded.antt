@@ -6,7 +6,7 @@ use Rattle.netlist_schema.specs.Design.{Design}
 use Rattle.netlist_schema.specs.Hierarchy.{insts_at}
 use Rattle.netlist_schema.specs.Types.{CellId, Inst, Lib}
 use Rattle.netlist_schema.specs.Valid.{IsValid}
-use Rattle.edit_core.specs.Paths.{most_cells}
+use Rattle.edit_rules_spec.specs.Paths.{most_cells}
 use Rattle.flat_spec.specs.Occurrences.{Occurrence, occurrences_from, occurrences}
 use Rattle.flat_spec.specs.Paths.{Reaches}
 use Rattle.flat_spec.specs.Trees.{Grown, UnfoldEach, grown, tree}

@@ -8,24 +8,24 @@ use Rattle.netlist_schema.specs.Hierarchy.{insts_at}
 use Rattle.netlist_schema.specs.Names.{cell_names}
 use Rattle.netlist_schema.specs.Types.{CellId, Inst, Object, TopHead}
 use Rattle.netlist_schema.specs.declared.ids.Object.TheVariants.{Directory}
-use Rattle.edit_core.specs.Find.{inst_place}
-use Rattle.edit_core.specs.Edit.{IsChanged}
-use Rattle.edit_core.specs.Objects.{AgreesOn}
-use Rattle.edit_core.specs.Paths.{resolves}
-use Rattle.edit_core.specs.Rule.{Rule, refuse}
-use Rattle.edit_core.specs.Seen.{contents_at}
-use Rattle.edit_core.specs.Paths.{is_path}
-use Rattle.edit_core.specs.declared.reply.Reply.TheVariants.{NoTop, NoPath}
-use Rattle.edit_core.proofs.Reached.{either_same, iff_trans}
-use Rattle.edit_core.proofs.Same.{both_ways}
+use Rattle.edit_rules_spec.specs.Find.{inst_place}
+use Rattle.edit_rules_spec.specs.Edit.{IsChanged}
+use Rattle.edit_rules_spec.specs.Objects.{AgreesOn}
+use Rattle.edit_rules_spec.specs.Paths.{resolves}
+use Rattle.edit_rules_spec.specs.Rule.{Rule, refuse}
+use Rattle.edit_rules_spec.specs.Seen.{contents_at}
+use Rattle.edit_rules_spec.specs.Paths.{is_path}
+use Rattle.edit_rules_spec.specs.declared.reply.Reply.TheVariants.{NoTop, NoPath}
+use Rattle.edit_rules_spec.proofs.Reached.{either_same, iff_trans}
+use Rattle.edit_rules_spec.proofs.Same.{both_ways}
 use Rattle.flat_spec.specs.Occurrences.{Occurrence, under}
 use Rattle.flat_spec.proofs.ListLemmas.{Member, Contains-member, Member-contains, Member-append_cases, Member-map, Member-from_map, Member-from_filter, filter_same}
 use Rattle.uniquify_spec.specs.Blocks.{is_block, blocks, root_of, steps_along, along_path}
 use Rattle.uniquify_spec.specs.Copies.{Copy, copies_after}
-use Rattle.edit_core.specs.Edit.{IsMade}
-use Rattle.edit_core.specs.Local.{IsLocal}
+use Rattle.edit_rules_spec.specs.Edit.{IsMade}
+use Rattle.edit_rules_spec.specs.Local.{IsLocal}
 use Rattle.uniquify_spec.specs.Needs.{UniquePathNeedsBelow, UniquePathNeeds}
-use Rattle.edit_core.specs.Objects.{contents_object}
+use Rattle.edit_rules_spec.specs.Objects.{contents_object}
 use Rattle.uniquify_spec.specs.Rows.{split_row, unique_path_row}
 use Rattle.uniquify_spec.specs.Split.{Split, Owner, copy_owner, kept_owner, owners, split_edits}
 use Rattle.uniquify_spec.proofs.Agreed.{contents_agree, parts_agree, directory_agrees, insts_agree, block_agrees, copies_same, edits_same}

@@ -13,11 +13,11 @@ use Rattle.netlist_schema.specs.Typed.{IsBytes, IsTypedCell, IsTypedInst, IsType
 use Rattle.netlist_schema.specs.Types.{CellBody, CellId, Contents, End, Inst, LibId, Net, Port}
 use Rattle.netlist_schema.specs.Valid.{HasBit, IsEndAt, IsEndOf, IsValidCell}
 use Rattle.netlist_schema.proofs.WithCell.{All-weaker}
-use Rattle.edit_core.specs.Objects.{Grown, Outside, outside_of}
-use Rattle.edit_core.specs.Paths.{same_cell}
-use Rattle.edit_core.proofs.Closed.{is_cell_found}
-use Rattle.edit_core.proofs.Growing.{edited_is_grown, outside_found}
-use Rattle.edit_core.proofs.Levels.{same_cell-refl, is_same_cell}
+use Rattle.edit_rules_spec.specs.Objects.{Grown, Outside, outside_of}
+use Rattle.edit_rules_spec.specs.Paths.{same_cell}
+use Rattle.edit_rules_spec.proofs.Closed.{is_cell_found}
+use Rattle.edit_rules_spec.proofs.Growing.{edited_is_grown, outside_found}
+use Rattle.edit_rules_spec.proofs.Levels.{same_cell-refl, is_same_cell}
 use Rattle.flat_spec.specs.Occurrences.{Occurrence}
 use Rattle.flat_spec.specs.Paths.{Reaches}
 use Rattle.flat_spec.proofs.ListLemmas.{Member}

@@ -15,16 +15,16 @@ use Rattle.netlist_schema.specs.Names.{cell_names}
 use Rattle.netlist_schema.specs.Typed.{IsBytes, IsTypedName}
 use Rattle.netlist_schema.specs.Types.{CellBody, Contents, Lib, LibId, Name}
 use Rattle.netlist_schema.proofs.Lists.{all_append}
-use Rattle.edit_core.specs.Edit.{inner, edited, with_more_cell, lib_with_more}
-use Rattle.edit_core.specs.Find.{is_same}
-use Rattle.edit_core.specs.Seen.{contents_at}
-use Rattle.edit_core.proofs.Lists.{apart_more}
-use Rattle.edit_core.proofs.Edits.{cells_of, more_same, more_other, once_alike}
-use Rattle.edit_core.proofs.Lists.{Apart}
-use Rattle.edit_core.proofs.Refusals.{is_same-refl}
+use Rattle.edit_rules_spec.specs.Edit.{inner, edited, with_more_cell, lib_with_more}
+use Rattle.edit_rules_spec.specs.Find.{is_same}
+use Rattle.edit_rules_spec.specs.Seen.{contents_at}
+use Rattle.edit_rules_spec.proofs.Lists.{apart_more}
+use Rattle.edit_rules_spec.proofs.Edits.{cells_of, more_same, more_other, once_alike}
+use Rattle.edit_rules_spec.proofs.Lists.{Apart}
+use Rattle.edit_rules_spec.proofs.Refusals.{is_same-refl}
 use Rattle.flat_spec.specs.Occurrences.{Occurrence}
 use Rattle.flat_spec.proofs.ListLemmas.{Member}
-use Rattle.edit_core.proofs.Numbers.{digits_pass}
+use Rattle.edit_rules_spec.proofs.Numbers.{digits_pass}
 use Rattle.uniquify_spec.specs.Copies.{Copy, numbered, is_free, free_number, copy_name, copies_in, names_with, name_at, copy_after, copies_after}
 use Rattle.uniquify_spec.specs.Split.{Split, Owner, owners, turned, renamed, is_turned, turned_cell, split_edits}
 use Rattle.uniquify_spec.proofs.CopyLists.{IsNew, AreNew}

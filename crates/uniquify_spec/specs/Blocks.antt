@@ -4,9 +4,9 @@ use Rattle.std.specs.Option.{option_map_or}
 use Rattle.netlist_schema.specs.Design.{Design}
 use Rattle.netlist_schema.specs.Hierarchy.{insts_at}
 use Rattle.netlist_schema.specs.Types.{CellId}
-use Rattle.edit_core.specs.Find.{inst_place}
-use Rattle.edit_core.specs.Paths.{most_cells, same_cell}
-use Rattle.edit_core.specs.Seen.{contents_at}
+use Rattle.edit_rules_spec.specs.Find.{inst_place}
+use Rattle.edit_rules_spec.specs.Paths.{most_cells, same_cell}
+use Rattle.edit_rules_spec.specs.Seen.{contents_at}
 use Rattle.flat_spec.specs.Occurrences.{Occurrence, under, occurrences_from}
 use Rattle.flat_spec.specs.Trees.{Forest, grown}
 use Rattle.uniquify_spec.specs.Copies.{same_path, copies_after}

@@ -6,7 +6,7 @@ use Rattle.std.specs.Option.{option_map_or}
 use Rattle.netlist_schema.specs.Design.{Design, cell_at, cells_in}
 use Rattle.netlist_schema.specs.Names.{cell_names}
 use Rattle.netlist_schema.specs.Types.{CellId, LibId, Name}
-use Rattle.edit_core.specs.Find.{is_same}
+use Rattle.edit_rules_spec.specs.Find.{is_same}
 use Rattle.flat_spec.specs.Occurrences.{Occurrence}
 
 -- ---- names

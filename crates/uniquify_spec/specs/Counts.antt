@@ -6,7 +6,7 @@ use Rattle.netlist_schema.specs.Hierarchy.{insts_at, NoCellIsBelowItself}
 use Rattle.netlist_schema.specs.Names.{AreDistinct}
 use Rattle.netlist_schema.specs.Types.{CellId}
 use Rattle.netlist_schema.specs.Valid.{IsValid}
-use Rattle.edit_core.specs.Paths.{same_cell}
+use Rattle.edit_rules_spec.specs.Paths.{same_cell}
 use Rattle.flat_spec.specs.Occurrences.{Occurrence, occurrences}
 use Rattle.uniquify_spec.specs.Blocks.{blocks_below, is_first}
 use Rattle.uniquify_spec.specs.Copies.{Copy, copies_after, free_number}

@@ -2,8 +2,8 @@
 use Rattle.std.specs.Prelude.{ℕ, cond, List, Option, None, map}
 use Rattle.netlist_schema.specs.Design.{Design}
 use Rattle.netlist_schema.specs.Types.{CellId, Property}
-use Rattle.edit_core.specs.Objects.{cell_name_at}
-use Rattle.edit_core.specs.declared.reply.CellName.{CellName}
+use Rattle.edit_rules_spec.specs.Objects.{cell_name_at}
+use Rattle.edit_rules_spec.specs.declared.reply.CellName.{CellName}
 use Rattle.flat_spec.specs.Flattening.{flattening}
 use Rattle.flat_spec.specs.Types.{Item}
 use Rattle.flat_spec.specs.declared.item.Item.TheVariants.{Enter, Net, Pin}

@@ -1,7 +1,7 @@
 -- Names of copies: one is taken ignoring case.
 use Rattle.std.specs.Prelude.{◌≡◌, [], ◌∷◌, None, codes}
 use Rattle.netlist_schema.specs.Design.{Design}
-use Rattle.edit_core.specs.declared.reply.Reply.TheVariants.{Copies, NoPath, NoTop}
+use Rattle.edit_rules_spec.specs.declared.reply.Reply.TheVariants.{Copies, NoPath, NoTop}
 use Rattle.netlist_schema.specs.declared.cell.Direction.TheVariants.{Inout}
 use Rattle.flat_spec.specs.ExampleParts.{named, id_of, scalar, own_port, on_port, inst, net, leaf, body, lib, top}
 use Rattle.uniquify_spec.specs.ExamplePair.{directories}

@@ -2,7 +2,7 @@
 use Rattle.std.specs.Prelude.{◌≡◌, ℕ, List, [], ◌∷◌, map, codes}
 use Rattle.netlist_schema.specs.Design.{Design}
 use Rattle.netlist_schema.specs.Names.{cell_names}
-use Rattle.edit_core.specs.declared.reply.Reply.TheVariants.{Copies}
+use Rattle.edit_rules_spec.specs.declared.reply.Reply.TheVariants.{Copies}
 use Rattle.flat_spec.specs.ExampleNotes.{pair}
 use Rattle.flat_spec.specs.ExampleParts.{id_of, says}
 use Rattle.flat_spec.specs.Flattening.{flattening}

@@ -6,10 +6,10 @@ use Rattle.netlist_schema.specs.Hierarchy.{IsCell}
 use Rattle.netlist_schema.specs.Types.{CellId, LibId, TopHead}
 use Rattle.netlist_schema.specs.Valid.{IsValid}
 use Rattle.netlist_schema.specs.declared.limits.TheConstants.{MOST_CELLS}
-use Rattle.edit_core.specs.Frame.{Stepped}
-use Rattle.edit_core.specs.Objects.{Grown}
-use Rattle.edit_core.specs.Rule.{IsRefusal}
-use Rattle.edit_core.specs.declared.reply.Reply.TheVariants.{Copies}
+use Rattle.edit_rules_spec.specs.Frame.{Stepped}
+use Rattle.edit_rules_spec.specs.Objects.{Grown}
+use Rattle.edit_rules_spec.specs.Rule.{IsRefusal}
+use Rattle.edit_rules_spec.specs.declared.reply.Reply.TheVariants.{Copies}
 use Rattle.flat_spec.specs.Occurrences.{Occurrence, occurrences}
 use Rattle.flat_spec.specs.Paths.{Reaches}
 use Rattle.uniquify_spec.specs.Blocks.{is_block, blocks_below, is_first, each_block, along_path}

@@ -2,8 +2,8 @@
 use Rattle.std.specs.Prelude.{◌≡◌, None}
 use Rattle.netlist_schema.specs.Design.{Design}
 use Rattle.netlist_schema.specs.Valid.{IsValid}
-use Rattle.edit_core.specs.Edit.{edited}
-use Rattle.edit_core.specs.Rule.{Rule, first}
+use Rattle.edit_rules_spec.specs.Edit.{edited}
+use Rattle.edit_rules_spec.specs.Rule.{Rule, first}
 
 -- what is changed leaves a valid design, where it is not refused
 abbrev pub KeepsValid : (Design → Rule) → Type 0

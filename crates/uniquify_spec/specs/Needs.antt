@@ -5,10 +5,10 @@ use Rattle.netlist_schema.specs.Design.{Design}
 use Rattle.netlist_schema.specs.Hierarchy.{IsBelow}
 use Rattle.netlist_schema.specs.Types.{CellId, Object, TopHead}
 use Rattle.netlist_schema.specs.declared.ids.Object.TheVariants.{Directory}
-use Rattle.edit_core.specs.Edit.{IsChanged}
-use Rattle.edit_core.specs.Rule.{ruled}
+use Rattle.edit_rules_spec.specs.Edit.{IsChanged}
+use Rattle.edit_rules_spec.specs.Rule.{ruled}
 use Rattle.uniquify_spec.specs.Blocks.{is_block, steps_along}
-use Rattle.edit_core.specs.Objects.{contents_object}
+use Rattle.edit_rules_spec.specs.Objects.{contents_object}
 use Rattle.uniquify_spec.specs.Parts.{IsPartOf}
 use Rattle.uniquify_spec.specs.Rows.{uniquify_row, unique_path_row}
 

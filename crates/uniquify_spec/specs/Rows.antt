@@ -5,11 +5,11 @@ use Rattle.std.specs.Option.{option_map_or}
 use Rattle.netlist_schema.specs.Design.{Design}
 use Rattle.netlist_schema.specs.Types.{CellId}
 use Rattle.netlist_schema.specs.declared.limits.TheConstants.{MOST_CELLS}
-use Rattle.edit_core.specs.Frame.{Stepped, stepped}
-use Rattle.edit_core.specs.Rule.{Rule, refuse}
-use Rattle.edit_core.specs.Paths.{is_path}
-use Rattle.edit_core.specs.declared.reply.Reply.{Reply}
-use Rattle.edit_core.specs.declared.reply.Reply.TheVariants.{Copies, NoPath, NoTop, TooMany}
+use Rattle.edit_rules_spec.specs.Frame.{Stepped, stepped}
+use Rattle.edit_rules_spec.specs.Rule.{Rule, refuse}
+use Rattle.edit_rules_spec.specs.Paths.{is_path}
+use Rattle.edit_rules_spec.specs.declared.reply.Reply.{Reply}
+use Rattle.edit_rules_spec.specs.declared.reply.Reply.TheVariants.{Copies, NoPath, NoTop, TooMany}
 use Rattle.uniquify_spec.specs.Blocks.{each_block, along_path}
 use Rattle.uniquify_spec.specs.Copies.{Copy}
 use Rattle.uniquify_spec.specs.Split.{Split, split_edits}

@@ -5,8 +5,8 @@ use Rattle.std.specs.List.{enumerate_from, flat_map, list_any}
 use Rattle.std.specs.Option.{option_map_or}
 use Rattle.netlist_schema.specs.Design.{Design, cell_at}
 use Rattle.netlist_schema.specs.Types.{CellBody, CellId, Contents, Inst}
-use Rattle.edit_core.specs.Edit.{Edit, fresh, inner}
-use Rattle.edit_core.specs.Seen.{contents_at}
+use Rattle.edit_rules_spec.specs.Edit.{Edit, fresh, inner}
+use Rattle.edit_rules_spec.specs.Seen.{contents_at}
 use Rattle.flat_spec.specs.ConnectionTest.{above}
 use Rattle.flat_spec.specs.Occurrences.{Occurrence}
 use Rattle.uniquify_spec.specs.Copies.{Copy, same_path, is_copy_at}

@@ -5,7 +5,7 @@ ghost use Rattle.uniquify_spec.specs.ExampleCapital.{CapitalIsUnique, PathIsUniq
 ghost use Rattle.uniquify_spec.specs.ExamplePair.{PairIsUnique};
 ghost use Rattle.std.specs.Prelude.{List, ℕ};
 ghost use Rattle.uniquify_spec.specs.Laws.{BlocksAreOccurrences, BothGrow, CopiesGetLeastFree, EachBlockIsAtOnePath, EachCopyIsAtOnePath, FirstsKeepTheirCells, OnceIsEnough, OriginalsStay, TooManyIsTooFull, UniquePathKeepsFlattening, UniquifyKeepsFlattening};
-ghost use Rattle.edit_core.specs.Local.{IsLocal};
+ghost use Rattle.edit_rules_spec.specs.Local.{IsLocal};
 ghost use Rattle.uniquify_spec.specs.Local.{KeepsValid};
 ghost use Rattle.uniquify_spec.specs.Needs.{UniquePathNeeds, UniquifyNeeds};
 ghost use Rattle.uniquify_spec.specs.Rows.{unique_path_row, uniquify_row};

@@ -8,7 +8,7 @@ use Rattle.netlist_schema.specs.Types.{CellId}
 use Rattle.flat_spec.specs.Paths.{IsNet, Reaches, at_path, at_root}
 use Rattle.flat_spec.specs.Representatives.{representative}
 use Rattle.flat_spec.proofs.PathLemmas.{Reaches-parts}
-use Rattle.cells_below.specs.Below.{IsAtOrBelow}
+use Rattle.flat_cells.specs.Below.{IsAtOrBelow}
 use Rattle.net_classes.specs.Facts.{CellFacts, Facts, facts_at}
 use Rattle.net_classes.specs.PortClasses.{AreFactsOf}
 use Rattle.net_names.specs.Names.{name_in, net_named}

@@ -4,13 +4,13 @@ use Rattle.walk_items.specs.Stand.{Stand}
 use Rattle.walk_items.specs.declared.place.Frame.{Frame}
 use Rattle.walk_items.specs.declared.place.Stage.TheVariants.{Whole, Done}
 
--- the same frame, where that instance is next
-abbrev pub going_on : Frame → ℕ → Frame
-going_on f next = record { cell = f.cell; next = next; names = f.names }
+-- the same frame, where that instance is next, whose joints are looked for at that place
+abbrev pub going_on : Frame → ℕ → ℕ → Frame
+going_on f next near = record { cell = f.cell; next = next; from = f.from; upto = f.upto; near = near; names = f.names }
 
 -- by a step the occurrence with that frame is entered
 pub record HasEntered (old : Stand) (step next : ℕ) (frame : Frame) (new : Stand) : Type 0 where
-  pub above : new.above ≡ old.above ++ going_on old.here next ∷ []
+  pub above : new.above ≡ old.above ++ going_on old.here next frame.upto ∷ []
   pub here : new.here ≡ frame
   pub stage : new.stage ≡ Whole
   pub path : new.path ≡ old.path ++ step ∷ []

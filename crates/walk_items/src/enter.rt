@@ -8,7 +8,7 @@ ghost use Rattle.walk_items.specs.Stand.{IsGround, MayStand, here_of, stand_of, 
 use crate::ground::Ground;
 use crate::lent::{ItemRef, PropertiesRef};
 use crate::place::{Place, Stage};
-use cell_lookup::insts_at;
+use flat_lookup::insts_at;
 use netlist_schema::{Property, Shown};
 
 /// The properties of the top.

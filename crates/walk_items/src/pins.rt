@@ -36,6 +36,7 @@ fn first_inside<'a, S: Shown + Drop>(
 fn first_outside<'a, S: Shown + Drop>(
     ground: &'a Ground<S>,
     parent: Parent<'a>,
+    near: usize,
     pin: PinAt,
 ) -> Option<NetRef<'a>>
     requires ground { IsGround (S.design ground.now.design) ground.now.classes ground.now.notes }
@@ -44,7 +45,7 @@ fn first_outside<'a, S: Shown + Drop>(
         (net_at_pin (S.design ground.now.design) (top_of (S.design ground.now.design)).cell (parent.entry.path.now ++ parent.entry.step ∷ []) (record { port = pin.port; bit = pin.bit })) }
 {
     let joints = ground.classes.joints(parent.frame.cell);
-    match joined_net(joints, parent.step, pin.port, pin.bit) {
+    match joined_net(joints, near, parent.step, pin.port, pin.bit) {
         Some(net) => Some(first_of(ground, parent.path, parent.frame, net)),
         None => None,
     }
@@ -63,7 +64,10 @@ fn first_at<'a, S: Shown + Drop>(
         (net_at_pin (S.design ground.now.design) (top_of (S.design ground.now.design)).cell place.now.path.steps.items (record { port = pin.port; bit = pin.bit })) }
 {
     match place.parent() {
-        Some(parent) => first_outside(ground, parent, pin),
+        Some(parent) => {
+            let near = place.here.from.saturating_add(pin.number as usize);
+            first_outside(ground, parent, near, pin)
+        }
         None => first_inside(ground, &place.here, pin),
     }
 }

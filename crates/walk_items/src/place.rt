@@ -46,6 +46,11 @@ pub struct Frame {
     pub cell: CellId,
     /// The place of the instance that is entered next.
     pub next: u32,
+    /// Where among the parent's joints those on this occurrence's instance are looked for first, and where those on the next one; where
+    /// among its own those on the instance that is entered next. Only time depends on them.
+    pub from: usize,
+    pub upto: usize,
+    pub near: usize,
     /// For each first net of its contents the first net of the design that is connected with it.
     pub names: Vec<Name>,
 }
@@ -104,8 +109,10 @@ impl Place {
     {
         self.above.reserve(1)?;
         self.path.steps.push(step)?;
+        let near = frame.upto;
         let mut above = mem::replace(&mut self.here, frame);
         above.next = next;
+        above.near = near;
         self.above.push_reserved(above);
         self.stage = Stage::Whole;
         Ok(())

@@ -1,6 +1,6 @@
 //! Walks, item by item.
 use crate::designs::{bare, board};
-use cell_lookup::cell_along;
+use flat_lookup::cell_along;
 use flat_report::item_text;
 use flat_spec::{Item, Path};
 use netlist_schema::{Design, Shown};

@@ -1,8 +1,8 @@
 //! The design, as it is planned.
-use hand_designs::{CellPlan, Inside, Plan, design};
 use netlist_schema::Design;
 use std::alloc::Global;
 use std::test::Fail;
+use test_hand_designs::{CellPlan, Inside, Plan, design};
 
 /// One instance of the first cell of the library.
 const INNER: Inside = Inside {

@@ -1,8 +1,8 @@
 //! In which order the cells of the design are written, and what is written.
 use crate::designs::out_of_order;
-use cell_order::cell_order;
 use edif_writer::{WriteError, write_design};
 use netdb_outside::MemSink;
+use netlist_order::cell_order;
 use netlist_schema::{Design, LibId};
 use std::alloc::Global;
 use std::process::Abort;

@@ -1,7 +1,7 @@
 use Rattle.std.proofs.Common.{◌≡◌, take}
 use Rattle.std.specs.Prelude.{filter}
 use Rattle.uniquify_spec.specs.Blocks.{is_block}
-use Rattle.cells_model.specs.State.{HasReadSome}
+use Rattle.edit_cells.specs.State.{HasReadSome}
 use Rattle.block_kids.proofs.kids.blocks_of.Given as goal
 
 -- the blocks so far are on the list

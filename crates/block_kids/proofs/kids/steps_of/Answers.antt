@@ -1,4 +1,5 @@
-use Rattle.std.proofs.Common.{length, ap, ◌∙◌, arith}
+use Rattle.std.proofs.Common.{◌≡◌, get_or, length, sym, ap, subst, ◌∙◌, arith}
+use Rattle.netlist_schema.specs.Types.{Inst}
 use Rattle.block_kids.proofs.Instances.{steps_long, steps_more}
 use Rattle.block_kids.proofs.kids.steps_of.Goals as goal
 
@@ -12,5 +13,7 @@ overflow_cast-place c =
 
 pub loop-inst-preserved : goal.loop-inst-preserved
 loop-inst-preserved c =
-    steps_more c.as_slice-inst-items.result.now c.loop-inst.inst-index c.inst-item.result c.loop-inst.steps.items c.push.new.self.items c.len-place.result c.loop-inst-test.true c.inst-item.is
+    let items = c.as_slice-inst-items.result.now in
+    let is = subst (λ (inst : Inst). inst ≡ get_or items c.loop-inst.inst-index inst) (sym c.deref.ensures) c.inst-item.is in
+    steps_more items c.loop-inst.inst-index c.deref.result.now c.loop-inst.steps.items c.push.new.self.items c.len-place.result c.loop-inst-test.true is
     c.loop-inst.invariant (c.len-place.ensures ∙ c.loop-inst.steps.ok.0) c.in_ok-push.ensures.items

@@ -1,8 +1,8 @@
 use Rattle.std.proofs.Common.{◌<◌, ◌^◌, sym, ap, subst, ◌∙◌, arith}
 use Rattle.std.specs.Prelude.{is_some}
 use Rattle.netlist_schema.specs.Ident.{IsIdentifier}
-use Rattle.bus_spec.specs.Members.{member_id}
-use Rattle.bus_spec.proofs.MemberNames.{member_identifier}
+use Rattle.netlist_bus_spec.specs.Members.{member_id}
+use Rattle.netlist_bus_spec.proofs.MemberNames.{member_identifier}
 use Rattle.bus_members.proofs.members.member_ident.Goals as goal
 
 pub unreachable-requires : goal.unreachable-requires

@@ -1,7 +1,7 @@
 use Rattle.std.proofs.Common.{◌≡◌, drop, length}
 use Rattle.std.specs.Cmp.Lexicographic.{pointwise}
 use Rattle.bus_members.specs.Widths.{ports_among}
-use Rattle.bus_spec.specs.Runs.{is_bit}
+use Rattle.netlist_bus_spec.specs.Runs.{is_bit}
 use Rattle.bus_members.proofs.runs.are_bits.Given as goal
 
 -- all ends pass where those pass that are left

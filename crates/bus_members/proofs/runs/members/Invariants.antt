@@ -1,6 +1,6 @@
 use Rattle.std.proofs.Common.{◌≡◌, ◌≤◌, take, true}
 use Rattle.bus_members.specs.Widths.{ports_among}
-use Rattle.bus_spec.specs.Runs.{are_members}
+use Rattle.netlist_bus_spec.specs.Runs.{are_members}
 use Rattle.bus_members.proofs.runs.members.Given as goal
 
 -- the nets so far are members, and are counted

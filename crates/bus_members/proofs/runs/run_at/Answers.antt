@@ -4,7 +4,7 @@ use Rattle.std.specs.List.{between}
 use Rattle.std.proofs.lemmas.Slice.{between_to_end}
 use Rattle.netlist_schema.specs.Types.{CellBody}
 use Rattle.bus_members.specs.Widths.{ports_among, width_from}
-use Rattle.bus_spec.specs.Runs.{run_width}
+use Rattle.netlist_bus_spec.specs.Runs.{run_width}
 use Rattle.bus_members.proofs.runs.run_at.Goals as goal
 
 pub returns : goal.returns

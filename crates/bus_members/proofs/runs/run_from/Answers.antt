@@ -2,7 +2,7 @@ use Rattle.std.proofs.Common.{◌≡◌, ◌≤◌, ◌<◌, ℕ, List, [], Opti
 use Rattle.std.specs.Prelude.{slice_get}
 use Rattle.netlist_schema.specs.Types.{End, Port}
 use Rattle.bus_members.specs.Widths.{ports_among}
-use Rattle.bus_spec.specs.Runs.{stem}
+use Rattle.netlist_bus_spec.specs.Runs.{stem}
 use Rattle.bus_members.proofs.Greatest.{array_not_full, array_run, endless_none, endless_run, is_empty, no_array, no_byte, no_first, not_empty}
 use Rattle.bus_members.proofs.runs.run_from.Goals as goal
 

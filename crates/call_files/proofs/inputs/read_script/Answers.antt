@@ -1,9 +1,9 @@
 use Rattle.std.proofs.Common.{List, subst}
 use Prim.Native.Nat.{ℕ}
 use Rattle.std.specs.Prelude.{MatchResult}
-use Rattle.session_spec.specs.ScriptText.{steps_of}
-use Rattle.call_spec.specs.Steps.{IsNoScript}
-use Rattle.call_spec.specs.Told.{IsScriptFile}
+use Rattle.script_spec.specs.ScriptText.{steps_of}
+use Rattle.netdb_spec.specs.Steps.{IsNoScript}
+use Rattle.netdb_spec.specs.Told.{IsScriptFile}
 use Rattle.call_files.proofs.InputLemmas.{script_read}
 use Rattle.call_files.proofs.inputs.read_script.Goals as goal
 

@@ -1,9 +1,9 @@
 use Rattle.std.proofs.Common.{◌<◌, ◌+◌, ◌∙◌, List, length, arith, subst, vec_len}
 use Prim.Native.Nat.{ℕ}
-use Rattle.session_spec.specs.ScriptText.{steps_of}
-use Rattle.call_spec.specs.Refusals.{RefusesScript}
-use Rattle.call_spec.specs.Told.{IsFile, IsReadThrough, IsScriptFile}
-use Rattle.call_spec.specs.declared.limits.TheConstants.{MOST_SCRIPT_BYTES}
+use Rattle.script_spec.specs.ScriptText.{steps_of}
+use Rattle.netdb_spec.specs.Refusals.{RefusesScript}
+use Rattle.netdb_spec.specs.Told.{IsFile, IsReadThrough, IsScriptFile}
+use Rattle.netdb_spec.specs.declared.limits.TheConstants.{MOST_SCRIPT_BYTES}
 use Rattle.call_files.proofs.InputLemmas.{pushed, pushed_count, read_one_more, refused_at}
 use Rattle.call_files.proofs.inputs.read_scripts.Goals as goal
 
@@ -11,9 +11,9 @@ pub returns-in-Err-clause-refused : goal.returns-in-Err-clause-refused
 returns-in-Err-clause-refused g c =
     let new = g.F.Files.told c.read_script.new.files in
     let less : c.loop-place.place < length c.args.names.now = omega (arith, c.loop-place-test.true) in
-    refused_at (g.F.Files.told c.loop-place.files) new c.args.names.now c.loop-place.place c.index-names-place.result c.loop-place.scripts.items c.in-Err.status less c.index-names-place.is
+    refused_at (g.F.Files.told c.loop-place.files) new c.args.names.now c.loop-place.place c.index-names-place.result c.loop-place.scripts.items c.args.first c.in-Err.status less c.index-names-place.is
     c.read_script.ensures.files c.loop-place.invariant.0
-    (subst (λ (name : List ℕ). RefusesScript new name (c.loop-place.place + 2) c.in-Err.status) c.as_str.ensures.value c.in-Err.ensures.refused)
+    (subst (λ (name : List ℕ). RefusesScript new name (c.loop-place.place + c.args.first) c.in-Err.status) c.as_str.ensures.value c.in-Err.ensures.refused)
 
 pub loop-place-preserved : goal.loop-place-preserved
 loop-place-preserved g c =

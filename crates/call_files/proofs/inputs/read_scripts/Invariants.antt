@@ -2,7 +2,7 @@ use Rattle.std.proofs.Common.{◌≡◌, take, vec_len}
 use Rattle.netdb_outside.specs.Outside.{SameFiles}
 use Rattle.joint_spec.specs.Scripts.{all_steps}
 use Rattle.call_words.specs.Command.{spelled}
-use Rattle.call_spec.specs.Told.{AreRead, IsLastRead}
+use Rattle.netdb_spec.specs.Told.{AreRead, IsLastRead}
 use Rattle.call_files.proofs.inputs.read_scripts.Given as goal
 
 abbrev pub invariant-loop-place : goal.invariant-loop-place

@@ -1,6 +1,6 @@
 use Rattle.std.proofs.Common.{◌≡◌, ◌++◌, drop}
 use Rattle.std.specs.List.{flat_map}
-use Rattle.cells_model.specs.State.{HasReadSome}
+use Rattle.edit_cells.specs.State.{HasReadSome}
 use Rattle.cell_copies.specs.Changes.{fresh_for}
 use Rattle.cell_copies.proofs.change.copies.Given as goal
 

@@ -1,5 +1,5 @@
 use Rattle.std.proofs.Common.{[], sym, subst, ◌∙◌}
-use Rattle.cells_model.specs.Change.{CanAllBeMade}
+use Rattle.edit_cells.specs.Change.{CanAllBeMade}
 use Rattle.cell_copies.proofs.CanBeMade.{changes_can}
 use Rattle.cell_copies.proofs.ChangeEdits.{change_cells, change_is}
 use Rattle.cell_copies.proofs.DraftSeats.{new_of}

@@ -1,5 +1,5 @@
 use Rattle.std.proofs.Common.{◌≡◌, ◌+◌, map, take}
-use Rattle.cells_model.specs.State.{HasReadSome}
+use Rattle.edit_cells.specs.State.{HasReadSome}
 use Rattle.cell_copies.specs.Changes.{turned_at}
 use Rattle.cell_copies.specs.Seats.{copies_of, seats}
 use Rattle.cell_copies.proofs.turn.turn_all.Given as goal

@@ -1,5 +1,5 @@
 use Rattle.std.proofs.Common.{◌≡◌, List, Some, None, not, subst}
-use Rattle.edit_core.specs.Rule.{first}
+use Rattle.edit_rules_spec.specs.Rule.{first}
 use Rattle.edit_spec.specs.AddCell.{new_cell}
 use Rattle.edit_spec.specs.declared.ops.PortDecl.{PortDecl}
 use Rattle.eco_plans.specs.Add.{no_new_cell}

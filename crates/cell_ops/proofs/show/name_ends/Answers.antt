@@ -2,13 +2,13 @@ use Rattle.std.proofs.Common.{◌≡◌, ◌+◌, ◌++◌, sym, ap, subst, ◌�
 use Rattle.std.specs.Prelude.{option_to_list}
 use Rattle.std.specs.List.{flat_map}
 use Rattle.netlist_schema.specs.Design.{Design}
-use Rattle.edit_core.specs.declared.reply.EndName.{EndName}
-use Rattle.cells_model.specs.State.{HasRead}
+use Rattle.edit_rules_spec.specs.declared.reply.EndName.{EndName}
+use Rattle.edit_cells.specs.State.{HasRead}
 use Rattle.eco_reads.proofs.NoteReads.{some_after}
 use Rattle.eco_plans.specs.Shown.{AreFacesOf, EndSeen, seen_end, seen_name}
 use Rattle.eco_plans.specs.declared.show.EndAt.{EndAt}
 use Rattle.eco_reads.proofs.Below.{take_whole}
-use Rattle.eco_reads.proofs.Places.{map_one_more}
+use Rattle.eco_reads.proofs.Within.{map_one_more}
 use Rattle.cell_ops.proofs.ShowNet.{one_face_more, one_name_more}
 use Rattle.cell_ops.proofs.show.name_ends.Goals as goal
 

@@ -1,7 +1,7 @@
 use Rattle.std.proofs.Common.{◌≡◌, map, take}
 use Rattle.std.specs.Prelude.{option_to_list}
 use Rattle.std.specs.List.{flat_map}
-use Rattle.cells_model.specs.State.{HasRead}
+use Rattle.edit_cells.specs.State.{HasRead}
 use Rattle.eco_plans.specs.Shown.{AreFacesOf, seen_end, seen_name}
 use Rattle.cell_ops.proofs.show.name_ends.Given as goal
 

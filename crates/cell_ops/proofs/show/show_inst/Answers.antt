@@ -1,7 +1,7 @@
 use Rattle.std.proofs.Common.{Some, None, sym, subst, refl}
 use Rattle.edit_spec.specs.declared.ops.Op.TheVariants.{ShowInst}
-use Rattle.edit_core.specs.declared.reply.Reply.TheVariants.{Inst as ShownInst, NoInst}
-use Rattle.cells_model.specs.State.{State}
+use Rattle.edit_rules_spec.specs.declared.reply.Reply.TheVariants.{Inst as ShownInst, NoInst}
+use Rattle.edit_cells.specs.State.{State}
 use Rattle.eco_reads.specs.Done.{IsDone}
 use Rattle.eco_reads.proofs.Reading.{found_inside}
 use Rattle.cell_ops.proofs.ShowInst.{show_inst_done, show_inst_missing, show_no_inst}

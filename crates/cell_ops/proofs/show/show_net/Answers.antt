@@ -1,6 +1,6 @@
 use Rattle.std.proofs.Common.{List, map, sym, ap, subst, ◌∙◌}
-use Rattle.edit_core.specs.declared.reply.EndName.{EndName}
-use Rattle.edit_core.specs.declared.reply.Reply.TheVariants.{Net as ShownNet}
+use Rattle.edit_rules_spec.specs.declared.reply.EndName.{EndName}
+use Rattle.edit_rules_spec.specs.declared.reply.Reply.TheVariants.{Net as ShownNet}
 use Rattle.edit_spec.specs.declared.ops.Op.TheVariants.{ShowNet}
 use Rattle.eco_reads.specs.Done.{IsDone}
 use Rattle.eco_reads.proofs.Reading.{found_inside}

@@ -2,7 +2,7 @@ use Rattle.std.proofs.Common.{◌≡◌, ◌≤◌, ◌<◌, ℕ, false}
 use Rattle.netlist_schema.specs.Design.{cells_in}
 use Rattle.netlist_schema.specs.Names.{cell_names}
 use Rattle.uniquify_spec.specs.Copies.{is_free, numbered}
-use Rattle.cells_model.specs.State.{HasReadSome}
+use Rattle.edit_cells.specs.State.{HasReadSome}
 use Rattle.copy_names.proofs.seek.first_free.Given as goal
 
 -- the numbers so far are taken

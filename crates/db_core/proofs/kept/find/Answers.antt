@@ -4,7 +4,7 @@ use Rattle.std.specs.List.Sorted.{IsPartitionPoint}
 use Rattle.std.specs.Ordering.{nat_cmp}
 use Rattle.std.specs.declared.cmp.Ordering.TheVariants.{Less, Equal, Greater}
 use Rattle.std.proofs.lemmas.List.Sorted.{answers_always}
-use Rattle.version_data.specs.Shot.{Shot}
+use Rattle.db_version.specs.Shot.{Shot}
 use Rattle.db_core.proofs.Shots.{comparisons_rise, none_found, one_found}
 use Rattle.db_core.proofs.kept.find.Goals as goal
 

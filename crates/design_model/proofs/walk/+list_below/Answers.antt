@@ -1,4 +1,5 @@
-use Rattle.std.proofs.Common.{◌≡◌, ◌<◌, ◌++◌, ◌∷◌, [], length, arith, refl, ap, ◌∙◌}
+use Rattle.std.proofs.Common.{◌≡◌, ◌<◌, ◌++◌, ◌∷◌, [], length, arith, get_or, refl, ap, subst, sym, ◌∙◌}
+use Rattle.netlist_schema.specs.Types.{Inst}
 use Rattle.flat_spec.specs.Occurrences.{occurrences}
 use Rattle.flat_spec.proofs.RunLemmas.{all_found}
 use Rattle.flat_spec.proofs.BelowLemmas.{below_each}
@@ -14,16 +15,17 @@ loop-i-init g t c =
 pub list_below-requires : goal.list_below-requires
 list_below-requires g t c = λ κs within.
     let d = g.S.Shown.design c.args.design.now in
-    let fewer = occurrences-fewer d c.requires.no_cycle c.args.cell c.insts_at-insts.result.now c.loop-i.i c.index-insts-i.result
-    c.insts_at-insts.ensures.value c.loop-i-test.true c.index-insts-i.is in
+    let fewer = occurrences-fewer d c.requires.no_cycle c.args.cell c.insts_at-insts.result.now c.loop-i.i c.deref.result.now
+    c.insts_at-insts.ensures.value c.loop-i-test.true (subst (λ (inst : Inst). inst ≡ get_or c.insts_at-insts.result.now c.loop-i.i inst) (sym c.deref.ensures) c.index-insts-i.is) in
     let same : length (occurrences d c.args.cell) ≡ t = c.decreases in
-    let less : length (occurrences d c.index-insts-i.result.of) < t = omega (arith, fewer, same) in
+    let less : length (occurrences d c.deref.result.now.of) < t = omega (arith, fewer, same) in
     (less, (within, c.requires))
 
 pub loop-i-preserved : goal.loop-i-preserved
 loop-i-preserved g t c =
-    instance_more (g.S.Shown.design c.args.design.now) c.args.path.now c.as_slice.result.now c.loop-i.i c.index-insts-i.result c.insts_at-insts.result.now
-    c.loop-i.found.items c.list_below.new.found.items _ c.loop-i-test.true c.index-insts-i.is
+    instance_more (g.S.Shown.design c.args.design.now) c.args.path.now c.as_slice.result.now c.loop-i.i c.deref.result.now c.insts_at-insts.result.now
+    c.loop-i.found.items c.list_below.new.found.items _ c.loop-i-test.true
+    (subst (λ (inst : Inst). inst ≡ get_or c.insts_at-insts.result.now c.loop-i.i inst) (sym c.deref.ensures) c.index-insts-i.is)
     (c.as_slice.ensures.value ∙ c.in_ok-longer.ensures) c.in_ok-list_below.ensures c.loop-i.invariant
 
 pub returns : goal.returns

@@ -1,6 +1,6 @@
 use Rattle.std.proofs.Common.{sym, ◌∙◌}
 use Rattle.std.specs.List.{list_any}
-use Rattle.edit_core.specs.Find.{is_same}
+use Rattle.edit_rules_spec.specs.Find.{is_same}
 use Rattle.eco_plans.proofs.Twice.{twice_here, twice_later}
 use Rattle.eco_plans.proofs.add.has_twice.Goals as goal
 

@@ -1,9 +1,9 @@
 use Rattle.std.proofs.Common.{◌&&◌, sym, ◌∙◌, nat_eq}
 use Rattle.std.specs.Cmp.Lexicographic.{pointwise}
 use Rattle.netlist_schema.specs.Types.{Note}
-use Rattle.edit_core.specs.Find.{is_name}
-use Rattle.cells_model.proofs.Places.{first_is_position}
-use Rattle.eco_reads.proofs.Places.{first_within}
+use Rattle.edit_rules_spec.specs.Find.{is_name}
+use Rattle.edit_cells.proofs.Places.{first_is_position}
+use Rattle.eco_reads.proofs.Within.{first_within}
 use Rattle.eco_plans.proofs.notes.note_place.Goals as goal
 
 pub returns : goal.returns

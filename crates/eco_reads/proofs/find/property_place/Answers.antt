@@ -1,7 +1,7 @@
 use Rattle.std.proofs.Common.{sym, ◌∙◌}
 use Rattle.netlist_schema.specs.Types.{Property}
-use Rattle.cells_model.proofs.Places.{place_is_position}
-use Rattle.eco_reads.proofs.Places.{place_within}
+use Rattle.edit_cells.proofs.Places.{place_is_position}
+use Rattle.eco_reads.proofs.Within.{place_within}
 use Rattle.eco_reads.proofs.find.property_place.Goals as goal
 
 pub returns : goal.returns

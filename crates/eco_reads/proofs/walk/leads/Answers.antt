@@ -1,8 +1,8 @@
 use Rattle.std.proofs.Common.{◌+◌, sym, ap, subst, ◌∙◌, ℕ, List, take, drop}
 use Rattle.std.specs.Option.{option_copied}
-use Rattle.edit_core.specs.Reading.{IsReached}
-use Rattle.edit_core.specs.Paths.{resolves}
-use Rattle.cells_model.specs.State.{HasRead}
+use Rattle.edit_rules_spec.specs.Reading.{IsReached}
+use Rattle.edit_rules_spec.specs.Paths.{resolves}
+use Rattle.edit_cells.specs.State.{HasRead}
 use Rattle.eco_reads.proofs.Going.{HasGone, gone_more, gone_no_further, one_further, split_here, take_all}
 use Rattle.eco_reads.proofs.Paths.{resolves_end, resolves_stop}
 use Rattle.eco_reads.proofs.walk.leads.Goals as goal

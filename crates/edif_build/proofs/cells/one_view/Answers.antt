@@ -1,5 +1,5 @@
 use Rattle.std.proofs.Common.{◌≡◌, List, [], ◌∷◌, ◌++◌, refl, sym, ap, ◌∙◌, subst, Option, Some, true, false, inr}
-use Rattle.spelling_spec.specs.Tree.{Placed, bare}
+use Rattle.edif_spelling_spec.specs.Tree.{Placed, bare}
 use Rattle.edif_spec.specs.Faults.{those_of}
 use Rattle.edif_spec.specs.Rows.{has_keyword}
 use Rattle.edif_spec.specs.declared.keyword.Keyword.TheVariants.{View}

@@ -1,6 +1,6 @@
 use Rattle.edif_spec.proofs.KnownForms.{form_choice}
 use Rattle.std.proofs.Common.{◌≡◌, List, [], ◌∷◌, sym, ap, ◌∙◌, subst, inl, inr, Some, arith}
-use Rattle.spelling_spec.specs.Tree.{Placed}
+use Rattle.edif_spelling_spec.specs.Tree.{Placed}
 use Rattle.edif_spec.specs.Faults.{followers, those_of}
 use Rattle.edif_spec.specs.Keyword.{name_definition, the}
 use Rattle.edif_spec.specs.Stands.{CellFault, CellTypeFault, ViewFault}
@@ -95,4 +95,4 @@ returns c =
     let H : List Placed → Type 0 = λ ts. ReadHeading u ts x in
     let m = subst H h.inner c.in_ok-heading.ensures in
     cell_means c.args.libs.now.libs (Some c.args.own) t (here c.in_ok-found.found) u v x.name c.in_ok-kind.kind x.properties c.in_ok-view.view c.cell_of.result (n.form u v c.at-2.ensures c.at.ensures) m.name c.in_ok-kind.ensures o
-    c.in_ok-view.ensures m.properties (defined_first t u (n.a u c.at-2.ensures).at) c.cell_of.ensures.cell c.cell_of.ensures.place
+    c.in_ok-view.ensures m.properties (defined_first t u _ (n.a u c.at-2.ensures).at m.name.2) c.cell_of.ensures.cell c.cell_of.ensures.place

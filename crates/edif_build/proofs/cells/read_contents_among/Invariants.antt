@@ -1,5 +1,5 @@
 use Rattle.std.proofs.Common.{◌≡◌, ◌++◌, List, []}
-use Rattle.spelling_spec.specs.Tree.{Placed}
+use Rattle.edif_spelling_spec.specs.Tree.{Placed}
 use Rattle.edif_spec.specs.Faults.{those_of}
 use Rattle.edif_spec.specs.declared.keyword.Keyword.TheVariants.{Contents}
 use Rattle.edif_tree.specs.Handles.{all}

@@ -1,5 +1,5 @@
 use Rattle.std.proofs.Common.{[], refl, arith}
-use Rattle.spelling_spec.specs.Tree.{Placed, bare}
+use Rattle.edif_spelling_spec.specs.Tree.{Placed, bare}
 use Rattle.edif_spec.specs.Keyword.{AnIdentifier, identifier}
 use Rattle.edif_spec.specs.Rows.{is_choice}
 use Rattle.edif_spec.specs.declared.keyword.Keyword.TheVariants.{CellType}

@@ -1,6 +1,6 @@
 use Rattle.edif_spec.proofs.KnownForms.{form_choice}
 use Rattle.std.proofs.Common.{◌≤◌, List, [], ◌∷◌, length, refl, sym, subst, inl, inr, arith}
-use Rattle.spelling_spec.specs.Tree.{Placed}
+use Rattle.edif_spelling_spec.specs.Tree.{Placed}
 use Rattle.edif_spec.specs.Faults.{those_of}
 use Rattle.edif_spec.specs.Keyword.{Choice, Follower, Many, One, name_definition, the}
 use Rattle.edif_spec.specs.Stands.{TypeFault, ViewFault}

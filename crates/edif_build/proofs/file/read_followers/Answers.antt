@@ -1,7 +1,7 @@
 use Rattle.std.proofs.Common.{◌≡◌, ◌<◌, ℕ, List, [], ◌++◌, length, take, sym, ◌∙◌, subst, Option, Some, true, inl, arith}
 use Rattle.std.specs.Prelude.{slice_get}
 use Rattle.std.proofs.lemmas.Option.{slice_get_within}
-use Rattle.spelling_spec.specs.Tree.{Placed, bare}
+use Rattle.edif_spelling_spec.specs.Tree.{Placed, bare}
 use Rattle.edif_spec.specs.Rows.{has_keyword}
 use Rattle.edif_spec.specs.Stands.{DesignFault, libraries}
 use Rattle.edif_spec.specs.declared.keyword.Keyword.TheVariants.{Design}

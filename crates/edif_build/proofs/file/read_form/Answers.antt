@@ -1,5 +1,5 @@
 use Rattle.std.proofs.Common.{List, subst}
-use Rattle.spelling_spec.specs.Tree.{Placed}
+use Rattle.edif_spelling_spec.specs.Tree.{Placed}
 use Rattle.edif_spec.specs.Stands.{Stands}
 use Rattle.edif_tree.specs.Handles.{here, all}
 use Rattle.edif_build.specs.Files.{DesignAt, ReadForm, SecondDesigns}

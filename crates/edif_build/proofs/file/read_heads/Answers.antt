@@ -1,6 +1,6 @@
 use Rattle.std.proofs.Common.{◌≡◌, List, [], ◌∷◌, map, length, refl, sym, ap, subst, true, arith}
 use Rattle.std.specs.Prelude.{IsTrue}
-use Rattle.spelling_spec.specs.Tree.{Bare, Placed, bare}
+use Rattle.edif_spelling_spec.specs.Tree.{Bare, Placed, bare}
 use Rattle.edif_spec.specs.Faults.{followers}
 use Rattle.edif_spec.specs.Keyword.{name_definition}
 use Rattle.edif_spec.specs.Rows.{IsFormOf, has_keyword, is_one_of}

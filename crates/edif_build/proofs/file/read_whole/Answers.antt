@@ -1,7 +1,7 @@
 use Rattle.edif_spec.proofs.FaultsApart.{keyword_of}
 use Rattle.std.proofs.Common.{◌≡◌, List, Result, sym, ap, ◌∙◌, subst}
 use Rattle.netlist_schema.specs.Valid.{IsValid}
-use Rattle.spelling_spec.specs.Tree.{Placed, bare}
+use Rattle.edif_spelling_spec.specs.Tree.{Placed, bare}
 use Rattle.edif_spec.specs.Design as design
 use Rattle.edif_spec.specs.Means.{MeansFile}
 use Rattle.edif_spec.specs.Stands.{FileFault, Stands}

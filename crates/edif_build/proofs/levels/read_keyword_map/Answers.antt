@@ -1,6 +1,6 @@
 use Rattle.edif_spec.proofs.KnownForms.{form_choice}
 use Rattle.std.proofs.Common.{[], ◌∷◌, map, refl, arith}
-use Rattle.spelling_spec.specs.Tree.{Placed, bare}
+use Rattle.edif_spelling_spec.specs.Tree.{Placed, bare}
 use Rattle.edif_spec.specs.Faults.{followers}
 use Rattle.edif_spec.specs.Keyword.{Many, the}
 use Rattle.edif_spec.specs.Means.{IsLevel}

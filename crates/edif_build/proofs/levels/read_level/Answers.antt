@@ -1,5 +1,5 @@
 use Rattle.std.proofs.Common.{◌≡◌, pos, arith}
-use Rattle.spelling_spec.specs.Tree.{bare, integer}
+use Rattle.edif_spelling_spec.specs.Tree.{bare, integer}
 use Rattle.edif_spec.specs.Means.{IsLevel}
 use Rattle.edif_spec.specs.Stands.{LevelFault}
 use Rattle.edif_spec.specs.declared.fault.Kind.TheVariants.{BadLevel}

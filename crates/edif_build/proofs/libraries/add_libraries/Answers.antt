@@ -1,5 +1,5 @@
 use Rattle.std.proofs.Common.{◌≡◌, List, [], ◌∷◌, ◌++◌, sym, ap, ◌∙◌, subst, true, false, append-nil}
-use Rattle.spelling_spec.specs.Tree.{Placed, bare}
+use Rattle.edif_spelling_spec.specs.Tree.{Placed, bare}
 use Rattle.edif_spec.specs.Means.{is_library}
 use Rattle.edif_spec.specs.Stands.{libraries}
 use Rattle.edif_spec.proofs.KnownValid.{regroup}

@@ -1,5 +1,5 @@
 use Rattle.std.proofs.Common.{◌≡◌, ◌++◌, List}
-use Rattle.spelling_spec.specs.Tree.{Placed}
+use Rattle.edif_spelling_spec.specs.Tree.{Placed}
 use Rattle.edif_spec.specs.Stands.{libraries}
 use Rattle.edif_tree.specs.Handles.{all}
 use Rattle.edif_tree.specs.Eaches.{left}

@@ -3,7 +3,7 @@ use Rattle.edif_spec.specs.Design as design
 use Rattle.edif_spec.specs.Faults.{those_of}
 use Rattle.edif_spec.specs.Stands.{LibraryFault}
 use Rattle.edif_spec.specs.declared.keyword.Keyword.TheVariants.{Cell}
-use Rattle.spelling_spec.specs.Tree.{Placed}
+use Rattle.edif_spelling_spec.specs.Tree.{Placed}
 use Rattle.edif_tree.specs.Handles.{here, all}
 use Rattle.edif_contents.specs.Known.{OpensLib}
 use Rattle.edif_build.specs.Libraries.{CellsAre, CellsFail, FailsAt, LibsAre, LibsFail}

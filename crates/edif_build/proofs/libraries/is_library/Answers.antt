@@ -1,5 +1,5 @@
 use Rattle.std.proofs.Common.{sym}
-use Rattle.spelling_spec.specs.Tree.{bare}
+use Rattle.edif_spelling_spec.specs.Tree.{bare}
 use Rattle.edif_spec.specs.Rows.{has_keyword}
 use Rattle.edif_spec.specs.declared.keyword.Keyword.TheVariants.{External, Library}
 use Rattle.edif_tree.specs.Handles.{here}

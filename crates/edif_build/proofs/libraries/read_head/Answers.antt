@@ -1,6 +1,6 @@
 use Rattle.edif_spec.proofs.KnownForms.{form_choice}
-use Rattle.std.proofs.Common.{◌≡◌, List, sym, ◌∙◌, subst, true, arith}
-use Rattle.spelling_spec.specs.Tree.{bare}
+use Rattle.std.proofs.Common.{◌≡◌, List, sym, subst, true, arith}
+use Rattle.edif_spelling_spec.specs.Tree.{bare}
 use Rattle.edif_spec.specs.Design as design
 use Rattle.edif_spec.specs.Faults.{RowFault}
 use Rattle.edif_spec.specs.Rows.{has_keyword}
@@ -83,6 +83,6 @@ returns c =
       typed = m.1;
       level = c.in_ok-read_level.ensures;
       external = c.is_form_of-external.ensures;
-      place = defined_first t u (n.three.a u c.at-2.ensures).at ∙ m.2;
+      place = defined_first t u _ (n.three.a u c.at-2.ensures).at m.2;
       inner = n.inner;
     }

@@ -1,6 +1,6 @@
 use Rattle.std.proofs.Common.{◌≡◌, ◌∙◌, ap, sym, true, false}
 use Rattle.std.specs.Prelude.{slice_get}
-use Rattle.spelling_spec.specs.Tree.{bare}
+use Rattle.edif_spelling_spec.specs.Tree.{bare}
 use Rattle.edif_spec.specs.Rows.{has_keyword}
 use Rattle.edif_spec.specs.declared.keyword.Keyword.TheVariants.{UserData}
 use Rattle.edif_tree.specs.Handles.{here}

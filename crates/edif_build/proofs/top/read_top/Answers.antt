@@ -1,7 +1,7 @@
 use Rattle.edif_spec.proofs.KnownForms.{form_choice}
 use Rattle.std.proofs.Common.{List, [], ◌∷◌, map, refl, sym, subst, inl, inr, None, arith}
 use Rattle.std.specs.Prelude.{filter}
-use Rattle.spelling_spec.specs.Tree.{Bare, Placed, bare}
+use Rattle.edif_spelling_spec.specs.Tree.{Bare, Placed, bare}
 use Rattle.edif_spec.specs.Design as design
 use Rattle.edif_spec.specs.Faults.{followers}
 use Rattle.edif_spec.specs.Keyword.{Many, name_definition, the}

@@ -1,5 +1,5 @@
 use Rattle.std.proofs.Common.{List, refl, sym, ap, subst, ◌∙◌}
-use Rattle.spelling_spec.specs.Tree.{Placed}
+use Rattle.edif_spelling_spec.specs.Tree.{Placed}
 use Rattle.edif_spec.specs.Design as design
 use Rattle.edif_spec.specs.Faults.{those_of}
 use Rattle.edif_spec.specs.Stands.{ContentsFault}
@@ -45,4 +45,5 @@ returns c =
     let z : ReadNets s (all c.in_ok-parts.parts.inner) c.in_ok-nets.nets = record { rows = y.rows; mean = y.mean; nets = y.nets; fine = y.fine; names = y.names; count = y.count; ends = y.ends; joined_once = y.joined_once } in
     let I : List Placed → Type 0 = λ v. ReadInsts s.libs.now.libs c.args.own v c.in_ok-insts.insts in
     let N : List Placed → Type 0 = λ v. ReadNets s v c.in_ok-nets.nets in
-    contents_read s c.args.own t c.in_ok-parts.parts c.in_ok-insts.insts c.in_ok-nets.nets _ a (subst I a.inner c.in_ok-insts.ensures) c.as_slice.ensures.value (subst N a.inner z) c.of.ensures refl refl
+    contents_read s c.args.own t c.in_ok-parts.parts c.in_ok-insts.insts c.in_ok-nets.nets _ a (subst I a.inner c.in_ok-insts.ensures) c.as_slice.ensures.value (subst N a.inner z)
+    (ap (λ (v : design.Contents). v.insts) c.in_ok-of.ensures ∙ c.of.ensures) (ap (λ (v : design.Contents). v.nets) c.in_ok-of.ensures) refl

@@ -1,6 +1,6 @@
 use Rattle.std.proofs.Common.{◌≡◌, ◌≤◌, ◌∙◌, List, length, map, subst, sym, true, arith}
 use Rattle.std.specs.List.{AllByRecursion}
-use Rattle.spelling_spec.specs.Tree.{Placed, bare}
+use Rattle.edif_spelling_spec.specs.Tree.{Placed, bare}
 use Rattle.edif_spec.specs.Faults.{Among}
 use Rattle.edif_spec.specs.Means.{MeansInstRef}
 use Rattle.edif_spec.specs.Rows.{Perhaps, has_keyword}

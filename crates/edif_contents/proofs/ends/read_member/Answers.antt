@@ -1,7 +1,7 @@
 use Rattle.std.proofs.Common.{◌≡◌, ◌<◌, ℤ, ℕ, pos, ◌∙◌, ap, sym, subst, arith}
 use Rattle.std.specs.Int.{w64}
 use Rattle.std.proofs.lemmas.Int.{to_z-of_z}
-use Rattle.spelling_spec.specs.Tree.{Integer', Word', bare}
+use Rattle.edif_spelling_spec.specs.Tree.{Integer', Word', bare}
 use Rattle.edif_spec.specs.Design as design
 use Rattle.edif_spec.specs.Means.{MeansBits}
 use Rattle.edif_spec.specs.Stands.{BitFault, Dangles}

@@ -1,4 +1,4 @@
-use Rattle.spelling_spec.specs.Tree.{Word', bare}
+use Rattle.edif_spelling_spec.specs.Tree.{Word', bare}
 use Rattle.edif_spec.specs.Design as design
 use Rattle.edif_spec.specs.Means.{MeansBits}
 use Rattle.edif_spec.specs.Stands.{BitFault, Dangles}

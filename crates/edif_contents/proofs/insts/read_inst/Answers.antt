@@ -1,5 +1,5 @@
 use Rattle.std.proofs.Common.{◌≤◌, List, length, subst, sym, arith}
-use Rattle.spelling_spec.specs.Tree.{Placed}
+use Rattle.edif_spelling_spec.specs.Tree.{Placed}
 use Rattle.edif_spec.specs.Faults.{those_of}
 use Rattle.edif_spec.specs.Stands.{InstFault, NameFault, ViewRefFault}
 use Rattle.edif_spec.specs.Stands as stands

@@ -1,5 +1,5 @@
 use Rattle.std.proofs.Common.{List, [], ◌∷◌, ◌++◌, sym, ap, ◌∙◌, subst}
-use Rattle.spelling_spec.specs.Tree.{Placed}
+use Rattle.edif_spelling_spec.specs.Tree.{Placed}
 use Rattle.edif_spec.specs.Design as design
 use Rattle.edif_spec.specs.Faults.{those_of}
 use Rattle.edif_spec.specs.declared.keyword.Keyword.TheVariants.{Instance}
@@ -15,7 +15,7 @@ pub loop-node-init : goal.loop-node-init
 loop-node-init c = record {
   can_next = tt;
   is_finite = tt;
-  insts = ([], sym (ap left c.into_iter-node-iterator.ensures.into_iter_gives ∙ c.iter-node-items.ensures), rw (c.new-list.ensures.items, c.requires) (insts_start c.args.libs.now.libs c.args.own));
+  insts = ([], sym (ap left c.into_iter-node-iterator.ensures.into_iter_gives ∙ c.iter-node-items.ensures), rw (c.in_ok-list.ensures, c.requires) (insts_start c.args.libs.now.libs c.args.own));
 }
 
 pub take_inst-requires : goal.take_inst-requires
@@ -29,11 +29,11 @@ returns-in_err-take_inst c =
     let b = c.loop-node.invariant.insts in
     let xs = c.loop-node.list.items in
     let ns = c.loop-node.names in
-    hand_on _ (InstTakenFault libs c.args.own t ns xs) (InstsFault libs c.args.own (those_of Instance ts)) c.from_residual.result c.in_err-take_inst.field-0.0 c.from_residual.ensures.1
+    hand_on _ (InstTakenFault libs c.args.own t ns xs) (InstsFault libs c.args.own (those_of Instance ts)) c.from_residual-in_err-take_inst.result c.in_err-take_inst.field-0.0 c.from_residual-in_err-take_inst.ensures.1
     (λ f h. insts_next_fails libs c.args.own ts b.0 (left c.loop-node.node-iterator) (left c.next.new.self) t xs ns f b.1 c.in-Some.ensures.steps (sym c.if-is_form_of.ensures) b.2 h) c.in_err-take_inst.ensures
 
-pub loop-node-preserved-in-Continue-1 : goal.loop-node-preserved-in-Continue-1
-loop-node-preserved-in-Continue-1 c =
+pub loop-node-preserved-in-Continue-branch-2 : goal.loop-node-preserved-in-Continue-branch-2
+loop-node-preserved-in-Continue-branch-2 c =
     let t = here c.in-Some.node in
     let libs = c.args.libs.now.libs in
     let b = c.loop-node.invariant.insts in

@@ -1,5 +1,5 @@
 use Rattle.std.proofs.Common.{◌+◌, ◌*◌, ◌≤◌, [], ◌∷◌, ◌++◌, List, length, ap, subst, sym, ◌∙◌, arith}
-use Rattle.spelling_spec.specs.Tree.{Placed}
+use Rattle.edif_spelling_spec.specs.Tree.{Placed}
 use Rattle.edif_tree.specs.Handles.{here, all}
 use Rattle.edif_tree.specs.Eaches.{left}
 use Rattle.edif_grammar.proofs.Misplaced.{place_is}

@@ -1,5 +1,5 @@
 use Rattle.std.proofs.Common.{◌≡◌, ◌+◌, ℕ, List, ◌++◌, length, map, take}
-use Rattle.spelling_spec.specs.Tree.{Placed}
+use Rattle.edif_spelling_spec.specs.Tree.{Placed}
 use Rattle.edif_tree.specs.Handles.{all}
 use Rattle.edif_spec.specs.Design as design
 use Rattle.edif_spec.specs.Nets.{end_of}

@@ -1,5 +1,5 @@
 use Rattle.std.proofs.Common.{◌≡◌, ◌++◌}
-use Rattle.bus_spec.specs.Members.{numbered}
+use Rattle.netlist_bus_spec.specs.Members.{numbered}
 use Rattle.netlist_schema.specs.Names.{AreDistinct}
 use Rattle.edif_spec.specs.Nets.{name_at, net_at}
 use Rattle.edif_parts.specs.Names.{ids}

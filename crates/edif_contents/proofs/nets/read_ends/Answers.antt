@@ -1,6 +1,6 @@
 use Rattle.std.proofs.Common.{[], ◌∷◌, ◌++◌, List, sym, ap, ◌∙◌, subst}
 use Rattle.std.specs.List.{AllZip}
-use Rattle.spelling_spec.specs.Tree.{Placed}
+use Rattle.edif_spelling_spec.specs.Tree.{Placed}
 use Rattle.edif_spec.specs.Faults.{Among}
 use Rattle.edif_spec.specs.declared.keyword.Keyword.TheVariants.{PortRef}
 use Rattle.edif_spec.proofs.NetFaultsApart.{zip_append}
@@ -17,7 +17,7 @@ pub loop-node-init : goal.loop-node-init
 loop-node-init c = record {
   can_next = tt;
   is_finite = tt;
-  ends = ([], sym (ap left c.into_iter-node-iterator.ensures.into_iter_gives ∙ c.iter-node-items.ensures), rw c.new-ends.ensures.items tt);
+  ends = ([], sym (ap left c.into_iter-node-iterator.ensures.into_iter_gives ∙ c.iter-node-items.ensures), rw c.in_ok-ends.ensures.items tt);
 }
 
 pub read_end-requires-clause-keyword : goal.read_end-requires-clause-keyword
@@ -31,7 +31,7 @@ returns-in_err-end c =
     let ts = all c.args.nodes in
     let s = c.args.around.now in
     let b = c.loop-node.invariant.ends in
-    hand_on (AllZip (ReadEnd s) ts) (EndFaultIn s t) (Among (EndFaultIn s) ts) c.from_residual.result c.in_err-end.field-0.0 c.from_residual.ensures.1
+    hand_on (AllZip (ReadEnd s) ts) (EndFaultIn s t) (Among (EndFaultIn s) ts) c.from_residual-in_err-end.result c.in_err-end.field-0.0 c.from_residual-in_err-end.ensures.1
     (λ f h. among_here (EndFaultIn s) ts b.0 (left c.loop-node.node-iterator) (left c.next.new.self) t f b.1 c.in-Some.ensures.steps h) c.in_err-end.ensures
 
 pub loop-node-preserved : goal.loop-node-preserved

@@ -1,7 +1,7 @@
 use Rattle.std.proofs.Common.{◌<◌, List, map, refl, ap, subst, arith}
 use Rattle.std.specs.Prelude.{◌^◌}
 use Rattle.std.specs.List.{All}
-use Rattle.spelling_spec.specs.Tree.{Placed, bare}
+use Rattle.edif_spelling_spec.specs.Tree.{Placed, bare}
 use Rattle.netlist_schema.specs.Names.{HasDistinctKeys}
 use Rattle.netlist_schema.specs.Typed.{IsTypedProperty}
 use Rattle.edif_spec.specs.Faults.{those_of}

@@ -1,5 +1,5 @@
 use Rattle.std.proofs.Common.{List, [], ◌∷◌, ◌++◌, sym, ap, ◌∙◌, subst}
-use Rattle.spelling_spec.specs.Tree.{Placed}
+use Rattle.edif_spelling_spec.specs.Tree.{Placed}
 use Rattle.edif_spec.specs.Faults.{those_of}
 use Rattle.edif_spec.specs.declared.keyword.Keyword.TheVariants.{Net}
 use Rattle.edif_tree.specs.Handles.{here, all}
@@ -14,7 +14,7 @@ pub loop-node-init : goal.loop-node-init
 loop-node-init c = record {
   can_next = tt;
   is_finite = tt;
-  nets = ([], sym (ap left c.into_iter-node-iterator.ensures.into_iter_gives ∙ c.iter-node-items.ensures), rw (c.new-nets.ensures.items, c.requires.names, c.requires.joins) (nets_start c.args.around.now));
+  nets = ([], sym (ap left c.into_iter-node-iterator.ensures.into_iter_gives ∙ c.iter-node-items.ensures), rw (c.in_ok-nets.ensures, c.requires.names, c.requires.joins) (nets_start c.args.around.now));
 }
 
 pub take_net-requires-clause-keyword : goal.take_net-requires-clause-keyword
@@ -37,11 +37,11 @@ returns-in_err-take_net c =
     let b = c.loop-node.invariant.nets in
     let rest = left c.next.new.self in
     let e = b.1 ∙ ap (λ v. b.0 ++ v) c.in-Some.ensures.steps in
-    hand_on _ (NextNetFault s b.0 t) (NetsFaultIn s (those_of Net ts)) c.from_residual.result c.in_err-take_net.field-0.0 c.from_residual.ensures.1
+    hand_on _ (NextNetFault s b.0 t) (NetsFaultIn s (those_of Net ts)) c.from_residual-in_err-take_net.result c.in_err-take_net.field-0.0 c.from_residual-in_err-take_net.ensures.1
     (λ f h. subst (λ v. NetsFaultIn s (those_of Net v) f) (sym e) (h rest)) (c.in_err-take_net.ensures b.0 b.2)
 
-pub loop-node-preserved-in-Continue-1 : goal.loop-node-preserved-in-Continue-1
-loop-node-preserved-in-Continue-1 c =
+pub loop-node-preserved-in-Continue-branch-2 : goal.loop-node-preserved-in-Continue-branch-2
+loop-node-preserved-in-Continue-branch-2 c =
     let t = here c.in-Some.node in
     let b = c.loop-node.invariant.nets in
     record {

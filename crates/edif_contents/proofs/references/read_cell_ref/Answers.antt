@@ -1,6 +1,6 @@
 use Rattle.std.proofs.Common.{◌≡◌, ◌≤◌, List, arith, length, map, sym, subst, true}
 use Rattle.std.specs.List.{AllByRecursion}
-use Rattle.spelling_spec.specs.Tree.{Placed, Word', bare}
+use Rattle.edif_spelling_spec.specs.Tree.{Placed, Word', bare}
 use Rattle.edif_spec.specs.Design as design
 use Rattle.edif_spec.specs.Means.{MeansCellRef, MeansLibraryRef}
 use Rattle.edif_spec.specs.Rows.{has_keyword}

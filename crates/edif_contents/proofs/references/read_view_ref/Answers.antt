@@ -1,5 +1,5 @@
 use Rattle.std.proofs.Common.{[], ◌∷◌, arith}
-use Rattle.spelling_spec.specs.Tree.{Word', bare}
+use Rattle.edif_spelling_spec.specs.Tree.{Word', bare}
 use Rattle.edif_spec.specs.Design as design
 use Rattle.edif_spec.specs.Means.{MeansViewRef}
 use Rattle.edif_spec.specs.Stands.{CellRefFault, Dangles, ViewRefFault}

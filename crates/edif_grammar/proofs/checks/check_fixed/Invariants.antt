@@ -1,6 +1,6 @@
 use Rattle.std.proofs.Common.{◌≡◌, ℕ, ◌<◌, List, Some, map}
 use Rattle.std.specs.Prelude.{slice_get}
-use Rattle.spelling_spec.specs.Tree.{Placed}
+use Rattle.edif_spelling_spec.specs.Tree.{Placed}
 use Rattle.edif_spec.specs.Keyword.{Choice}
 use Rattle.edif_spec.specs.Faults.{token_kind}
 use Rattle.edif_tree.specs.Handles.{all}

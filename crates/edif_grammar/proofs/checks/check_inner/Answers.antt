@@ -1,6 +1,6 @@
 use Rattle.std.proofs.Common.{◌≡◌, List, map, true, ap, sym, ◌∙◌, subst}
 use Rattle.std.specs.List.{AllByRecursion}
-use Rattle.spelling_spec.specs.Tree.{Placed, bare}
+use Rattle.edif_spelling_spec.specs.Tree.{Placed, bare}
 use Rattle.edif_spec.specs.Rows.{is_follower}
 use Rattle.edif_spec.specs.Faults.{FollowerFault, misplaced}
 use Rattle.edif_spec.specs.declared.fault.Kind.TheVariants.{BadForm}

@@ -1,5 +1,5 @@
 use Rattle.std.proofs.Common.{ap, sym, ◌∙◌}
-use Rattle.spelling_spec.specs.Tree.{bare}
+use Rattle.edif_spelling_spec.specs.Tree.{bare}
 use Rattle.edif_spec.specs.declared.fault.Kind.TheVariants.{BadForm}
 use Rattle.edif_spec.specs.declared.fault.MeaningFault.TheVariants.{At, NotInProfile}
 use Rattle.edif_tree.specs.Handles.{here}

@@ -2,7 +2,7 @@ use Rattle.std.proofs.Common.{true, ◌≡◌, ◌<◌, ◌≤◌, List, length,
 use Rattle.std.specs.List.{AllByRecursion}
 use Rattle.std.proofs.lemmas.List.{length-map}
 use Rattle.std.proofs.lemmas.Result.{err_from_is_err_and}
-use Rattle.spelling_spec.specs.Tree.{Placed, bare}
+use Rattle.edif_spelling_spec.specs.Tree.{Placed, bare}
 use Rattle.edif_spec.specs.Keyword.{Takes, row}
 use Rattle.edif_spec.specs.Rows.{is_follower}
 use Rattle.edif_spec.specs.Faults.{arguments, fixed_count, misplaced, place_of, token_kind, FixedFault, FollowerFault, SecondFault}

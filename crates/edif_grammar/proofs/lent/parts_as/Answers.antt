@@ -1,4 +1,4 @@
-use Rattle.spelling_spec.specs.Tree.{bare}
+use Rattle.edif_spelling_spec.specs.Tree.{bare}
 use Rattle.edif_tree.specs.Handles.{here}
 use Rattle.edif_grammar.proofs.Misplaced.{named}
 use Rattle.edif_grammar.proofs.lent.parts_as.Goals as goal

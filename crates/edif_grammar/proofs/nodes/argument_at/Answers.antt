@@ -1,5 +1,5 @@
 use Rattle.std.proofs.Common.{ap, sym, ◌∙◌}
-use Rattle.spelling_spec.specs.Tree.{bare}
+use Rattle.edif_spelling_spec.specs.Tree.{bare}
 use Rattle.edif_tree.specs.Handles.{here}
 use Rattle.edif_grammar.specs.Rules.{with_keyword}
 use Rattle.edif_grammar.proofs.Misplaced.{told}

@@ -1,5 +1,5 @@
 use Rattle.std.proofs.Common.{◌≡◌, take, true}
-use Rattle.spelling_spec.specs.Bytes.{is_unquoted}
+use Rattle.edif_spelling_spec.specs.Bytes.{is_unquoted}
 use Rattle.edif_lexer.proofs.runs.unquoted.Given as goal
 
 abbrev pub invariant-loop-i : goal.invariant-loop-i

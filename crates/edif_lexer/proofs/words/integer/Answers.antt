@@ -1,7 +1,7 @@
 use Rattle.std.proofs.Common.{◌∙◌, ap}
 use Rattle.std.proofs.lemmas.Str.{IsUtf8-from_ascii}
-use Rattle.spelling_spec.specs.Words.{integer}
-use Rattle.spelling_spec.proofs.ParseLemmas.{integer_from_parse, IsAscii-from_word}
+use Rattle.edif_spelling_spec.specs.Words.{integer}
+use Rattle.edif_spelling_spec.proofs.ParseLemmas.{integer_from_parse, IsAscii-from_word}
 use Rattle.edif_lexer.proofs.words.integer.Goals as goal
 
 pub returns-in-Ok : goal.returns-in-Ok

@@ -1,6 +1,6 @@
 use Rattle.std.proofs.Common.{◌≡◌, ◌≤◌, ◌+◌, List, [], ◌∷◌, ◌++◌, refl, sym, ap, ◌∙◌, subst, ◌⊎◌, inl, inr, arith, length}
 use Rattle.std.specs.Prelude.{sum_by}
-use Rattle.spelling_spec.specs.Tree.{Placed}
+use Rattle.edif_spelling_spec.specs.Tree.{Placed}
 use Rattle.netlist_schema.specs.Design.{port_width}
 use Rattle.edif_spec.specs.Faults.{those_of}
 use Rattle.edif_spec.specs.Means.{MeansPort}
@@ -22,9 +22,9 @@ loop-node-init c =
     record {
       can_next = tt;
       is_finite = tt;
-      forms = ([], sym (ap left c.into_iter-node-iterator.ensures.into_iter_gives ∙ c.iter-node-items.ensures), rw (c.new-ports.ensures.items, c.requires) (forms_start MeansPort IsFinePort port_id keywords.Port));
-      count = rw c.new-ports.ensures.items (omega arith);
-      sum = rw c.new-ports.ensures.items refl;
+      forms = ([], sym (ap left c.into_iter-node-iterator.ensures.into_iter_gives ∙ c.iter-node-items.ensures), rw (c.in_ok-ports.ensures, c.requires) (forms_start MeansPort IsFinePort port_id keywords.Port));
+      count = rw c.in_ok-ports.ensures (omega arith);
+      sum = rw c.in_ok-ports.ensures refl;
       bits = omega arith;
     }
 
@@ -33,7 +33,7 @@ returns-in_err-read c =
     let t = here c.in-Some.node in
     let ts = all c.args.inner in
     let b = c.loop-node.invariant.forms in
-    hand_on _ (PortFault t) (PortsFault (those_of keywords.Port ts)) c.from_residual.result c.in_err-read.field-0.0 c.from_residual.ensures.1
+    hand_on _ (PortFault t) (PortsFault (those_of keywords.Port ts)) c.from_residual-in_err-read.result c.in_err-read.field-0.0 c.from_residual-in_err-read.ensures.1
     (λ f h. inl (fault_here PortFault keywords.Port ts b.0 (left c.loop-node.node-iterator) (left c.next.new.self) t f b.1 c.in-Some.ensures.steps (sym c.if-is_form_of.ensures) h))
     c.in_err-read.ensures
 

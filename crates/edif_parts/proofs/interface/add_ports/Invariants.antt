@@ -1,6 +1,6 @@
 use Rattle.std.proofs.Common.{◌≡◌, ◌≤◌, ◌++◌, List, length}
 use Rattle.std.specs.Prelude.{sum_by}
-use Rattle.spelling_spec.specs.Tree.{Placed}
+use Rattle.edif_spelling_spec.specs.Tree.{Placed}
 use Rattle.netlist_schema.specs.Design.{port_width}
 use Rattle.edif_tree.specs.Handles.{all}
 use Rattle.edif_tree.specs.Eaches.{left}

@@ -1,5 +1,5 @@
 use Rattle.std.proofs.Common.{[], ◌∷◌, List, map, refl, inl, inr, subst}
-use Rattle.spelling_spec.specs.Tree.{Placed, bare}
+use Rattle.edif_spelling_spec.specs.Tree.{Placed, bare}
 use Rattle.edif_spec.specs.Faults.{those_of}
 use Rattle.edif_spec.specs.Keyword.{Many}
 use Rattle.edif_spec.specs.Means.{MeansProperties}

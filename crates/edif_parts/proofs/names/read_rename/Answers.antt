@@ -1,5 +1,5 @@
 use Rattle.std.proofs.Common.{◌≡◌, ℕ, List, [], refl, sym, ap, ◌∙◌, subst, arith}
-use Rattle.spelling_spec.specs.Tree.{Placed, Word', String'}
+use Rattle.edif_spelling_spec.specs.Tree.{Placed, Word', String'}
 use Rattle.netlist_schema.specs.Ident.{IsIdentifier}
 use Rattle.netlist_schema.specs.Typed.{IsBytes}
 use Rattle.edif_spec.specs.Keyword.{identifier, string}

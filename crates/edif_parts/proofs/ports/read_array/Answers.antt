@@ -1,7 +1,7 @@
 use Rattle.std.proofs.Common.{◌≡◌, ℕ, ℤ, pos, sym, ap, ◌∙◌, subst, arith}
 use Rattle.std.proofs.lemmas.Int.{to_z-of_z}
 use Rattle.std.specs.Int.{w64}
-use Rattle.spelling_spec.specs.Tree.{Integer'}
+use Rattle.edif_spelling_spec.specs.Tree.{Integer'}
 use Rattle.netlist_schema.specs.Width.{IsWidth}
 use Rattle.edif_spec.specs.Stands.{NameFault, BusNameFault}
 use Rattle.edif_spec.specs.Stands as stands

@@ -1,5 +1,5 @@
 use Rattle.std.proofs.Common.{sym}
-use Rattle.spelling_spec.specs.Tree.{bare}
+use Rattle.edif_spelling_spec.specs.Tree.{bare}
 use Rattle.edif_spec.specs.Stands.{NameFault, BusNameFault}
 use Rattle.edif_spec.specs.Stands as stands
 use Rattle.edif_tree.specs.Handles.{here}

@@ -1,5 +1,5 @@
 use Rattle.std.proofs.Common.{sym, ap, ◌∙◌, arith}
-use Rattle.spelling_spec.specs.Tree.{Word'}
+use Rattle.edif_spelling_spec.specs.Tree.{Word'}
 use Rattle.edif_spec.proofs.KnownForms.{only}
 use Rattle.edif_tree.specs.Nodes.{place_of}
 use Rattle.edif_tree.specs.Handles.{here}

@@ -1,16 +1,16 @@
-use Rattle.std.proofs.Common.{◌≡◌, sym, ◌∙◌, Some, subst, arith, length, List}
-use Rattle.std.specs.Prelude.{◌≤◌, map}
-use Rattle.spelling_spec.specs.Tree.{Placed, bare}
+use Rattle.std.proofs.Common.{◌≡◌, sym, Some, subst, arith, length, List}
+use Rattle.std.specs.Prelude.{◌∷◌, [], ◌≤◌, map}
+use Rattle.edif_spelling_spec.specs.Tree.{Placed, bare}
 use Rattle.netlist_schema.specs.Names.{HasDistinctKeys}
 use Rattle.netlist_schema.specs.Types.{Port}
 use Rattle.netlist_schema.specs.Typed.{IsTypedPort}
-use Rattle.edif_spec.specs.Faults.{Among, RowFault, defined, those_of}
+use Rattle.edif_spec.specs.Faults.{Among, RowFault, defined, followers, those_of}
 use Rattle.edif_spec.specs.Means.{MeansDirection, MeansPort, MeansProperties, MeansText}
 use Rattle.edif_spec.specs.Rows.{Perhaps, those}
 use Rattle.edif_spec.specs.Stands.{DirectionFault, PortFault, BusNameFault, PropertiesFault}
 use Rattle.edif_spec.specs.Stands as stands
 use Rattle.edif_spec.specs.declared.keyword.Keyword.TheVariants as keywords
-use Rattle.edif_spec.proofs.FaultsApart.{defined_first}
+use Rattle.edif_spec.proofs.FaultsApart.{defined_bus, keyword_of, port_may}
 use Rattle.edif_tree.specs.Handles.{here, all}
 use Rattle.edif_parts.proofs.Answering.{hand_on}
 use Rattle.edif_parts.proofs.PortForms.{port_node, one_direction, one_designator, port_means}
@@ -73,4 +73,4 @@ returns c =
     let g = c.in_ok-designator.ensures in
     let ps = c.in_ok-properties.ensures in
     let x : Port = record { name = c.in_ok-named.named.name; array = c.in_ok-named.named.array; direction = c.in_ok-direction.direction; designator = c.in_ok-designator.designator; properties = c.in_ok-properties.properties } in
-    (port_means t u x (n.form u c.at.ensures) m.means (subst D inner c.in_ok-direction.ensures) (subst G inner g.0) (subst Q inner ps.0), (record { name = m.typed; array = m.width; designator = g.1; properties = ps.1 }, ps.2), defined_first t u (n.a u c.at.ensures).at ∙ m.at)
+    (port_means t u x (n.form u c.at.ensures) m.means (subst D inner c.in_ok-direction.ensures) (subst G inner g.0) (subst Q inner ps.0), (record { name = m.typed; array = m.width; designator = g.1; properties = ps.1 }, ps.2), defined_bus t u _ (port_may t (keyword_of keywords.Port (bare t) (bare u ∷ []) (map bare (followers keywords.Port t)) (n.form u c.at.ensures))) (n.a u c.at.ensures).at m.at)

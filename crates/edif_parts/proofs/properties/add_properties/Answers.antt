@@ -1,7 +1,7 @@
 use Rattle.std.proofs.Common.{List, [], ◌∷◌, ◌++◌, sym, ap, ◌∙◌, subst, ◌⊎◌, inl, inr}
 use Rattle.std.specs.Prelude.{map}
 use Rattle.std.specs.List.{All}
-use Rattle.spelling_spec.specs.Tree.{Placed, bare}
+use Rattle.edif_spelling_spec.specs.Tree.{Placed, bare}
 use Rattle.netlist_schema.specs.Names.{HasDistinctKeys}
 use Rattle.netlist_schema.specs.Types.{Property}
 use Rattle.netlist_schema.specs.Typed.{IsTypedProperty}
@@ -19,7 +19,7 @@ use Rattle.edif_parts.proofs.Steps.{ended, fault_here, here_first, stepped}
 use Rattle.edif_parts.proofs.properties.add_properties.Goals as goal
 
 pub loop-node-init : goal.loop-node-init
-loop-node-init c = (tt, tt, ([], sym (ap left c.into_iter-node-iterator.ensures.into_iter_gives ∙ c.iter-node-items.ensures), rw (c.new-properties.ensures.items, c.requires) (forms_start MeansProperty IsTypedProperty (λ (p : Property). p.key.id) keywords.Property)))
+loop-node-init c = (tt, tt, ([], sym (ap left c.into_iter-node-iterator.ensures.into_iter_gives ∙ c.iter-node-items.ensures), rw (c.in_ok-properties.ensures, c.requires) (forms_start MeansProperty IsTypedProperty (λ (p : Property). p.key.id) keywords.Property)))
 
 pub returns-in_err-add_property : goal.returns-in_err-add_property
 returns-in_err-add_property c =
@@ -27,7 +27,7 @@ returns-in_err-add_property c =
     let ts = all c.args.inner in
     let b = c.loop-node.invariant.2 in
     let s = sym c.if-is_form_of.ensures in
-    hand_on (λ ps. MeansProperties (map bare ts) ps × All IsTypedProperty ps × HasDistinctKeys ps) (λ f. PropertyFault t f ⊎ DefinesAgain c.loop-node.names t f) (PropertiesFault (those_of keywords.Property ts)) c.from_residual.result c.in_err-add_property.field-0.0 c.from_residual.ensures.1
+    hand_on (λ ps. MeansProperties (map bare ts) ps × All IsTypedProperty ps × HasDistinctKeys ps) (λ f. PropertyFault t f ⊎ DefinesAgain c.loop-node.names t f) (PropertiesFault (those_of keywords.Property ts)) c.from_residual-in_err-add_property.result c.in_err-add_property.field-0.0 c.from_residual-in_err-add_property.ensures.1
     (λ f h.
     elim h [
       | inl x ↦ stands.one_property (fault_here PropertyFault keywords.Property ts b.0 (left c.loop-node.node-iterator) (left c.next.new.self) t f b.1 c.in-Some.ensures.steps s x)
@@ -35,8 +35,8 @@ returns-in_err-add_property c =
     ])
     c.in_err-add_property.ensures
 
-pub loop-node-preserved-in-Continue-1 : goal.loop-node-preserved-in-Continue-1
-loop-node-preserved-in-Continue-1 c =
+pub loop-node-preserved-in-Continue-branch-2 : goal.loop-node-preserved-in-Continue-branch-2
+loop-node-preserved-in-Continue-branch-2 c =
     let t = here c.in-Some.node in
     let b = c.loop-node.invariant.2 in
     (tt, tt, (b.0 ++ t ∷ [], stepped (all c.args.inner) b.0 (left c.loop-node.node-iterator) (left c.next.new.self) t b.1 c.in-Some.ensures.steps, forms_add MeansProperty IsTypedProperty (λ (p : Property). p.key.id) keywords.Property b.0 t c.loop-node.properties.items c.add_property.new.properties.items c.loop-node.names c.add_property.new.names (sym c.if-is_form_of.ensures) c.in_ok-add_property.ensures b.2))

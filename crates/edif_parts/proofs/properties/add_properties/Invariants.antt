@@ -1,5 +1,5 @@
 use Rattle.std.proofs.Common.{◌≡◌, ◌++◌, List}
-use Rattle.spelling_spec.specs.Tree.{Placed}
+use Rattle.edif_spelling_spec.specs.Tree.{Placed}
 use Rattle.netlist_schema.specs.Types.{Property}
 use Rattle.netlist_schema.specs.Typed.{IsTypedProperty}
 use Rattle.edif_spec.specs.Means.{MeansProperty}

@@ -1,6 +1,6 @@
-use Rattle.std.proofs.Common.{◌≡◌, ap, sym, ◌∙◌, Some, subst, arith, length, List}
+use Rattle.std.proofs.Common.{◌≡◌, ap, sym, Some, subst, arith, length, List}
 use Rattle.std.specs.Prelude.{◌≤◌, map}
-use Rattle.spelling_spec.specs.Tree.{Placed, bare}
+use Rattle.edif_spelling_spec.specs.Tree.{Placed, bare}
 use Rattle.netlist_schema.specs.Types.{Property}
 use Rattle.netlist_schema.specs.Typed.{IsTypedProperty}
 use Rattle.edif_spec.specs.Faults.{Among, RowFault, defined, those_of}
@@ -65,4 +65,4 @@ returns c =
     let O : List Placed → Type 0 = λ v. Perhaps (MeansText keywords.Owner) (those keywords.Owner (map bare v)) c.in_ok-owner.owner in
     let o = subst O c.in_ok-parts.ensures.inner c.in_ok-owner.ensures.0 in
     let x : Property = record { key = c.in_ok-key.key.name; value = c.in_ok-value.value; owner = c.in_ok-owner.owner } in
-    (property_means t u v x (n.form u v c.at.ensures c.at-2.ensures) k.0 y.0 o, record { key = k.1; value = y.1; owner = c.in_ok-owner.ensures.1 }, defined_first t u (n.a u c.at.ensures).at ∙ k.2)
+    (property_means t u v x (n.form u v c.at.ensures c.at-2.ensures) k.0 y.0 o, record { key = k.1; value = y.1; owner = c.in_ok-owner.ensures.1 }, defined_first t u _ (n.a u c.at.ensures).at k.2)

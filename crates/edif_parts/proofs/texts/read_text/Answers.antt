@@ -1,5 +1,5 @@
 use Rattle.std.proofs.Common.{ℕ, List, sym, ap, ◌∙◌, subst, arith}
-use Rattle.spelling_spec.specs.Tree.{String'}
+use Rattle.edif_spelling_spec.specs.Tree.{String'}
 use Rattle.netlist_schema.specs.Typed.{IsBytes}
 use Rattle.edif_spec.proofs.KnownForms.{only}
 use Rattle.edif_tree.specs.Nodes.{place_of}

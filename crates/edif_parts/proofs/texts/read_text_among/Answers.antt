@@ -1,6 +1,6 @@
 use Rattle.std.proofs.Common.{refl, [], ◌∷◌, ◌++◌, sym, ap, ◌∙◌}
 use Rattle.std.specs.Prelude.{map, IfSome}
-use Rattle.spelling_spec.specs.Tree.{bare}
+use Rattle.edif_spelling_spec.specs.Tree.{bare}
 use Rattle.netlist_schema.specs.Typed.{IsBytes}
 use Rattle.edif_spec.specs.Faults.{Among, RowFault, those_of}
 use Rattle.edif_spec.specs.Means.{MeansText}

@@ -1,5 +1,5 @@
 use Rattle.std.proofs.Common.{sym, true, false, arith}
-use Rattle.spelling_spec.specs.Tree.{bare}
+use Rattle.edif_spelling_spec.specs.Tree.{bare}
 use Rattle.netlist_schema.specs.declared.property.Value.TheVariants as values
 use Rattle.edif_spec.specs.Faults.{RowFault}
 use Rattle.edif_spec.specs.Means.{MeansValue}

@@ -1,7 +1,7 @@
 use Rattle.std.proofs.Common.{ℤ, sym, subst, arith}
 use Rattle.std.specs.Int.{w64}
 use Rattle.std.proofs.lemmas.Int.{to_z-of_z}
-use Rattle.spelling_spec.specs.Tree.{bare}
+use Rattle.edif_spelling_spec.specs.Tree.{bare}
 use Rattle.netlist_schema.specs.declared.property.Value.TheVariants as values
 use Rattle.netlist_schema.specs.declared.property.Num.TheVariants as numbers
 use Rattle.netlist_schema.specs.Typed.{IsTypedNum}

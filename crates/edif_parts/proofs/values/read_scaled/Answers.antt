@@ -2,7 +2,7 @@ use Rattle.std.proofs.Common.{ℤ, sym, ap, ◌∙◌, subst, to_z, of_z, arith}
 use Rattle.std.specs.Prelude.{FitsSigned}
 use Rattle.std.specs.Int.{w32, w64}
 use Rattle.std.proofs.lemmas.Int.{to_z-of_z}
-use Rattle.spelling_spec.specs.Tree.{Integer', bare}
+use Rattle.edif_spelling_spec.specs.Tree.{Integer', bare}
 use Rattle.netlist_schema.specs.declared.property.Num.TheVariants as numbers
 use Rattle.edif_spec.specs.Means.{MeansNumber}
 use Rattle.edif_spec.proofs.KnownForms.{only}

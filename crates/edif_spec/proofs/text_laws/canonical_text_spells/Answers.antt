@@ -1,4 +1,4 @@
-use Rattle.spelling_spec.proofs.SpelledTokens.{same_tree}
+use Rattle.edif_spelling_spec.proofs.SpelledTokens.{same_tree}
 use Rattle.edif_spec.specs.Arranged.{arranged, canonical_text}
 use Rattle.edif_spec.specs.Canonical.{tree_of}
 use Rattle.edif_spec.proofs.Arrange.{arranged_valid}

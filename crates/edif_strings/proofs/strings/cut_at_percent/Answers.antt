@@ -1,4 +1,4 @@
-use Rattle.spelling_spec.specs.Bytes.{is_percent}
+use Rattle.edif_spelling_spec.specs.Bytes.{is_percent}
 use Rattle.std.proofs.Common.{sym}
 use Rattle.edif_strings.proofs.CutLemmas.{cut_some, cut_none}
 use Rattle.edif_strings.proofs.strings.cut_at_percent.Goals as goal

@@ -1,7 +1,7 @@
 use Rattle.std.proofs.Common.{◌≡◌, ℕ, List, ◌∷◌, [], sym, ◌∙◌, ap, arith, append_assoc, ◌++◌}
 use Rattle.std.specs.Option.{option_map_or}
-use Rattle.spelling_spec.specs.Strings.{segments, codes, value}
-use Rattle.spelling_spec.proofs.EscapeLemmas.{escape_fault_more, value_more}
+use Rattle.edif_spelling_spec.specs.Strings.{segments, codes, value}
+use Rattle.edif_spelling_spec.proofs.EscapeLemmas.{escape_fault_more, value_more}
 use Rattle.edif_strings.proofs.strings.decode.Goals as goal
 
 regrouped : (t p e v : List ℕ) → ((t ++ p) ++ e) ++ v ≡ t ++ ((p ++ e) ++ v)

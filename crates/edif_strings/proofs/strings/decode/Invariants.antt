@@ -1,5 +1,5 @@
 use Rattle.std.proofs.Common.{◌≡◌, ◌++◌, ◌+◌, ◌≤◌, length}
-use Rattle.spelling_spec.specs.Strings.{segments, value, escape_fault}
+use Rattle.edif_spelling_spec.specs.Strings.{segments, value, escape_fault}
 use Rattle.edif_strings.proofs.strings.decode.Given as goal
 
 abbrev pub invariant-loop-text : goal.invariant-loop-text

@@ -1,8 +1,8 @@
 use Rattle.std.proofs.Common.{◌≡◌, ◌<◌, length, ◌∷◌, [], sym, ◌∙◌, ap, arith, append-nil, ◌++◌}
 use Rattle.std.proofs.lemmas.Bool.{eqb-true, eqb-false}
 use Rattle.std.proofs.lemmas.Option.{cond_some}
-use Rattle.spelling_spec.specs.Strings.{is_code}
-use Rattle.spelling_spec.proofs.EscapeLemmas.{are_codes_empty, codes_of_empty, are_codes_one, codes_of_one}
+use Rattle.edif_spelling_spec.specs.Strings.{is_code}
+use Rattle.edif_spelling_spec.proofs.EscapeLemmas.{are_codes_empty, codes_of_empty, are_codes_one, codes_of_one}
 use Rattle.edif_strings.proofs.CutLemmas.{cond_none}
 use Rattle.edif_strings.proofs.strings.push_code.Goals as goal
 

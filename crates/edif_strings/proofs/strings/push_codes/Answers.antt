@@ -1,8 +1,8 @@
 use Rattle.std.proofs.Common.{◌≡◌, ◌∷◌, [], sym, ◌∙◌, ap, append_assoc, ◌++◌}
 use Rattle.std.specs.Option.{option_map_or}
 use Rattle.std.specs.List.{slice_split}
-use Rattle.spelling_spec.specs.Bytes.{is_space}
-use Rattle.spelling_spec.specs.Strings.{codes_of, codes}
+use Rattle.edif_spelling_spec.specs.Bytes.{is_space}
+use Rattle.edif_spelling_spec.specs.Strings.{codes_of, codes}
 use Rattle.edif_strings.proofs.CutLemmas.{are_codes_more, are_codes_stop, codes_of_more}
 use Rattle.edif_strings.proofs.strings.push_codes.Goals as goal
 

@@ -1,5 +1,5 @@
 use Rattle.std.proofs.Common.{◌≡◌, ◌++◌, length}
-use Rattle.spelling_spec.specs.Strings.{is_escape, codes}
+use Rattle.edif_spelling_spec.specs.Strings.{is_escape, codes}
 use Rattle.edif_strings.proofs.strings.push_codes.Given as goal
 
 abbrev pub invariant-loop-rest : goal.invariant-loop-rest

@@ -2,8 +2,8 @@ use Rattle.std.proofs.Common.{◌≡◌, ◌+◌, ◌∙◌, ◌∷◌, ◌++◌
 use Rattle.std.proofs.lemmas.List.{take-append-drop, take_all}
 use Rattle.std.proofs.lemmas.Grind.{take_at_read}
 use Rattle.std.proofs.lemmas.Result.{err_from_is_err_and, IfOk-weaker, IfErr-weaker}
-use Rattle.spelling_spec.specs.declared.token.Token.{Token}
-use Rattle.spelling_spec.specs.TreeFaults.{tree_fault}
+use Rattle.edif_spelling_spec.specs.declared.token.Token.{Token}
+use Rattle.edif_spelling_spec.specs.TreeFaults.{tree_fault}
 use Rattle.edif_tree.specs.Making.{HasRead}
 use Rattle.edif_tree.specs.TreeError.{Names}
 use Rattle.edif_tree.proofs.ReadFaults.{is_file}

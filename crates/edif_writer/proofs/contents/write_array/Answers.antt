@@ -1,6 +1,6 @@
 use Rattle.std.proofs.Common.{◌≡◌, [], Some, suc, refl, ap, ◌∙◌}
 use Rattle.std.specs.Prelude.{unwrap_or}
-use Rattle.bus_spec.specs.Runs.{array_name, stem}
+use Rattle.netlist_bus_spec.specs.Runs.{array_name, stem}
 use Rattle.edif_spec.specs.Canonical.{layout, name_tree}
 use Rattle.edif_writer.proofs.SmallTexts.{array_text}
 use Rattle.netdb_outside.proofs.BufferedLemmas.{writes_then, writes_same}

@@ -1,4 +1,4 @@
-use Rattle.std.proofs.Common.{ap, sym, subst, length, map, length-drop, arith}
+use Rattle.std.proofs.Common.{Some, ◌∙◌, ap, sym, subst, length, map, length-drop, arith}
 use Rattle.std.specs.List.{All}
 use Rattle.std.proofs.lemmas.List.Elements.{All-drop}
 use Rattle.netlist_schema.specs.Types.{Net}
@@ -26,7 +26,7 @@ pub write_form-requires : goal.write_form-requires
 write_form-requires g c =
     let d = g.S.Shown.design c.args.design.now in
     let net = c.in-Some.net.now in
-    subst (λ (n : Net). All (IsAt d c.args.own.now c.args.contents.now.insts) n.ends) (sym (c.in-Some.ensures.item.3.1 net)) (c.loop-net.invariant.ends 0 net c.in-Some.ensures.item.3.0)
+    subst (λ (n : Net). All (IsAt d c.args.own.now c.args.contents.now.insts) n.ends) (sym (c.deref.ensures ∙ c.in-Some.ensures.item.3.1 net)) (c.loop-net.invariant.ends 0 net c.in-Some.ensures.item.3.0)
 
 pub loop-net-preserved : goal.loop-net-preserved
 loop-net-preserved g c =
@@ -41,7 +41,7 @@ loop-net-preserved g c =
     let P : Net → Type 0 = λ net. All (IsAt d own insts) net.ends in
     record {
       written = λ k page w. c.loop-net.invariant.written k page
-          (writes_same (first_line 5 tree ports left c.in-Some.net.now width c.in-Some.ensures.value c.width_from-width.ensures.width)
+          (writes_same (first_line 5 tree ports left c.deref.result.now width (ap Some c.deref.ensures ∙ c.in-Some.ensures.value) c.width_from-width.ensures.width)
           (writes_then c.put_line.ensures (writes_then (c.write_form.ensures 6) (writes_same (ap (λ ns. lined 5 (map tree (net_forms ports ns))) rest) w))));
       ends = subst (All P) (sym rest) (All-drop P width left c.loop-net.invariant.ends);
       most = omega (arith, ap length rest, length-drop width left, c.loop-net.invariant.most);

@@ -2,7 +2,7 @@ use Rattle.std.proofs.Common.{◌≡◌, ◌∷◌, None, Some, suc, map, get_or
 use Rattle.std.proofs.lemmas.List.{take_all}
 use Rattle.std.proofs.lemmas.Option.{get_or_from_slice_get, slice_get-get_or}
 use Rattle.std.proofs.lemmas.Simd.{map-map}
-use Rattle.spelling_spec.specs.Tree.{Bare}
+use Rattle.edif_spelling_spec.specs.Tree.{Bare}
 use Rattle.netlist_schema.specs.Types.{End}
 use Rattle.edif_spec.specs.Canonical.{layout, end_tree}
 use Rattle.edif_spec.specs.Nets.{Stretch, whole_of}

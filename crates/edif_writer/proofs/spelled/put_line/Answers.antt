@@ -1,7 +1,7 @@
-use Rattle.std.proofs.Common.{◌∷◌, ap}
-use Rattle.std.proofs.lemmas.List.{replicate-append-replicate}
-use Rattle.netdb_outside.proofs.BufferedLemmas.{writes_then, writes_same}
+use Rattle.std.proofs.Common.{◌≡◌, ◌∙◌, refl}
+use Rattle.netdb_outside.proofs.BufferedLemmas.{writes_same}
+use Rattle.edif_writer.proofs.Lines.{line_front}
 use Rattle.edif_writer.proofs.spelled.put_line.Goals as goal
 
-pub loop-preserved : goal.loop-preserved
-loop-preserved g c = writes_same (ap (λ v. 10 ∷ v) (replicate-append-replicate c.loop.counter 1 32)) (writes_then c.loop.invariant c.put-in-loop.ensures)
+pub returns-then-level-lt17 : goal.returns-then-level-lt17
+returns-then-level-lt17 g c = writes_same (line_front c.args.level c.if-level-lt17.true) c.put.ensures

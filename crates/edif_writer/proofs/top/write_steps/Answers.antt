@@ -1,6 +1,6 @@
 use Rattle.std.proofs.Common.{◌∷◌, suc, map, arith, ap, ◌∙◌}
 use Rattle.std.proofs.lemmas.List.{take_all}
-use Rattle.spelling_spec.specs.Tree.{word}
+use Rattle.edif_spelling_spec.specs.Tree.{word}
 use Rattle.edif_spec.specs.Canonical.{layout}
 use Rattle.edif_writer.specs.Lines.{spaced}
 use Rattle.edif_writer.proofs.FormTexts.{one_more}

@@ -1,5 +1,5 @@
 use Rattle.std.proofs.Common.{ℕ, map, take}
-use Rattle.spelling_spec.specs.Tree.{word}
+use Rattle.edif_spelling_spec.specs.Tree.{word}
 use Rattle.edif_writer.specs.Lines.{spaced}
 use Rattle.netdb_outside.specs.Buffered.{Writes}
 use Rattle.edif_writer.proofs.top.write_steps.Given as goal

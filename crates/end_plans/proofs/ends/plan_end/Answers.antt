@@ -9,4 +9,4 @@ returns c =
     let count = c.end_count.ensures in
     let few = c.if-end_count-ge-MOST_ENDS.false in
     end_planned c.args.contents.now c.args.at c.args.place c.index-as_slice-place.result c.in_ok-net.net (sym c.in_default.ensures.value) (omega arith) c.requires.within
-    (c.in_ok-net.ensures ∙ ap (net_with_end (Some c.args.at)) (c.index-as_slice-place.is ∙ ap (λ (nets : List Net). get_or nets c.args.place c.index-as_slice-place.result) c.as_slice-2.ensures))
+    (c.in_ok-net.ensures ∙ ap (net_with_end (Some c.args.at)) (c.deref-2.ensures ∙ c.index-as_slice-place.is ∙ ap (λ (nets : List Net). get_or nets c.args.place c.index-as_slice-place.result) c.as_slice-2.ensures))

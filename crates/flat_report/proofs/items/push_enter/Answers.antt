@@ -2,7 +2,7 @@ use Rattle.std.proofs.Common.{◌≡◌, ◌∙◌, [], ◌∷◌, ◌++◌, ap,
 use Rattle.std.specs.Prelude.{codes}
 use Rattle.std.proofs.lemmas.Result.{on_ok_weaker}
 use Rattle.edif_spec.specs.PropertyText.{property_text}
-use Rattle.report_spec.specs.Lines.{cell_text, lib_text, path_text}
+use Rattle.flat_lines_spec.specs.Lines.{cell_text, lib_text, path_text}
 use Rattle.flat_report.specs.Parts.{behind_blanks}
 use Rattle.walk_items.specs.Lent.{properties_of}
 use Rattle.flat_report.proofs.LineLemmas.{one_word, more_words}

@@ -4,7 +4,7 @@ use Rattle.std.specs.Fmt.{decimal}
 use Rattle.std.specs.Option.{option_map, option_map_or}
 use Rattle.std.proofs.lemmas.Result.{on_ok_weaker}
 use Rattle.netlist_schema.specs.Types.{Port}
-use Rattle.report_spec.specs.Lines.{net_words, path_text, port_text}
+use Rattle.flat_lines_spec.specs.Lines.{net_words, path_text, port_text}
 use Rattle.flat_report.specs.Parts.{behind_blanks, port_in}
 use Rattle.walk_items.specs.Lent.{net_of}
 use Rattle.flat_report.proofs.LineLemmas.{one_word, more_words}

@@ -1,5 +1,5 @@
 use Rattle.std.proofs.Common.{ap, sym, ◌∙◌}
-use Rattle.version_data.specs.Shot.{Shot}
+use Rattle.db_version.specs.Shot.{Shot}
 use Rattle.std.specs.Prelude.{Err}
 use Rattle.gen_rounds.proofs.counting.walk_pinned.Goals as goal
 

@@ -3,9 +3,9 @@ use Rattle.std.specs.Prelude.{map}
 use Rattle.std.specs.List.{All}
 use Rattle.std.proofs.lemmas.Result.{IfOk-weaker}
 use Rattle.net_classes.specs.Facts.{Facts, facts_of}
-use Rattle.joined_numbers.specs.Joined.{AreLeastJoined, IsWithin}
+use Rattle.flat_joined_numbers.specs.Joined.{AreLeastJoined, IsWithin}
 use Rattle.net_classes.proofs.InsideLemmas.{pairs_within, firsts_inside}
-use Rattle.joined_numbers.proofs.JoinedLemmas.{least_within}
+use Rattle.flat_joined_numbers.proofs.JoinedLemmas.{least_within}
 use Rattle.net_classes.proofs.known.list_firsts.Goals as goal
 
 pub least_joined-requires : goal.least_joined-requires

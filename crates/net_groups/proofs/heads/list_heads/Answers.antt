@@ -1,9 +1,9 @@
 use Rattle.std.proofs.Common.{◌≡◌, ◌≤◌, ◌+◌, List, length, Some, None, sym, ap, subst, ◌∙◌, arith}
 use Rattle.std.specs.BTreeMap.{get}
 use Rattle.std.specs.List.{All, filter_map}
-use Rattle.joined_numbers.specs.Joined.{AreLeastJoined, IsWithin}
-use Rattle.joined_numbers.specs.declared.joined.Pair.{Pair}
-use Rattle.joined_numbers.proofs.JoinedLemmas.{least_within}
+use Rattle.flat_joined_numbers.specs.Joined.{AreLeastJoined, IsWithin}
+use Rattle.flat_joined_numbers.specs.declared.joined.Pair.{Pair}
+use Rattle.flat_joined_numbers.proofs.JoinedLemmas.{least_within}
 use Rattle.net_groups.specs.Bits.{bits_from}
 use Rattle.net_groups.specs.Links.{HasNets, bit_cmp, link}
 use Rattle.net_groups.proofs.HeadLemmas.{heads_are, links_fit, no_inst, pairs_within}

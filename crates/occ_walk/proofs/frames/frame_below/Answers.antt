@@ -12,13 +12,13 @@ use Rattle.walk_items.specs.declared.place.Frame.{Frame}
 use Rattle.occ_walk.proofs.BelowLemmas.{firsts_in, frame_is_below, joints_are_named, joints_in_order, next_is_small, path_is_short}
 use Rattle.occ_walk.proofs.frames.frame_below.Goals as goal
 
-pub joints_on-joints-requires-clause-order : goal.joints_on-joints-requires-clause-order
-joints_on-joints-requires-clause-order g c =
+pub joints_on-run-requires-clause-order : goal.joints_on-run-requires-clause-order
+joints_on-run-requires-clause-order g c =
     subst (AllPairs IsNotBehind) (sym c.joints.ensures)
     (joints_in_order (g.S.Shown.design c.args.ground.now.design) c.args.ground.now.classes c.args.ground.now.notes c.requires.ground c.args.path.now c.args.here.now c.requires.frame)
 
-pub joints_on-joints-requires-clause-room : goal.joints_on-joints-requires-clause-room
-joints_on-joints-requires-clause-room g c =
+pub joints_on-run-requires-clause-room : goal.joints_on-run-requires-clause-room
+joints_on-run-requires-clause-room g c =
     let small = next_is_small (g.S.Shown.design c.args.ground.now.design) c.requires.ground.valid c.args.here.now.cell c.args.step c.requires.inst.0 c.requires.inst.1 in
     omega (arith, small)
 
@@ -38,9 +38,9 @@ pub names_below-requires : goal.names_below-requires
 names_below-requires g c =
     let d = g.S.Shown.design c.args.ground.now.design in
     let facts = c.args.ground.now.classes in
-    let on : List Joint = c.joints_on-joints.result.now in
+    let on : List Joint = c.joints_on-run.result.joints.now in
     let here : Frame = c.args.here.now in
-    let are = subst (λ js. (j : Joint) → Contains on j ↔ (Contains js j × (j.inst ≡ c.args.step))) c.joints.ensures c.joints_on-joints.ensures in
+    let are = subst (λ js. (j : Joint) → Contains on j ↔ (Contains js j × (j.inst ≡ c.args.step))) c.joints.ensures c.joints_on-run.ensures in
     let named = joints_are_named d facts c.args.ground.now.notes c.requires.ground c.args.path.now here c.requires.frame c.args.step on are in
     let with_names = subst (λ (v : List Name). All (λ (j : Joint). IsSome (name_in v (firsts_in facts here.cell) j.net)) on) (sym c.as_slice.ensures.value) named in
     subst (λ v. All (λ (j : Joint). IsSome (name_in c.as_slice.result.now v j.net)) on) (sym c.firsts.ensures) with_names
@@ -49,14 +49,14 @@ pub returns-clause-frame : goal.returns-clause-frame
 returns-clause-frame g c =
     let d = g.S.Shown.design c.args.ground.now.design in
     let facts = c.args.ground.now.classes in
-    let on : List Joint = c.joints_on-joints.result.now in
+    let on : List Joint = c.joints_on-run.result.joints.now in
     let here : Frame = c.args.here.now in
     let inst = c.requires.inst in
-    let are = subst (λ js. (j : Joint) → Contains on j ↔ (Contains js j × (j.inst ≡ c.args.step))) c.joints.ensures c.joints_on-joints.ensures in
+    let are = subst (λ js. (j : Joint) → Contains on j ↔ (Contains js j × (j.inst ≡ c.args.step))) c.joints.ensures c.joints_on-run.ensures in
     let names : List Name = c.in_ok-names.names.items in
     let deep : ℕ = length c.args.path.now + 1 in
     let with_names = subst (λ (v : List Name). AreHanded (first_of facts c.args.of) (name_in v c.firsts.result.now) deep on (length (nets_at d c.args.of)) names) c.as_slice.ensures.value c.in_ok-names.ensures in
     let with_firsts = subst (λ v. AreHanded (first_of facts c.args.of) (name_in here.names.items v) deep on (length (nets_at d c.args.of)) names) c.firsts.ensures with_names in
     let of_inst = subst (λ (v : CellId). AreHanded (first_of facts v) (name_in here.names.items (firsts_in facts here.cell)) deep on (length (nets_at d v)) names) (sym inst.2) with_firsts in
     frame_is_below d facts c.args.ground.now.notes c.requires.ground c.args.path.now here c.requires.frame inst.0 c.args.step inst.1 on are deep
-    (record { cell = c.args.of; next = 0; names = c.in_ok-names.names }) (sym inst.2) (omega arith) of_inst
+    (record { cell = c.args.of; next = 0; from = c.joints_on-run.result.from; upto = c.joints_on-run.result.upto; near = 0; names = c.in_ok-names.names }) (sym inst.2) (omega arith) of_inst

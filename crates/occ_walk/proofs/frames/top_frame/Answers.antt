@@ -3,5 +3,5 @@ use Rattle.occ_walk.proofs.frames.top_frame.Goals as goal
 
 pub returns-clause-frame : goal.returns-clause-frame
 returns-clause-frame g c =
-    top_is_frame (g.S.Shown.design c.args.ground.now.design) c.requires.ground.valid (record { cell = c.args.top; next = 0; names = c.in_ok-top_names.field-0 })
+    top_is_frame (g.S.Shown.design c.args.ground.now.design) c.requires.ground.valid (record { cell = c.args.top; next = 0; from = 0; upto = 0; near = 0; names = c.in_ok-top_names.field-0 })
     c.requires.is_top c.in_ok-top_names.ensures

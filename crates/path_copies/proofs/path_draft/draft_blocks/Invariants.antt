@@ -1,6 +1,6 @@
 use Rattle.std.proofs.Common.{[], take}
 use Rattle.netlist_schema.specs.Types.{CellId}
-use Rattle.cells_model.specs.State.{HasReadSome}
+use Rattle.edit_cells.specs.State.{HasReadSome}
 use Rattle.cell_copies.specs.Drafts.{IsDraft}
 use Rattle.path_copies.specs.Along.{chain}
 use Rattle.path_copies.specs.Plans.{all_copied}

@@ -1,6 +1,6 @@
 use Rattle.std.proofs.Common.{[], ap, ◌∙◌, arith}
-use Rattle.edit_core.specs.Rule.{refuse}
-use Rattle.edit_core.specs.declared.reply.Reply.TheVariants.{TooMany}
+use Rattle.edit_rules_spec.specs.Rule.{refuse}
+use Rattle.edit_rules_spec.specs.declared.reply.Reply.TheVariants.{TooMany}
 use Rattle.cell_copies.proofs.DraftSeats.{new_of}
 use Rattle.cell_copies.specs.Seats.{copies_of, seats}
 use Rattle.path_copies.proofs.Chains.{counted}

@@ -1,4 +1,4 @@
-use Rattle.std.proofs.Common.{rules, ◌≡◌, ◌+◌, ◌∷◌, ◌++◌, [], drop, get_or, sym, ap, subst, ◌∙◌, Some, None, slice_get}
+use Rattle.std.proofs.Common.{rules, ◌≡◌, ◌+◌, ◌∷◌, ◌++◌, [], drop, sym, ap, subst, ◌∙◌, Some, None, slice_get}
 use Rattle.std.proofs.lemmas.List.{drop_all, drop_more}
 use Rattle.std.proofs.lemmas.Option.{get_or_from_slice_get, slice_get_within}
 use Rattle.netlist_schema.specs.Hierarchy.{insts_at}
@@ -24,13 +24,6 @@ bounds-insts-place g c =
     subst (λ o. IsNameFound (insts_at d c.loop-name.cell) c.name-item.result o) c.in-Some.is c.in_ok-place.ensures.found in
     slice_get_within c.insts_at-insts.result.now c.in-Some.place found.0 (ap (λ v. slice_get v c.in-Some.place) c.insts_at-insts.ensures.value ∙ found.1)
 
-pub bounds-insts-place-in_ok-push : goal.bounds-insts-place-in_ok-push
-bounds-insts-place-in_ok-push g c =
-    let d = g.S.Shown.design c.args.design.now in
-    let found : IsNameFound (insts_at d c.loop-name.cell) c.name-item.result (Some c.in-Some.place) =
-    subst (λ o. IsNameFound (insts_at d c.loop-name.cell) c.name-item.result o) c.in-Some.is c.in_ok-place.ensures.found in
-    slice_get_within c.insts_at-insts.result.now c.in-Some.place found.0 (ap (λ v. slice_get v c.in-Some.place) c.insts_at-insts.ensures.value ∙ found.1)
-
 pub loop-name-preserved : goal.loop-name-preserved
 loop-name-preserved g c = record {
   named = c.find.ensures.named;
@@ -46,9 +39,9 @@ loop-name-preserved g c = record {
       subst (λ o. IsNameFound (insts_at d c.loop-name.cell) c.name-item.result o) c.in-Some.is c.in_ok-place.ensures.found in
       let next = way_more d valid c.args.top c.loop-name.cell c.args.note.now.path c.name-item.result (drop (i + 1) names) c.loop-name.steps.items place found.0 found.1 found.2 on in
       let at : slice_get insts place ≡ Some found.0 = ap (λ v. slice_get v place) c.insts_at-insts.ensures.value ∙ found.1 in
-      let inst : get_or insts place c.index-insts-place.result ≡ found.0 = get_or_from_slice_get insts place found.0 c.index-insts-place.result at in
+      let inst : c.deref.result.now ≡ found.0 = c.deref.ensures ∙ (c.index-insts-place.is ∙ get_or_from_slice_get insts place found.0 c.index-insts-place.result at) in
       let pushed : c.push.new.self.items ≡ c.loop-name.steps.items ++ place ∷ [] = search rules in
-      subst (λ v. IsOnWay d valid c.args.top (get_or insts place c.index-insts-place.result).of c.args.note.now.path (drop (i + 1) names) v) (sym pushed)
+      subst (λ v. IsOnWay d valid c.args.top c.deref.result.now.of c.args.note.now.path (drop (i + 1) names) v) (sym pushed)
       (subst (λ (v : Inst). IsOnWay d valid c.args.top v.of c.args.note.now.path (drop (i + 1) names) (c.loop-name.steps.items ++ place ∷ [])) (sym inst) next);
 }
 

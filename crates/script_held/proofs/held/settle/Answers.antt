@@ -1,5 +1,5 @@
 use Rattle.std.proofs.Common.{sym, subst}
-use Rattle.session_spec.specs.Session.{last_release}
+use Rattle.script_spec.specs.Session.{last_release}
 use Rattle.run_spec.specs.Calls.{Makes}
 use Rattle.script_held.specs.Holding.{IsHeldBy, held_of}
 use Rattle.script_held.specs.declared.held.Held.{Held}

@@ -1,6 +1,6 @@
 use Rattle.std.proofs.Common.{◌∙◌, [], ◌∷◌, ◌++◌, ap, append_assoc}
 use Rattle.std.specs.Fmt.{decimal}
-use Rattle.report_spec.specs.Lines.{spaced}
+use Rattle.flat_lines_spec.specs.Lines.{spaced}
 use Rattle.script_texts.proofs.LineLemmas.{after_word}
 use Rattle.script_lang.specs.Parts.{event_words}
 use Rattle.script_lang.proofs.events.push_line.Goals as goal

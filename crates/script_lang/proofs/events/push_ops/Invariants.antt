@@ -1,6 +1,6 @@
 use Rattle.std.proofs.Common.{◌≡◌, ◌++◌, drop}
 use Rattle.edif_names.specs.Parts.{Grows}
-use Rattle.session_spec.specs.Texts.{op_lines}
+use Rattle.script_spec.specs.Texts.{op_lines}
 use Rattle.script_lang.proofs.events.push_ops.Given as goal
 
 -- what was written and what is left to write, with the replies that are left, make the whole

@@ -2,7 +2,7 @@ use Rattle.std.proofs.Common.{◌≡◌, [], ◌∷◌, ◌++◌}
 use Rattle.std.specs.Prelude.{codes}
 use Rattle.std.specs.Fmt.{decimal}
 use Rattle.std.proofs.lemmas.Result.{on_ok_weaker}
-use Rattle.session_spec.specs.Texts.{answer_words, call_words}
+use Rattle.script_spec.specs.Texts.{answer_words, call_words}
 use Rattle.script_texts.specs.Parts.{behind_blanks}
 use Rattle.script_texts.proofs.LineLemmas.{then}
 use Rattle.script_lang.proofs.events.push_words.Goals as goal

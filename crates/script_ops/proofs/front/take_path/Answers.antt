@@ -1,5 +1,5 @@
 use Rattle.std.proofs.Common.{List, ℕ, [], ◌∷◌, Bor}
-use Rattle.session_spec.specs.Lines.{path_piece}
+use Rattle.script_spec.specs.Lines.{path_piece}
 use Rattle.script_ops.specs.Front.{Lacks, Takes}
 use Rattle.script_words.specs.Reading.{lent}
 use Rattle.script_words.proofs.Answering.{hand_on}

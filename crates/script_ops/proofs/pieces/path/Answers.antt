@@ -1,7 +1,7 @@
 use Rattle.std.proofs.Common.{◌≡◌, ◌∙◌, List, ℕ, ap, eqb}
 use Rattle.std.specs.List.{slice_split}
-use Rattle.session_spec.specs.Lines.{path_piece}
-use Rattle.session_spec.specs.Pieces.{SpellsPiece}
+use Rattle.script_spec.specs.Lines.{path_piece}
+use Rattle.script_spec.specs.Pieces.{SpellsPiece}
 use Rattle.script_words.specs.Reading.{lent}
 use Rattle.script_words.proofs.Answering.{hand_on}
 use Rattle.script_ops.proofs.PieceLemmas.{no_path, path_read}

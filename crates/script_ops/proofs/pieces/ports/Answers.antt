@@ -1,7 +1,7 @@
 use Rattle.std.proofs.Common.{List, ℕ, [], map, Bor}
 use Rattle.edit_spec.specs.declared.ops.PortDecl.{PortDecl}
-use Rattle.session_spec.specs.Lines.{port_piece}
-use Rattle.session_spec.specs.Pieces.{SpellPieces}
+use Rattle.script_spec.specs.Lines.{port_piece}
+use Rattle.script_spec.specs.Pieces.{SpellPieces}
 use Rattle.script_words.specs.Reading.{lent}
 use Rattle.script_words.proofs.Answering.{hand_on}
 use Rattle.script_ops.proofs.PieceLemmas.{all_made, leaves_more, makes_more, no_port}

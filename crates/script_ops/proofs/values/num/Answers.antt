@@ -1,6 +1,6 @@
 use Rattle.std.proofs.Common.{◌∙◌, sym}
 use Rattle.netlist_schema.specs.declared.property.Num.{Num}
-use Rattle.session_spec.specs.Pieces.{SpellPieces}
+use Rattle.script_spec.specs.Pieces.{SpellPieces}
 use Rattle.script_words.specs.Reading.{lent}
 use Rattle.script_ops.specs.Values.{num_rest}
 use Rattle.script_words.proofs.Answering.{hand_on}

@@ -1,6 +1,6 @@
 use Rattle.netlist_schema.specs.Types.{Value}
-use Rattle.session_spec.specs.Lines.{value_pieces}
-use Rattle.session_spec.specs.Pieces.{SpellPieces}
+use Rattle.script_spec.specs.Lines.{value_pieces}
+use Rattle.script_spec.specs.Pieces.{SpellPieces}
 use Rattle.script_words.specs.Reading.{lent}
 use Rattle.script_words.proofs.Answering.{hand_on}
 use Rattle.script_ops.proofs.ValueLemmas.{no_kind, value_read}

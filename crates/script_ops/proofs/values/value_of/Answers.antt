@@ -1,6 +1,6 @@
 use Rattle.std.proofs.Common.{◌≡◌}
 use Rattle.netlist_schema.specs.Types.{Value}
-use Rattle.session_spec.specs.Pieces.{SpellPieces}
+use Rattle.script_spec.specs.Pieces.{SpellPieces}
 use Rattle.script_words.specs.Reading.{lent}
 use Rattle.script_ops.specs.Values.{kind_of, value_rest}
 use Rattle.script_words.proofs.Answering.{hand_on}

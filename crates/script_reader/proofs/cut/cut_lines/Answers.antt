@@ -1,7 +1,7 @@
 use Rattle.std.proofs.Common.{◌≡◌, ◌∙◌, ℕ, List, [], ◌∷◌, ◌++◌, map, ap, sym, Bor}
 use Rattle.std.specs.List.{slice_split}
 use Rattle.std.proofs.lemmas.List.{map-append}
-use Rattle.session_spec.specs.ScriptText.{is_line_feed, lines_of_parts, without_return}
+use Rattle.script_spec.specs.ScriptText.{is_line_feed, lines_of_parts, without_return}
 use Rattle.script_reader.specs.Parts.{last_line}
 use Rattle.script_reader.proofs.CutLemmas.{lines_pushed}
 use Rattle.script_reader.proofs.cut.cut_lines.Goals as goal

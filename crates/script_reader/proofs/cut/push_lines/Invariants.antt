@@ -1,5 +1,5 @@
 use Rattle.std.proofs.Common.{◌≡◌, ◌++◌, drop, map}
-use Rattle.session_spec.specs.ScriptText.{without_return}
+use Rattle.script_spec.specs.ScriptText.{without_return}
 use Rattle.script_reader.proofs.cut.push_lines.Given as goal
 
 -- the lines so far and those of the parts that are left make the whole

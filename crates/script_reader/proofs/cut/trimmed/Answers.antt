@@ -1,6 +1,6 @@
 use Rattle.std.proofs.Common.{rules, ◌≡◌, ◌∙◌, true, false, [], ◌∷◌, ◌++◌, ap, sym}
-use Rattle.session_spec.specs.ScriptText.{trimmed}
-use Rattle.session_spec.proofs.Words.{trimmed_end}
+use Rattle.script_spec.specs.ScriptText.{trimmed}
+use Rattle.script_spec.proofs.Words.{trimmed_end}
 use Rattle.script_reader.proofs.CutLemmas.{blank_end}
 use Rattle.script_reader.proofs.cut.trimmed.Goals as goal
 

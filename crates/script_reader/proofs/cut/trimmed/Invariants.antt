@@ -1,5 +1,5 @@
 use Rattle.std.proofs.Common.{◌≡◌, length}
-use Rattle.session_spec.specs.ScriptText.{trimmed}
+use Rattle.script_spec.specs.ScriptText.{trimmed}
 use Rattle.script_reader.proofs.cut.trimmed.Given as goal
 
 -- what is left has the same bytes but blanks at its end

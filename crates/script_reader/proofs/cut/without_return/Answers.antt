@@ -1,5 +1,5 @@
 use Rattle.std.proofs.Common.{◌≡◌, ◌∙◌, [], ◌∷◌, ◌++◌, ap, sym}
-use Rattle.session_spec.specs.ScriptText.{without_return}
+use Rattle.script_spec.specs.ScriptText.{without_return}
 use Rattle.script_reader.proofs.CutLemmas.{dropped, is_13, not_13, stays}
 use Rattle.script_reader.proofs.cut.without_return.Goals as goal
 

@@ -1,6 +1,6 @@
 use Rattle.std.proofs.Common.{◌∙◌, ◌++◌, not, ap, sym}
 use Rattle.std.specs.Prelude.{filter}
-use Rattle.spelling_spec.specs.Names.{is_empty}
+use Rattle.edif_spelling_spec.specs.Names.{is_empty}
 use Rattle.script_words.specs.Reading.{lent}
 use Rattle.script_reader.proofs.WordLemmas.{words_without}
 use Rattle.script_reader.proofs.line.line_words.Goals as goal

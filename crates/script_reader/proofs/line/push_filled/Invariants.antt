@@ -1,6 +1,6 @@
 use Rattle.std.proofs.Common.{◌≡◌, ◌++◌, drop, not}
 use Rattle.std.specs.Prelude.{filter}
-use Rattle.spelling_spec.specs.Names.{is_empty}
+use Rattle.edif_spelling_spec.specs.Names.{is_empty}
 use Rattle.script_words.specs.Reading.{lent}
 use Rattle.script_reader.proofs.line.push_filled.Given as goal
 

@@ -2,8 +2,8 @@ use Rattle.std.proofs.Common.{◌≡◌, ◌∙◌, ◌-◌, ℕ, List, [], ◌�
 use Rattle.std.specs.Prelude.{filter}
 use Rattle.std.specs.List.{slice_split}
 use Rattle.std.proofs.lemmas.List.{map-append, take_rest}
-use Rattle.spelling_spec.specs.Names.{is_empty}
-use Rattle.session_spec.specs.ScriptText.{is_blank, trimmed}
+use Rattle.edif_spelling_spec.specs.Names.{is_empty}
+use Rattle.script_spec.specs.ScriptText.{is_blank, trimmed}
 use Rattle.script_words.specs.Reading.{lent}
 use Rattle.script_reader.proofs.WordLemmas.{last_is_short, words_to_quote}
 use Rattle.script_reader.proofs.line.words_to_quote.Goals as goal

@@ -1,6 +1,6 @@
 use Rattle.std.proofs.Common.{◌≡◌, ◌∙◌, ℕ, List, ap, arith, length, subst, sym}
-use Rattle.session_spec.specs.ScriptText.{IsFirstBad, IsScript, Parts}
-use Rattle.session_spec.specs.declared.script.ScriptLine.{ScriptLine}
+use Rattle.script_spec.specs.ScriptText.{IsFirstBad, IsScript, Parts}
+use Rattle.script_spec.specs.declared.script.ScriptLine.{ScriptLine}
 use Rattle.script_words.specs.Reading.{lent}
 use Rattle.script_reader.specs.declared.script.ScriptError.{ScriptError}
 use Rattle.script_reader.specs.declared.script.ScriptError.TheVariants.{BadLine}

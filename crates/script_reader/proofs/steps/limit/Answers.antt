@@ -1,6 +1,6 @@
 use Rattle.std.proofs.Common.{◌∙◌, ℕ, sym}
 use Rattle.std.specs.Prelude.{Option}
-use Rattle.session_spec.specs.Pieces.{SpellPieces}
+use Rattle.script_spec.specs.Pieces.{SpellPieces}
 use Rattle.script_words.specs.Reading.{lent}
 use Rattle.script_reader.specs.Steps.{limit_pieces}
 use Rattle.script_words.proofs.Answering.{hand_on}

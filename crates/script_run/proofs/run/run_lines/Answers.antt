@@ -1,6 +1,6 @@
 use Rattle.std.proofs.Common.{◌+◌, ap, drop}
 use Rattle.std.proofs.lemmas.List.{drop_all}
-use Rattle.session_spec.specs.ScriptText.{steps_of}
+use Rattle.script_spec.specs.ScriptText.{steps_of}
 use Rattle.script_run.specs.Coming.{step_at}
 use Rattle.script_run.proofs.Standing.{walks_here}
 use Rattle.script_run.proofs.Whole.{at_first, ends_at, goes_at, may_stand, next_line, stops_at}

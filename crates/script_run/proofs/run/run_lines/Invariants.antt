@@ -1,5 +1,5 @@
 use Rattle.std.proofs.Common.{drop}
-use Rattle.session_spec.specs.ScriptText.{steps_of}
+use Rattle.script_spec.specs.ScriptText.{steps_of}
 use Rattle.script_run.proofs.Whole.{IsAt}
 use Rattle.script_run.proofs.run.run_lines.Given as goal
 

@@ -1,7 +1,7 @@
 use Rattle.std.proofs.Common.{List, sym, subst, ◌∙◌, ◌∷◌, []}
-use Rattle.session_spec.specs.Headline.{CanWalk}
-use Rattle.session_spec.specs.ScriptText.{ArePlaced, Free, steps_of}
-use Rattle.session_spec.specs.declared.script.ScriptLine.{ScriptLine}
+use Rattle.script_spec.specs.Headline.{CanWalk}
+use Rattle.script_spec.specs.ScriptText.{ArePlaced, Free, steps_of}
+use Rattle.script_spec.specs.declared.script.ScriptLine.{ScriptLine}
 use Rattle.db_share.proofs.Opened.{goes_on_twice}
 use Rattle.script_run.proofs.Whole.{ends_held, has_run, is_broken_off}
 use Rattle.script_run.proofs.run.run_script.Goals as goal

@@ -1,6 +1,6 @@
 use Rattle.std.proofs.Common.{◌≡◌, ◌++◌, length}
 use Rattle.edif_names.specs.Parts.{Grows}
-use Rattle.report_spec.specs.Lines.{item_lines}
+use Rattle.flat_lines_spec.specs.Lines.{item_lines}
 use Rattle.script_say.proofs.walks.say_all.Given as goal
 
 -- what was said and what is left to say are the whole

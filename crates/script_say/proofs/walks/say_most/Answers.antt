@@ -1,5 +1,5 @@
 use Rattle.std.proofs.Common.{◌++◌, take}
-use Rattle.report_spec.specs.Lines.{item_lines}
+use Rattle.flat_lines_spec.specs.Lines.{item_lines}
 use Rattle.script_say.proofs.WalkLines.{grows_on, one_counted, one_more_within}
 use Rattle.script_say.proofs.walks.say_most.Goals as goal
 

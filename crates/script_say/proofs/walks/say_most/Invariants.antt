@@ -1,6 +1,6 @@
 use Rattle.std.proofs.Common.{◌≡◌, ◌+◌, ◌-◌, ◌++◌, length, take}
 use Rattle.edif_names.specs.Parts.{Grows}
-use Rattle.report_spec.specs.Lines.{item_lines}
+use Rattle.flat_lines_spec.specs.Lines.{item_lines}
 use Rattle.script_say.proofs.walks.say_most.Given as goal
 
 -- what was said and what is left to say within the limit are the whole, and so many items were said

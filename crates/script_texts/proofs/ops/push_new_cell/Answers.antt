@@ -1,8 +1,8 @@
 use Rattle.std.proofs.Common.{◌≡◌, ◌∙◌, [], ◌∷◌, ◌++◌, ap, map}
 use Rattle.std.specs.Prelude.{codes}
 use Rattle.std.proofs.lemmas.Result.{on_ok_weaker}
-use Rattle.session_spec.specs.Lines.{leaf_word, port_piece}
-use Rattle.session_spec.specs.Pieces.{piece_text}
+use Rattle.script_spec.specs.Lines.{leaf_word, port_piece}
+use Rattle.script_spec.specs.Pieces.{piece_text}
 use Rattle.script_texts.specs.Parts.{behind_blanks}
 use Rattle.script_texts.proofs.LineLemmas.{then}
 use Rattle.script_texts.proofs.ops.push_new_cell.Goals as goal

@@ -1,6 +1,6 @@
 use Rattle.std.proofs.Common.{◌≡◌, ◌++◌, drop, map}
 use Rattle.edif_names.specs.Parts.{Grows}
-use Rattle.session_spec.specs.Lines.{port_piece}
+use Rattle.script_spec.specs.Lines.{port_piece}
 use Rattle.script_texts.specs.Parts.{behind_pieces}
 use Rattle.script_texts.proofs.ops.push_ports.Given as goal
 

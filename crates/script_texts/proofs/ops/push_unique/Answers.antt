@@ -1,8 +1,8 @@
 use Rattle.std.proofs.Common.{rules, OnOk, ◌≡◌, [], ◌∷◌, ◌++◌}
 use Rattle.std.specs.Prelude.{codes}
 use Rattle.std.proofs.lemmas.Result.{on_ok_weaker}
-use Rattle.session_spec.specs.Lines.{path_piece}
-use Rattle.session_spec.specs.Pieces.{piece_text}
+use Rattle.script_spec.specs.Lines.{path_piece}
+use Rattle.script_spec.specs.Pieces.{piece_text}
 use Rattle.script_texts.specs.Parts.{behind_blanks}
 use Rattle.script_texts.proofs.LineLemmas.{then}
 use Rattle.script_texts.proofs.ops.push_unique.Goals as goal

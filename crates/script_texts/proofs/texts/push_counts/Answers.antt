@@ -2,7 +2,7 @@ use Rattle.std.proofs.Common.{◌≡◌, [], ◌∷◌, ◌++◌}
 use Rattle.std.specs.Prelude.{codes}
 use Rattle.std.specs.Fmt.{decimal}
 use Rattle.std.proofs.lemmas.Result.{on_ok_weaker}
-use Rattle.session_spec.specs.Texts.{leaf_words}
+use Rattle.script_spec.specs.Texts.{leaf_words}
 use Rattle.script_texts.specs.Parts.{behind_blanks}
 use Rattle.script_texts.proofs.LineLemmas.{after_word, then}
 use Rattle.script_texts.proofs.texts.push_counts.Goals as goal

@@ -1,6 +1,6 @@
 use Rattle.std.proofs.Common.{◌∙◌, ap}
-use Rattle.spelling_spec.specs.Words.{integer}
-use Rattle.spelling_spec.proofs.ParseLemmas.{integer_from_parse}
+use Rattle.edif_spelling_spec.specs.Words.{integer}
+use Rattle.edif_spelling_spec.proofs.ParseLemmas.{integer_from_parse}
 use Rattle.script_words.proofs.AtomLemmas.{integer_found, no_integer, none_of_utf8}
 use Rattle.script_words.proofs.atoms.find_integer.Goals as goal
 

@@ -1,7 +1,7 @@
 use Rattle.std.proofs.Common.{◌≡◌, ◌+◌, ◌-◌, length, nat_lt, None, Option, sym, ap, ◌∙◌}
-use Rattle.edit_core.specs.Rule.{refuse}
-use Rattle.edit_core.specs.declared.reply.Reply.{Reply}
-use Rattle.edit_core.specs.declared.reply.Reply.TheVariants.{TooMany}
+use Rattle.edit_rules_spec.specs.Rule.{refuse}
+use Rattle.edit_rules_spec.specs.declared.reply.Reply.{Reply}
+use Rattle.edit_rules_spec.specs.declared.reply.Reply.TheVariants.{TooMany}
 use Rattle.netlist_schema.specs.Types.{Inst}
 use Rattle.net_groups.specs.Heads.{site}
 use Rattle.ungroup_plans.proofs.Counts.{insts_over, nets_over, none_over}
@@ -22,7 +22,7 @@ returns-in-Some-over_nets c = λ inst at.
 pub returns : goal.returns
 returns c = λ inst at.
     let s = site c.args.around.now c.args.place inst c.args.within.now in
-    let item = sym c.index-outer-place.is ∙ item_is c.as_slice-outer.result.now c.args.around.now.insts c.args.place c.index-outer-place.result inst c.as_slice-outer.ensures c.index-outer-place.is at in
+    let item = c.deref.ensures ∙ item_is c.as_slice-outer.result.now c.args.around.now.insts c.args.place c.index-outer-place.result inst c.as_slice-outer.ensures c.index-outer-place.is at in
     let insts = c.in_ok-insts.ensures inst at in
     let nets = c.in_ok-nets.ensures s (sym c.as_slice-2.ensures) (ap (λ (v : Inst). v.name) (sym item)) (c.in_ok-grouped.ensures inst) in (
       none_over c.args.around.now c.args.place inst c.args.within.now c.requires.place c.in_ok-grouped.grouped (c.in_ok-grouped.ensures inst)

@@ -1,4 +1,4 @@
-use Rattle.cells_model.specs.State.{HasReadSome}
+use Rattle.edit_cells.specs.State.{HasReadSome}
 use Rattle.uniquify_op.proofs.Walking.{IsUnderWay}
 use Rattle.uniquify_op.proofs.blocks.draft_blocks.Given as goal
 

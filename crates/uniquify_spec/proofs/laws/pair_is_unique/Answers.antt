@@ -1,6 +1,6 @@
 use Rattle.std.proofs.Common.{refl}
 use Rattle.std.specs.Fmt.{digits}
-use Rattle.edit_core.specs.Paths.{most_cells}
+use Rattle.edit_rules_spec.specs.Paths.{most_cells}
 use Rattle.flat_spec.specs.Occurrences.{occurrences}
 use Rattle.flat_spec.specs.Representatives.{representative}
 use Rattle.flat_spec.specs.Trees.{tree}

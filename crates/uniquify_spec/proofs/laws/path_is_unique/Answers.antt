@@ -1,6 +1,6 @@
 use Rattle.std.proofs.Common.{refl}
 use Rattle.std.specs.Fmt.{digits}
-use Rattle.edit_core.specs.Paths.{most_cells}
+use Rattle.edit_rules_spec.specs.Paths.{most_cells}
 use Rattle.uniquify_spec.specs.Blocks.{trees_below}
 use Rattle.uniquify_spec.proofs.laws.path_is_unique.Goals as goal
 

@@ -25,7 +25,8 @@ returns-in-Some g c =
     let here = subst (λ p. Reaches d (top_of d).cell p c.args.place.now.here.cell) at.0 c.requires.here.reached in
     let inst = last_inst d (top_of d).cell parent.frame.now.cell c.args.place.now.here.cell parent.path.now parent.step at.1.reached here in
     let there : slice_get c.insts_at-insts.result.now parent.step ≡ Some inst.0 = ap (λ v. slice_get v parent.step) c.insts_at-insts.ensures.value ∙ inst.1 in
-    let found = get_or_from_slice_get c.insts_at-insts.result.now parent.step inst.0 c.index-insts-parent.result there in
+    let found : c.deref.result.now ≡ inst.0 =
+    c.deref.ensures ∙ (c.index-insts-parent.is ∙ get_or_from_slice_get c.insts_at-insts.result.now parent.step inst.0 c.index-insts-parent.result there) in
     c.as_slice.ensures
     ∙ ap (λ (v : Inst). v.properties) found
     ∙ sym (base_of_inst d (top_of d) parent.path.now parent.frame.now.cell parent.step inst.0 at.1.reached inst.1)

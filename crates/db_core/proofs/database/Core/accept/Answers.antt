@@ -3,13 +3,13 @@ use Rattle.netlist_schema.specs.Design.{Design}
 use Rattle.netlist_schema.specs.Types.{Object}
 use Rattle.edit_spec.specs.Needs.{Reads, Written}
 use Rattle.edit_spec.specs.Frame.{IsReplayed}
-use Rattle.edit_core.specs.Objects.{AgreesOn, Grown, IsClosed}
+use Rattle.edit_rules_spec.specs.Objects.{AgreesOn, Grown, IsClosed}
 use Rattle.edit_spec.specs.Step.{run}
 use Rattle.edit_spec.specs.declared.ops.Op.{Op}
-use Rattle.edit_core.specs.declared.reply.Reply.{Reply}
-use Rattle.edit_core.proofs.Closed.{valid_is_closed}
+use Rattle.edit_rules_spec.specs.declared.reply.Reply.{Reply}
+use Rattle.edit_rules_spec.proofs.Closed.{valid_is_closed}
 use Rattle.edit_tx.specs.Facts.{PinFacts}
-use Rattle.version_data.specs.Shot.{Shot}
+use Rattle.db_version.specs.Shot.{Shot}
 use Rattle.conflict_check.specs.Commits.{IsMarked}
 use Rattle.history_spec.specs.declared.event.Event.{Event}
 use Rattle.history_spec.specs.declared.event.Call.TheVariants.{Commit}

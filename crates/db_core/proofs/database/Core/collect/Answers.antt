@@ -3,7 +3,7 @@ use Rattle.std.specs.List.{list_any}
 use Rattle.std.proofs.lemmas.List.{length-map}
 use Rattle.std.proofs.lemmas.List.Filters.{length-filter_both}
 use Rattle.pin_registry.specs.Registry.{LivePin as HeldPin}
-use Rattle.version_data.specs.Shot.{Shot}
+use Rattle.db_version.specs.Shot.{Shot}
 use Rattle.history_spec.specs.declared.event.Event.{Event}
 use Rattle.history_spec.specs.declared.event.Call.TheVariants.{Collect}
 use Rattle.history_spec.specs.declared.event.Answer.TheVariants.{Collected}

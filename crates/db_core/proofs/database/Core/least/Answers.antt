@@ -1,5 +1,5 @@
 use Rattle.std.proofs.Common.{◌≡◌, List, map, ap, sym, subst, ◌∙◌, ℕ, Option, unwrap_or, option_map, slice_get}
-use Rattle.version_data.specs.Shot.{Shot}
+use Rattle.db_version.specs.Shot.{Shot}
 use Rattle.history_spec.specs.Answers.{IsLeastKept}
 use Rattle.history_spec.specs.State.{State, head}
 use Rattle.history_spec.proofs.Sound.{is_sound}

@@ -1,5 +1,5 @@
 use Rattle.std.proofs.Common.{◌++◌, [], ◌∷◌, List, ap, ◌∙◌}
-use Rattle.version_data.specs.Shot.{Shot}
+use Rattle.db_version.specs.Shot.{Shot}
 use Rattle.db_core.proofs.Opening.{fresh_core}
 use Rattle.db_core.proofs.database.Core.new.Goals as goal
 

@@ -1,6 +1,6 @@
 use Rattle.std.proofs.Common.{◌<◌, List, sym, ◌∙◌, subst}
 use Rattle.std.specs.List.{AllPairs}
-use Rattle.version_data.specs.Shot.{Shot}
+use Rattle.db_version.specs.Shot.{Shot}
 use Rattle.history_spec.proofs.Sound.{is_sound}
 use Rattle.db_core.specs.Story.{Story, state}
 use Rattle.db_core.proofs.Shots.{FoundKept, found_kept, rising_shots}

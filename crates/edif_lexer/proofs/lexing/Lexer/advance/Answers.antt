@@ -3,7 +3,7 @@ use Rattle.std.proofs.lemmas.Result.{err_from_is_err_and}
 use Rattle.std.proofs.lemmas.List.{length-take-le}
 use Rattle.edif_lexer.specs.Reading.{Reading}
 use Rattle.edif_lexer.specs.Steps.{Anything, Continues}
-use Rattle.edif_lexer.proofs.StepLemmas.{continues_spaces, front_stops}
+use Rattle.edif_lexer.proofs.StepLemmas.{continues_spaces, front_stops, more_stops}
 use Rattle.edif_lexer.proofs.lexing.Lexer.advance.Goals as goal
 
 pub returns-then-passed-gt0-clause-read : goal.returns-then-passed-gt0-clause-read
@@ -18,3 +18,9 @@ returns-in_err-step-clause-read c =
     let next = c.in_err-step.ensures in
     let p = err_from_is_err_and c.from_residual-in_err-step.result c.from_residual-in_err-step.ensures.1 in
     (next.0, next.1, rw (p.1, p.2) (front_stops c.args.self.now c.args.rest.now (get_or c.args.rest.now 0 0) next.0 c.in_err-step.field-0.0 c.requires refl next.2))
+
+pub returns-in_err-word_before-clause-read : goal.returns-in_err-word_before-clause-read
+returns-in_err-word_before-clause-read c =
+    let next = c.in_err-word_before.ensures in
+    let p = err_from_is_err_and c.from_residual.result c.from_residual.ensures.1 in
+    (next.0, next.1, rw (p.1, p.2) (more_stops c.args.self.now c.args.rest.now c.whole-word.result next.0 c.in_err-word_before.field-0.0 (c.whole-word.ensures.within c.if-word-gt0.true) next.2))

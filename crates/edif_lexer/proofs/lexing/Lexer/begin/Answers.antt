@@ -1,5 +1,5 @@
 use Rattle.std.proofs.Common.{◌≡◌, ◌∷◌, ◌++◌, [], arith, sym, ap, ◌∙◌, eqb, false, append-nil}
-use Rattle.spelling_spec.specs.Bytes.{is_quote}
+use Rattle.edif_spelling_spec.specs.Bytes.{is_quote}
 use Rattle.edif_lexer.specs.Steps.{Anything}
 use Rattle.edif_lexer.specs.Reading.{is_pending}
 use Rattle.edif_lexer.proofs.StepLemmas.{moved, moved_quietly, continues_keep, continues_space, continues_left, continues_right, stops_other, begun_pending}

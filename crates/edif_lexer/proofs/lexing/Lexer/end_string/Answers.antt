@@ -1,6 +1,6 @@
 use Rattle.std.proofs.Common.{◌≡◌, ◌+◌, ◌-◌, ◌∷◌, [], true, length, take, drop, sym, ap, ◌∙◌, append-nil}
 use Rattle.std.proofs.lemmas.List.{take_rest}
-use Rattle.spelling_spec.specs.Strings.{segments, value, escape_fault}
+use Rattle.edif_spelling_spec.specs.Strings.{segments, value, escape_fault}
 use Rattle.edif_lexer.specs.Steps.{Anything}
 use Rattle.edif_lexer.proofs.StepLemmas.{moved, open_string_parts, continues_string, stops_string}
 use Rattle.edif_lexer.proofs.lexing.Lexer.end_string.Goals as goal

@@ -1,6 +1,6 @@
 use Rattle.std.proofs.Common.{◌≡◌, [], length, Ok, Err, sym, ap, ◌∙◌, append-nil}
-use Rattle.spelling_spec.specs.Bytes.{is_word_byte, EndsRun}
-use Rattle.spelling_spec.specs.Words.{word_kind}
+use Rattle.edif_spelling_spec.specs.Bytes.{is_word_byte, EndsRun}
+use Rattle.edif_spelling_spec.specs.Words.{word_kind}
 use Rattle.edif_lexer.proofs.StepLemmas.{moved, continues_word, stops_word}
 use Rattle.edif_lexer.proofs.lexing.Lexer.end_word.Goals as goal
 

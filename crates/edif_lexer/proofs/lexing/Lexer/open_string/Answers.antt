@@ -1,6 +1,6 @@
 use Rattle.std.proofs.Common.{◌≡◌, ◌-◌, false, length, take, drop, sym, ap, ◌∙◌}
 use Rattle.std.proofs.lemmas.List.{take_rest}
-use Rattle.spelling_spec.specs.Strings.{segments, escape_fault}
+use Rattle.edif_spelling_spec.specs.Strings.{segments, escape_fault}
 use Rattle.edif_lexer.proofs.StepLemmas.{open_string_parts, ends_open, ends_open_bad}
 use Rattle.edif_lexer.proofs.lexing.Lexer.open_string.Goals as goal
 

@@ -1,6 +1,6 @@
 use Rattle.std.proofs.Common.{◌≡◌, ◌≤◌, ◌-◌, ◌++◌, List, length, take}
 use Rattle.edif_lexer.specs.Steps.{Anything, Continues}
-use Rattle.spelling_spec.specs.declared.token.Token.{Token}
+use Rattle.edif_spelling_spec.specs.declared.token.Token.{Token}
 use Rattle.edif_lexer.proofs.lexing.Lexer.run.Given as goal
 
 abbrev pub invariant-bytes : goal.invariant-bytes

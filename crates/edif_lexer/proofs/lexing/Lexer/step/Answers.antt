@@ -1,7 +1,7 @@
 use Rattle.std.proofs.Common.{◌≡◌, ◌∷◌, ◌++◌, [], Some, sym, ap, ◌∙◌, append_assoc}
 use Rattle.std.specs.Prelude.{slice_get}
 use Rattle.std.proofs.lemmas.Result.{err_from_is_err_and}
-use Rattle.spelling_spec.specs.Bytes.{is_word_byte, EndsRun}
+use Rattle.edif_spelling_spec.specs.Bytes.{is_word_byte, EndsRun}
 use Rattle.edif_lexer.specs.Reading.{is_pending}
 use Rattle.edif_lexer.specs.Steps.{Anything}
 use Rattle.edif_lexer.proofs.StepLemmas.{begun_word, word_keeps, string_keeps, stops_before, advances_then, moved_quietly, continues_keep}

@@ -10,45 +10,43 @@ use Rattle.edif_names.proofs.scope.Scope.define.Goals as goal
 
 pub returns-in-Some-clause-ok : goal.returns-in-Some-clause-ok
 returns-in-Some-clause-ok c = (
-  ap (λ n. option_map (λ d. d.place) (equal_to n c.args.self.now)) (sym c.as_slice-bytes.ensures.value)
-      ∙ ap (λ ds. option_map (λ d. d.place) (equal_to c.as_slice-bytes.result.now ds)) (sym c.self.view_is)
-      ∙ looked (λ v. v.items) (λ i q. q) c.as_slice-bytes.result.now c.self.inside.exact.entries
+  ap (λ ds. option_map (λ d. d.place) (equal_to c.args.name.now ds)) (sym c.self.view_is)
+      ∙ looked (λ v. v) (λ i q. q) c.args.name.now c.self.inside.exact.entries
       ∙ ap (option_map (λ v. v.place)) (sym c.in-Some.ensures.value),
   refl,
 )
 
 pub invariant_of-self-2 : goal.invariant_of-self-2
 invariant_of-self-2 c =
-    let key : c.in_ok-key.key.items ≡ c.args.name.now = c.in_ok-key.ensures.items ∙ c.as_slice-bytes.ensures.value in
+    let key : c.in_ok-key.key ≡ c.args.name.now = c.in_ok-key.ensures in
     let kept = c.in_ok-reserve.ensures.entries in
-    let absent = ap (λ es. lookup (λ k. pointwise nat_eq c.in_ok-key.key.items k.items) es) kept
-    ∙ ap (λ n. lookup (λ k. pointwise nat_eq n k.items) c.self.inside.exact.entries) c.in_ok-key.ensures.items
+    let absent = ap (λ es. lookup (λ k. pointwise nat_eq c.in_ok-key.key k) es) kept
+    ∙ ap (λ n. lookup (λ k. pointwise nat_eq n k) c.self.inside.exact.entries) c.in_ok-key.ensures
     ∙ sym c.in_default.ensures.value in
     let put = on_ok _ _ c.unwrap.ensures c.insert.ensures.entries
-    ∙ insert_entry-new (λ x y. pointwise nat_eq x.items y.items) c.reserve.new.self c.in_ok-key.key (record { id = c.args.id; place = c.args.place }) absent
+    ∙ insert_entry-new (λ x y. pointwise nat_eq x y) c.reserve.new.self c.in_ok-key.key (record { id = c.args.id; place = c.args.place }) absent
     ∙ ap (λ es. es ++ (c.in_ok-key.key, record { id = c.args.id; place = c.args.place }) ∷ []) kept in
     λ q. c.in_ok-add.ensures.ok q
     ∙ ap (λ o. noted_after q c.args.name.now c.args.id o) (c.self.invariant q)
-    ∙ sym (noted_push q (numbered (λ v. v.items) c.self.inside.exact.entries) (record { name = c.args.name.now; id = c.args.id }))
-    ∙ ap (λ n. noted q (numbered (λ v. v.items) c.self.inside.exact.entries ++ record { name = n; id = c.args.id } ∷ [])) (sym key)
-    ∙ ap (noted q) (sym (one_numbered (λ v. v.items) c.self.inside.exact.entries c.insert.new.self.entries c.in_ok-key.key (record { id = c.args.id; place = c.args.place }) put))
+    ∙ sym (noted_push q (numbered (λ v. v) c.self.inside.exact.entries) (record { name = c.args.name.now; id = c.args.id }))
+    ∙ ap (λ n. noted q (numbered (λ v. v) c.self.inside.exact.entries ++ record { name = n; id = c.args.id } ∷ [])) (sym key)
+    ∙ ap (noted q) (sym (one_numbered (λ v. v) c.self.inside.exact.entries c.insert.new.self.entries c.in_ok-key.key (record { id = c.args.id; place = c.args.place }) put))
 
 pub returns-clause-ok : goal.returns-clause-ok
 returns-clause-ok c =
-    let key : c.in_ok-key.key.items ≡ c.args.name.now = c.in_ok-key.ensures.items ∙ c.as_slice-bytes.ensures.value in
+    let key : c.in_ok-key.key ≡ c.args.name.now = c.in_ok-key.ensures in
     let kept = c.in_ok-reserve.ensures.entries in
-    let absent = ap (λ es. lookup (λ k. pointwise nat_eq c.in_ok-key.key.items k.items) es) kept
-    ∙ ap (λ n. lookup (λ k. pointwise nat_eq n k.items) c.self.inside.exact.entries) c.in_ok-key.ensures.items
+    let absent = ap (λ es. lookup (λ k. pointwise nat_eq c.in_ok-key.key k) es) kept
+    ∙ ap (λ n. lookup (λ k. pointwise nat_eq n k) c.self.inside.exact.entries) c.in_ok-key.ensures
     ∙ sym c.in_default.ensures.value in
     let put = on_ok _ _ c.unwrap.ensures c.insert.ensures.entries
-    ∙ insert_entry-new (λ x y. pointwise nat_eq x.items y.items) c.reserve.new.self c.in_ok-key.key (record { id = c.args.id; place = c.args.place }) absent
+    ∙ insert_entry-new (λ x y. pointwise nat_eq x y) c.reserve.new.self c.in_ok-key.key (record { id = c.args.id; place = c.args.place }) absent
     ∙ ap (λ es. es ++ (c.in_ok-key.key, record { id = c.args.id; place = c.args.place }) ∷ []) kept in (
       none_of (λ d. d.place) (equal_to c.args.name.now c.args.self.now)
-          (ap (λ n. option_map (λ d. d.place) (equal_to n c.args.self.now)) (sym c.as_slice-bytes.ensures.value)
-          ∙ ap (λ ds. option_map (λ d. d.place) (equal_to c.as_slice-bytes.result.now ds)) (sym c.self.view_is)
-          ∙ looked (λ v. v.items) (λ i q. q) c.as_slice-bytes.result.now c.self.inside.exact.entries
+          (ap (λ ds. option_map (λ d. d.place) (equal_to c.args.name.now ds)) (sym c.self.view_is)
+          ∙ looked (λ v. v) (λ i q. q) c.args.name.now c.self.inside.exact.entries
           ∙ ap (option_map (λ v. v.place)) (sym c.in_default.ensures.value)),
-      one_defined (λ v. v.items) c.self.inside.exact.entries c.insert.new.self.entries c.in_ok-key.key (record { id = c.args.id; place = c.args.place }) put
-          ∙ ap (λ ds. ds ++ record { name = c.in_ok-key.key.items; id = c.args.id; place = c.args.place } ∷ []) c.self.view_is
+      one_defined (λ v. v) c.self.inside.exact.entries c.insert.new.self.entries c.in_ok-key.key (record { id = c.args.id; place = c.args.place }) put
+          ∙ ap (λ ds. ds ++ record { name = c.in_ok-key.key; id = c.args.id; place = c.args.place } ∷ []) c.self.view_is
           ∙ ap (λ n. c.args.self.now ++ record { name = n; id = c.args.id; place = c.args.place } ∷ []) key,
     )

@@ -6,40 +6,36 @@ use Rattle.edif_names.proofs.scope.Scope.meant.Goals as goal
 
 pub returns-in-Some : goal.returns-in-Some
 returns-in-Some c = says_equal c.args.name.now c.args.self.now c.in-Some.entry.now.id
-    (ap (λ n. option_map (λ d. d.id) (equal_to n c.args.self.now)) (sym c.as_slice-bytes.ensures.value)
-    ∙ ap (λ ds. option_map (λ d. d.id) (equal_to c.as_slice-bytes.result.now ds)) (sym c.self.view_is)
-    ∙ looked (λ v. v.items) (λ i q. i) c.as_slice-bytes.result.now c.self.inside.exact.entries
+    (ap (λ ds. option_map (λ d. d.id) (equal_to c.args.name.now ds)) (sym c.self.view_is)
+    ∙ looked (λ v. v) (λ i q. i) c.args.name.now c.self.inside.exact.entries
     ∙ ap (option_map (λ v. v.id)) (sym c.in-Some.ensures.value))
 
 pub returns-then-noted : goal.returns-then-noted
 returns-then-noted c = says_only c.args.name.now c.args.self.now c.in-Some-get.noted.id c.in-Some-get.noted.is_only c.if-noted.true
     (none_of (λ d. d.id) (equal_to c.args.name.now c.args.self.now)
-    (ap (λ n. option_map (λ d. d.id) (equal_to n c.args.self.now)) (sym c.as_slice-bytes.ensures.value)
-    ∙ ap (λ ds. option_map (λ d. d.id) (equal_to c.as_slice-bytes.result.now ds)) (sym c.self.view_is)
-    ∙ looked (λ v. v.items) (λ i q. i) c.as_slice-bytes.result.now c.self.inside.exact.entries
+    (ap (λ ds. option_map (λ d. d.id) (equal_to c.args.name.now ds)) (sym c.self.view_is)
+    ∙ looked (λ v. v) (λ i q. i) c.args.name.now c.self.inside.exact.entries
     ∙ ap (option_map (λ v. v.id)) (sym c.in_default.ensures.value)))
     (ap (λ ds. noted c.args.name.now (numbers ds)) (sym c.self.view_is)
-    ∙ ap (noted c.args.name.now) (numbers_defined (λ v. v.items) c.self.inside.exact.entries)
+    ∙ ap (noted c.args.name.now) (numbers_defined (λ v. v) c.self.inside.exact.entries)
     ∙ sym (c.self.invariant c.args.name.now) ∙ sym c.in-Some-get.ensures)
 
 pub returns-else-noted : goal.returns-else-noted
 returns-else-noted c = says_several c.args.name.now c.args.self.now c.in-Some-get.noted.id c.in-Some-get.noted.is_only c.if-noted.false
     (none_of (λ d. d.id) (equal_to c.args.name.now c.args.self.now)
-    (ap (λ n. option_map (λ d. d.id) (equal_to n c.args.self.now)) (sym c.as_slice-bytes.ensures.value)
-    ∙ ap (λ ds. option_map (λ d. d.id) (equal_to c.as_slice-bytes.result.now ds)) (sym c.self.view_is)
-    ∙ looked (λ v. v.items) (λ i q. i) c.as_slice-bytes.result.now c.self.inside.exact.entries
+    (ap (λ ds. option_map (λ d. d.id) (equal_to c.args.name.now ds)) (sym c.self.view_is)
+    ∙ looked (λ v. v) (λ i q. i) c.args.name.now c.self.inside.exact.entries
     ∙ ap (option_map (λ v. v.id)) (sym c.in_default.ensures.value)))
     (ap (λ ds. noted c.args.name.now (numbers ds)) (sym c.self.view_is)
-    ∙ ap (noted c.args.name.now) (numbers_defined (λ v. v.items) c.self.inside.exact.entries)
+    ∙ ap (noted c.args.name.now) (numbers_defined (λ v. v) c.self.inside.exact.entries)
     ∙ sym (c.self.invariant c.args.name.now) ∙ sym c.in-Some-get.ensures)
 
 pub returns-in-None : goal.returns-in-None
 returns-in-None c = says_absent c.args.name.now c.args.self.now
     (none_of (λ d. d.id) (equal_to c.args.name.now c.args.self.now)
-    (ap (λ n. option_map (λ d. d.id) (equal_to n c.args.self.now)) (sym c.as_slice-bytes.ensures.value)
-    ∙ ap (λ ds. option_map (λ d. d.id) (equal_to c.as_slice-bytes.result.now ds)) (sym c.self.view_is)
-    ∙ looked (λ v. v.items) (λ i q. i) c.as_slice-bytes.result.now c.self.inside.exact.entries
+    (ap (λ ds. option_map (λ d. d.id) (equal_to c.args.name.now ds)) (sym c.self.view_is)
+    ∙ looked (λ v. v) (λ i q. i) c.args.name.now c.self.inside.exact.entries
     ∙ ap (option_map (λ v. v.id)) (sym c.in_default.ensures.value)))
     (ap (λ ds. noted c.args.name.now (numbers ds)) (sym c.self.view_is)
-    ∙ ap (noted c.args.name.now) (numbers_defined (λ v. v.items) c.self.inside.exact.entries)
+    ∙ ap (noted c.args.name.now) (numbers_defined (λ v. v) c.self.inside.exact.entries)
     ∙ sym (c.self.invariant c.args.name.now) ∙ sym c.in-None.ensures)

@@ -1,7 +1,7 @@
 use Rattle.std.proofs.Common.{◌≡◌, ◌∷◌, ◌++◌, ◌∙◌, [], List, ap, sym, subst, length, arith, append_assoc, append-nil}
 use Rattle.std.proofs.lemmas.Result.{err_from_is_err_and}
-use Rattle.spelling_spec.specs.declared.token.Token.{Token}
-use Rattle.spelling_spec.specs.TreeFaults.{tree_fault}
+use Rattle.edif_spelling_spec.specs.declared.token.Token.{Token}
+use Rattle.edif_spelling_spec.specs.TreeFaults.{tree_fault}
 use Rattle.edif_tree.specs.Making.{HasRead}
 use Rattle.edif_tree.specs.TreeError.{Names}
 use Rattle.edif_tree.proofs.MakerLemmas.{none_left}

@@ -1,5 +1,5 @@
 use Rattle.std.proofs.Common.{◌≡◌, List, ◌++◌}
-use Rattle.spelling_spec.specs.declared.token.Token.{Token}
+use Rattle.edif_spelling_spec.specs.declared.token.Token.{Token}
 use Rattle.edif_tree.specs.Making.{HasRead}
 use Rattle.edif_tree.proofs.making.Making.add_all.Given as goal
 

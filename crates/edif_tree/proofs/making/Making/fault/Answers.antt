@@ -1,9 +1,9 @@
 use Rattle.std.proofs.Common.{◌≡◌, ◌≤◌, ◌<◌, ◌∷◌, ◌++◌, ◌∙◌, sym, subst, length, arith}
 use Rattle.std.proofs.lemmas.Bool.{eqb-true, eqb-false}
 use Rattle.std.specs.Prelude.{vec_len}
-use Rattle.spelling_spec.specs.TreeFaults.{token_at, fault_at, tree_fault}
-use Rattle.spelling_spec.specs.declared.token.TokenKind.{TokenKind}
-use Rattle.spelling_spec.specs.declared.tree_fault.TreeKind.TheVariants.{ExtraClose, TooDeep}
+use Rattle.edif_spelling_spec.specs.TreeFaults.{token_at, fault_at, tree_fault}
+use Rattle.edif_spelling_spec.specs.declared.token.TokenKind.{TokenKind}
+use Rattle.edif_spelling_spec.specs.declared.tree_fault.TreeKind.TheVariants.{ExtraClose, TooDeep}
 use Rattle.edif_tree.proofs.ReadFaults.{deep_at, close_at, trailing_at, form_at}
 use Rattle.edif_tree.proofs.making.Making.fault.Goals as goal
 

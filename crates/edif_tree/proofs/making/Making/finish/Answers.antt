@@ -1,8 +1,8 @@
 use Rattle.std.proofs.Common.{◌≡◌, ◌<◌, ◌∙◌, Some, None, sym, ap, subst, length, arith}
 use Rattle.std.proofs.lemmas.Bool.{eqb-true, eqb-false}
 use Rattle.std.specs.Prelude.{vec_len, slice_get}
-use Rattle.spelling_spec.specs.Tree.{Placed}
-use Rattle.spelling_spec.specs.TreeFaults.{Lists}
+use Rattle.edif_spelling_spec.specs.Tree.{Placed}
+use Rattle.edif_spelling_spec.specs.TreeFaults.{Lists}
 use Rattle.edif_tree.specs.Nodes.{Table, IsAt}
 use Rattle.edif_tree.proofs.OrderLemmas.{root_is}
 use Rattle.edif_tree.proofs.ReadFaults.{ends_open, ends_empty, ends_closed}

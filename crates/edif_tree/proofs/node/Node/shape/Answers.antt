@@ -2,7 +2,7 @@ use Rattle.std.proofs.Common.{◌≡◌, ℤ, sym, subst, rules}
 use Rattle.std.specs.Prelude.{FitsSigned}
 use Rattle.std.specs.Int.{w64}
 use Rattle.std.proofs.lemmas.Int.{to_z-of_z}
-use Rattle.spelling_spec.specs.Tree.{Integer'}
+use Rattle.edif_spelling_spec.specs.Tree.{Integer'}
 use Rattle.edif_tree.specs.Nodes.{FormOf, WordOf, IntegerOf, StringOf, place_of}
 use Rattle.edif_tree.specs.Handles.{here}
 use Rattle.edif_tree.proofs.HereLemmas.{shown, within}

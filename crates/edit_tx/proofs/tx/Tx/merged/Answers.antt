@@ -1,12 +1,12 @@
 use Rattle.std.proofs.Common.{◌≡◌, sym, ap, subst, ◌∙◌}
 use Rattle.netlist_schema.specs.Valid.{IsValid}
 use Rattle.edit_spec.specs.Needs.{Reads}
-use Rattle.edit_core.specs.Objects.{AgreesOn, Grown}
+use Rattle.edit_rules_spec.specs.Objects.{AgreesOn, Grown}
 use Rattle.edit_spec.specs.Step.{run}
 use Rattle.edit_tx.specs.Facts.{TxFacts}
 use Rattle.edit_tx.proofs.Merging.{merges}
-use Rattle.edit_work.specs.Becomes.{CanBecome}
-use Rattle.version_data.specs.Shot.{Shot}
+use Rattle.db_work.specs.Becomes.{CanBecome}
+use Rattle.db_version.specs.Shot.{Shot}
 use Rattle.edit_tx.proofs.tx.Tx.merged.Goals as goal
 use Rattle.edit_tx.proofs.tx.Tx.merged.Goals.{After-lib_count-head}
 

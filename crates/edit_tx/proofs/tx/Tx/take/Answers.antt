@@ -1,7 +1,7 @@
 use Rattle.std.proofs.Common.{◌≡◌, ◌++◌, ◌∷◌, [], List, length, refl, ap, subst, ◌∙◌, ℕ}
 use Rattle.std.specs.Prelude.{slice_set}
-use Rattle.edit_core.specs.declared.reply.Reply.{Reply}
-use Rattle.edit_core.specs.declared.reply.Reply.TheVariants.{Done}
+use Rattle.edit_rules_spec.specs.declared.reply.Reply.{Reply}
+use Rattle.edit_rules_spec.specs.declared.reply.Reply.TheVariants.{Done}
 use Rattle.eco_reads.specs.Done.{IsDone}
 use Rattle.edit_tx.specs.Facts.{TxFacts, HasRun}
 use Rattle.edit_tx.specs.Inside.{facts_of}

@@ -1,6 +1,0 @@
-use Rattle.std.proofs.Common.{◌≡◌}
-use Rattle.cells_below.specs.Below.{cells_upto}
-use Rattle.cells_below.proofs.below.list_cells.Given as goal
-
-abbrev pub invariant-loop-lib : goal.invariant-loop-lib
-invariant-loop-lib g l = l.cells.items ≡ cells_upto (g.S.Shown.design l.design) l.lib

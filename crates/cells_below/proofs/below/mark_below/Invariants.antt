@@ -1,5 +1,0 @@
-use Rattle.cells_below.proofs.MarkLemmas.{AreMarkedFrom}
-use Rattle.cells_below.proofs.below.mark_below.Given as goal
-
-abbrev pub invariant-loop-passed : goal.invariant-loop-passed
-invariant-loop-passed g l = AreMarkedFrom (g.S.Shown.design l.design) l.cells l.passed l.fn.marks l.marks

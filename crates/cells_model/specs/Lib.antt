@@ -1,4 +1,0 @@
-pub mod Parts
-pub mod State
-pub mod Change
-pub mod Patch

@@ -1,0 +1,95 @@
+//! What stands at a path whose text is kept.
+ghost use Rattle.std.specs.Prelude.{◌≡◌, [], ◌∷◌, IfSome, option_and_then, slice_get};
+ghost use Rattle.std.specs.Option.{option_map, option_map_or};
+ghost use Rattle.netlist_schema.specs.Design.{cell_at};
+ghost use Rattle.flat_spec.specs.Paths.{nets_at};
+ghost use Rattle.flat_lines_spec.specs.Lines.{net_words, path_text, port_text};
+ghost use Rattle.flat_csv_spec.specs.PinTable.{net_fields};
+ghost use Rattle.walk_items.specs.Lent.{net_of};
+
+use flat_lookup::net_at;
+use netlist_schema::{CellId, Shown};
+use path_texts::PathTexts;
+use walk_items::NetRef;
+
+/// The path of an occurrence, and the identifier of a port or net there.
+#[derive(Clone, Copy)]
+pub struct Known<'a> {
+    pub path: &'a [u8],
+    pub name: &'a [u8],
+}
+
+/// The identifier of a port of a cell; nothing where there is no such port.
+fn port_in<S: Shown>(design: &S, cell: CellId, port: u32) -> &[u8]
+    ensures { result.now ≡ option_map_or (λ p. p.name.id) (option_and_then (λ body. slice_get body.ports port) (cell_at (S.design design.now) cell)) [] }
+{
+    let Some(body) = design.cell(cell) else {
+        return &[];
+    };
+    match body.ports.as_slice().get(port as usize) {
+        Some(port) => port.name.id.as_slice(),
+        None => &[],
+    }
+}
+
+/// The identifier of a net of a cell; nothing where there is no such net.
+fn net_in<S: Shown>(design: &S, cell: CellId, net: u32) -> &[u8]
+    ensures { result.now ≡ option_map_or (λ n. n.name.id) (slice_get (nets_at (S.design design.now) cell) net) [] }
+{
+    match net_at(design, cell, net) {
+        Some(net) => net.name.id.as_slice(),
+        None => &[],
+    }
+}
+
+/// A port of the occurrence at a path, where its text is kept.
+pub fn known_port<'a, S: Shown>(
+    design: &'a S,
+    texts: &'a PathTexts<'_, S>,
+    path: &[u32],
+    port: u32,
+) -> Option<Known<'a>>
+    requires same { texts.now ≡ S.design design.now }
+    ensures path { IfSome result (λ k. k.path.now ≡ path_text (S.design design.now) path.now) }
+    ensures name { IfSome result (λ k. k.name.now ≡ port_text (S.design design.now) path.now port) }
+{
+    let found = texts.find(path)?;
+    Some(Known {
+        path: found.text,
+        name: port_in(design, found.cell, port),
+    })
+}
+
+/// A net, where the text of its path is kept.
+fn known_net<'a, S: Shown>(
+    design: &'a S,
+    texts: &'a PathTexts<'_, S>,
+    net: NetRef<'_>,
+) -> Option<Known<'a>>
+    requires same { texts.now ≡ S.design design.now }
+    ensures { IfSome result (λ k. k.path.now ∷ k.name.now ∷ [] ≡ net_words (S.design design.now) (net_of net.entry)) }
+{
+    let found = texts.find(net.path)?;
+    Some(Known {
+        path: found.text,
+        name: net_in(design, found.cell, net.net),
+    })
+}
+
+/// A representative, where the text of its path is kept; two empty texts where there is none.
+pub fn known_first<'a, S: Shown>(
+    design: &'a S,
+    texts: &'a PathTexts<'_, S>,
+    first: Option<NetRef<'_>>,
+) -> Option<Known<'a>>
+    requires same { texts.now ≡ S.design design.now }
+    ensures { IfSome result (λ k. k.path.now ∷ k.name.now ∷ [] ≡ net_fields (S.design design.now) (option_map net_of first.entry)) }
+{
+    match first {
+        Some(net) => known_net(design, texts, net),
+        None => Some(Known {
+            path: &[],
+            name: &[],
+        }),
+    }
+}

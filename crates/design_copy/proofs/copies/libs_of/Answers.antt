@@ -1,0 +1,26 @@
+use Rattle.std.proofs.Common.{◌≤◌, ◌++◌, ◌∷◌, [], arith, length, sym, ap, ◌∙◌}
+use Rattle.std.proofs.lemmas.List.{take_all}
+use Rattle.std.specs.Option.{option_copied}
+use Rattle.netlist_schema.specs.Types.{Lib}
+use Rattle.design_copy.proofs.Copying.{lib_next, no_lib}
+use Rattle.design_copy.proofs.copies.libs_of.Goals as goal
+use Rattle.design_copy.proofs.copies.libs_of.Goals.{in-Some+in_ok-lib_of+in_ok-push, in_default}
+
+pub loop-lib-preserved : goal.loop-lib-preserved
+loop-lib-preserved g c =
+    let d = g.S.Shown.design c.args.design.now in
+    let lib = c.loop-lib.lib in
+    elim c.match-lib.branch [
+      | in-Some+in_ok-lib_of+in_ok-push w ↦
+          ap (λ v. v.items) w.made-is
+          ∙ w.in_ok-push.ensures.items
+          ∙ ap (λ (l : Lib). c.loop-lib.made.items ++ l ∷ []) w.in_ok-lib_of.ensures
+          ∙ lib_next d c.loop-lib.made.items lib w.in-Some.head.now (sym (ap option_copied w.in-Some.is) ∙ c.lib.ensures) c.loop-lib.invariant
+      | in_default w ↦ absurd (no_lib d lib (let count = c.lib_count-lib-end.ensures.value in let within = c.loop-lib-test.true in omega (arith, count, within)) (sym (ap option_copied w.in_default.is) ∙ c.lib.ensures))
+    ]
+
+pub returns : goal.returns
+returns g c =
+    let d = g.S.Shown.design c.args.design.now in
+    let past : length d.libs ≤ c.loop-lib.lib = (let count = c.lib_count-lib-end.ensures.value in let past = c.loop-lib-test.false in omega (arith, count, past)) in
+    c.of.ensures ∙ c.loop-lib.invariant ∙ take_all c.loop-lib.lib d.libs past

@@ -1,0 +1,5 @@
+pub mod Parts
+pub mod State
+pub mod Change
+pub mod Patch
+pub mod Marks

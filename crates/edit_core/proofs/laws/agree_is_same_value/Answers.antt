@@ -1,5 +1,0 @@
-use Rattle.edit_core.proofs.Values as lemma
-use Rattle.edit_core.proofs.laws.agree_is_same_value.Goals as goal
-
-pub returns : goal.returns
-returns c = lemma.agree_is_same_value

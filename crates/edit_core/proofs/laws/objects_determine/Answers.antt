@@ -1,5 +1,0 @@
-use Rattle.edit_core.proofs.Overlaid as lemma
-use Rattle.edit_core.proofs.laws.objects_determine.Goals as goal
-
-pub returns : goal.returns
-returns c = lemma.design_by_objects

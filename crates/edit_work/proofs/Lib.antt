@@ -1,2 +1,0 @@
-pub mod Becoming
-pub mod Marking

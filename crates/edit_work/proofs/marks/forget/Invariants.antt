@@ -1,5 +1,0 @@
-use Rattle.edit_work.proofs.Marking.{IsForgotten}
-use Rattle.edit_work.proofs.marks.forget.Given as goal
-
-abbrev pub invariant-loop-place : goal.invariant-loop-place
-invariant-loop-place l = IsForgotten l.list l.places l.first l.place

@@ -1,8 +1,0 @@
-use Rattle.std.proofs.Common.{ap, ◌∙◌, sym}
-use Rattle.edit_core.specs.Find.{cell_in}
-use Rattle.cells_model.specs.State.{State}
-use Rattle.cells_model.proofs.States.{read_found}
-use Rattle.edit_work.proofs.work.WorkCells.find.Goals as goal
-
-pub returns-clause-reads : goal.returns-clause-reads
-returns-clause-reads c = read_found _ _ _ _ _ _ _ _ _ _ (sym c.self.view_is) (c.place-found.ensures ∙ ap (λ (f : State). cell_in f.design c.args.name.now c.args.lib) (sym c.self.view_is)) c.object_for.ensures c.in_ok-add.ensures

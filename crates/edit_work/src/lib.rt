@@ -1,9 +1,0 @@
-//! A version that is edited: cells that are read and written, with the objects that were, and what the edits come to on a
-//! later version.
-#![tactic(auto)]
-
-pub mod marks;
-pub mod merge;
-pub mod work;
-
-pub use work::Work;

@@ -1,0 +1,4 @@
+mod CountLemmas
+mod LeftLemmas
+mod TableLemmas
+mod TallyLemmas

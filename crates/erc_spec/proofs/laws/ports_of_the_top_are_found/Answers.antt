@@ -1,0 +1,9 @@
+use Rattle.std.proofs.Common.{refl}
+use Rattle.flat_spec.specs.Occurrences.{occurrences}
+use Rattle.flat_spec.specs.Representatives.{representative}
+use Rattle.flat_spec.specs.Trees.{tree}
+use Rattle.erc_spec.proofs.laws.ports_of_the_top_are_found.Goals as goal
+
+pub returns : goal.returns
+unfolding representative occurrences tree
+returns c = refl

@@ -1,0 +1,10 @@
+pub mod Drives
+pub mod ExampleClash
+pub mod ExampleLevels
+pub mod ExamplePorts
+pub mod ExampleWeak
+pub mod Examples
+pub mod Findings
+pub mod Lines
+pub mod Told
+pub mod Types

@@ -1,0 +1,3 @@
+mod GivenLemmas
+pub mod OutcomeLemmas
+mod RowLemmas

@@ -1,0 +1,51 @@
+//! What is shown of an item: its line in a flattening.
+ghost use Rattle.std.specs.Prelude.{◌≡◌};
+ghost use Rattle.flat_lines_spec.specs.Lines.{item_line};
+ghost use Rattle.walk_items.specs.Lent.{item_of};
+
+use flat_report::kept_text;
+use netdb_outside::Appended;
+use netlist_schema::{NoMemory, Shown};
+use path_texts::PathTexts;
+use std::alloc::Global;
+use walk_items::ItemRef;
+
+/// The line of an item of a design, of which the text of a path is kept.
+#[derive(Drop)]
+pub struct Line<'a, 'd, S: Shown> {
+    pub texts: &'a PathTexts<'d, S>,
+    pub item: ItemRef<'a>,
+}
+
+impl<'a, 'd, S: Shown> Appended for Line<'a, 'd, S> {
+    ghost text = { λ line. item_line line.texts.now (item_of line.item) };
+
+    fn append_to(&self, alloc: Global, bytes: &mut Vec<u8>) -> Result<(), NoMemory> {
+        kept_text(alloc, self.texts, self.item, bytes)
+    }
+}
+
+/// Keeps the text of the path of an item.
+pub fn keep_path<S: Shown>(texts: &mut PathTexts<'_, S>, item: ItemRef<'_>)
+    ensures { texts.new ≡ texts.old }
+{
+    texts.keep(path_of(item));
+}
+
+/// Keeps the text of the path of an item that has a row.
+pub fn keep_pin<S: Shown>(texts: &mut PathTexts<'_, S>, item: ItemRef<'_>)
+    ensures { texts.new ≡ texts.old }
+{
+    if let ItemRef::Pin { path, .. } = item {
+        texts.keep(path);
+    }
+}
+
+/// The path of the occurrence to which an item belongs.
+fn path_of(item: ItemRef<'_>) -> &[u32] {
+    match item {
+        ItemRef::Enter { path, .. } => path,
+        ItemRef::Net { path, .. } => path,
+        ItemRef::Pin { path, .. } => path,
+    }
+}

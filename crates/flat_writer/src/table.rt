@@ -1,0 +1,130 @@
+//! The rows of a pin table.
+ghost use Rattle.std.specs.Prelude.{◌≡◌, ◌↔◌, ◌≤◌, ◌++◌, Err, None, OnErr, OnOk, false};
+ghost use Rattle.netdb_outside.specs.Buffered.{Writes};
+ghost use Rattle.netdb_outside.specs.Outside.{Appends, AppendsFront, Rose};
+ghost use Rattle.flat_csv_spec.specs.PinTable.{header as names_of_columns, pin_row as row_of_item, pin_rows, pin_table};
+ghost use Rattle.walk_items.specs.Lent.{item_of};
+ghost use Rattle.flat_writer.specs.Given.{GivesRow};
+
+use crate::error::{FlatError, outcome};
+use crate::shown::keep_pin;
+use csv_report::{RowSink, put_item};
+use netdb_outside::{Sink, WriteError};
+use netlist_schema::Shown;
+use occ_walk::{Walk, WalkError};
+use path_texts::PathTexts;
+use std::alloc::Global;
+use walk_items::ItemRef;
+
+/// Writes the pin table of a design: the names of the columns, and a row for each pin of its flattening. Items are lent one at a time,
+/// so memory is wanted as a walk wants it, and for a piece of some kilobytes.
+///
+/// `NoTop` comes exactly where the design has no top, and then the sink is as it was. After another error a front of that text was
+/// written. `WriteFault` comes only where the sink had a fault.
+pub fn write_pin_table<S: Shown, K: Sink>(
+    alloc: Global,
+    design: &S,
+    out: &mut K,
+) -> Result<(), FlatError>
+    ensures no_top { (result ≡ Err FlatError.NoTop) ↔ ((S.design design.now).top ≡ None) }
+    ensures untouched { result ≡ Err FlatError.NoTop → out.new ≡ out.old }
+    ensures ok { OnOk result (Appends (K.written out.old) (K.written out.new) (pin_table (S.design design.now))) }
+    ensures err { OnErr result (AppendsFront (K.written out.old) (K.written out.new) (pin_table (S.design design.now))) }
+    ensures fault { result ≡ Err FlatError.WriteFault → Rose (K.faults out.old) (K.faults out.new) }
+    ensures never_falls { K.faults out.old ≤ K.faults out.new }
+{
+    match Walk::new(alloc, design) {
+        Ok(mut walk) => outcome(write_left(alloc, design, &mut walk, out)),
+        Err(WalkError::NoTop) => Err(FlatError::NoTop),
+        Err(WalkError::NoMemory) => Err(FlatError::NoMemory),
+    }
+}
+
+/// Writes the names of the columns and the rows of the items that are left to a walk.
+fn write_left<S: Shown, W: Shown + Drop, K: Sink>(
+    alloc: Global,
+    design: &S,
+    walk: &mut Walk<W>,
+    out: &mut K,
+) -> Result<(), WriteError>
+    ensures ok { OnOk result (Appends (K.written out.old) (K.written out.new) (names_of_columns ++ pin_rows (S.design design.now) walk.old.left)) }
+    ensures err { OnErr result (AppendsFront (K.written out.old) (K.written out.new) (names_of_columns ++ pin_rows (S.design design.now) walk.old.left)) }
+    ensures fault { result ≡ Err WriteError.WriteFault → Rose (K.faults out.old) (K.faults out.new) }
+    ensures never_falls { K.faults out.old ≤ K.faults out.new }
+{
+    let mut texts = PathTexts::new(alloc, design);
+    let mut page = RowSink::new(alloc);
+    put_header(&mut page, out);
+    put_left(alloc, &mut texts, walk, &mut page, out);
+    page.finish(out)
+}
+
+/// Writes the names of the columns.
+fn put_header<K: Sink>(page: &mut RowSink, out: &mut K)
+    ensures { Writes K.written K.faults out.old page.old out.new page.new names_of_columns }
+{
+    page.put_row(&[b"path", b"port", b"bit", b"net_path", b"net"], out);
+}
+
+/// Writes the rows of the items that are left to a walk.
+fn put_left<S: Shown, W: Shown + Drop, K: Sink>(
+    alloc: Global,
+    texts: &mut PathTexts<'_, S>,
+    walk: &mut Walk<W>,
+    page: &mut RowSink,
+    out: &mut K,
+)
+    ensures same { texts.new ≡ texts.old }
+    ensures gives { Writes K.written K.faults out.old page.old out.new page.new (pin_rows texts.old walk.old.left) }
+{
+    'rows: loop {
+        if !put_next(alloc, texts, walk, page, out) {
+            return;
+        }
+    }
+}
+
+/// Writes the row of the next item that is left to a walk: whether there was one, and nothing failed before.
+fn put_next<S: Shown, W: Shown + Drop, K: Sink>(
+    alloc: Global,
+    texts: &mut PathTexts<'_, S>,
+    walk: &mut Walk<W>,
+    page: &mut RowSink,
+    out: &mut K,
+) -> bool
+    ensures same { texts.new ≡ texts.old }
+    ensures gives { GivesRow (Writes K.written K.faults out.old page.old out.new page.new) texts.old walk.old.left walk.new.left result }
+{
+    if page.is_stuck() {
+        return false;
+    }
+    match walk.settle() {
+        Ok(true) => put_ahead(alloc, texts, walk, page, out),
+        Ok(false) => false,
+        Err(_) => {
+            page.run_out();
+            false
+        }
+    }
+}
+
+/// The same, where the walk has gone on to its next item.
+fn put_ahead<S: Shown, W: Shown + Drop, K: Sink>(
+    alloc: Global,
+    texts: &mut PathTexts<'_, S>,
+    walk: &mut Walk<W>,
+    page: &mut RowSink,
+    out: &mut K,
+) -> bool
+    requires { walk.old.over ≡ false }
+    ensures same { texts.new ≡ texts.old }
+    ensures gives { GivesRow (Writes K.written K.faults out.old page.old out.new page.new) texts.old walk.old.left walk.new.left result }
+{
+    let Some(item) = walk.peek() else {
+        return false;
+    };
+    keep_pin(texts, item);
+    put_item(alloc, texts, item, page, out);
+    walk.pass();
+    true
+}

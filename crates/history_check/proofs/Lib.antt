@@ -1,0 +1,11 @@
+pub mod Again
+pub mod Blocking
+pub mod Calling
+pub mod Finishing
+pub mod Heading
+pub mod Judging
+pub mod Quieting
+pub mod Replaying
+pub mod Seating
+pub mod Turning
+pub mod WalkLemmas

@@ -1,0 +1,5 @@
+pub mod Follow
+pub mod Moves
+pub mod Seats
+pub mod Verdicts
+pub mod Walking

@@ -1,0 +1,134 @@
+//! The events of a report, made again on a database.
+ghost use Rattle.std.specs.Prelude.{◌≡◌, ◌++◌, ◌∷◌, ◌<◌, ◌≤◌, [], List, ℕ, IfOk, IsTrue, MatchBool, MatchOption, length, set, slice_index_or, vec_len};
+ghost use Rattle.std.specs.List.{All};
+ghost use Rattle.history_spec.specs.declared.event.Event.{Event};
+ghost use Rattle.script_spec.specs.Headline.{CanWalk};
+ghost use Rattle.script_spec.specs.Report.{last_design};
+ghost use Rattle.script_spec.specs.Texts.{event_text as text_of_event};
+ghost use Rattle.joint_spec.specs.Scripts.{all_steps};
+ghost use Rattle.history_check.specs.Follow.{AllStand, CallComes, IsOpen, IsRestOf, PrintsNone, PrintsOnly};
+
+use crate::heads::{Next, after, next_caller};
+use crate::places::take_turn;
+use crate::seats::{At, Seat};
+use db_core::Core;
+use netlist_schema::NoMemory;
+use script_lang::event_text;
+use script_spec::Script;
+use std::alloc::Global;
+use std::mem;
+
+/// A caller before its first line.
+fn first_seat(alloc: Global) -> Seat
+    ensures { IsOpen result }
+{
+    Seat {
+        at: At::Free,
+        line: 0,
+        said: Vec::new(alloc),
+    }
+}
+
+/// So many callers before their first lines.
+pub fn open_seats(alloc: Global, count: usize) -> Result<Vec<Seat>, NoMemory>
+    ensures count { IfOk result (λ seats. vec_len seats ≡ count) }
+    ensures open { IfOk result (λ seats. All IsOpen seats.items) }
+{
+    let mut seats = Vec::new(alloc);
+    for _made in 0..count {
+        seats.push(first_seat(alloc))?;
+    }
+    Ok(seats)
+}
+
+/// Puts a seat in a place, and hands out the one that was there.
+fn swap_seat(seats: &mut Vec<Seat>, place: usize, seat: Seat) -> Seat
+    requires { place < vec_len seats.old }
+    ensures left { result ≡ slice_index_or seats.old.items place seat }
+    ensures put { seats.new.items ≡ set seats.old.items place seat }
+{
+    mem::replace(&mut seats[place], seat)
+}
+
+/// Makes the next call of a caller: whether there was one, and room for it.
+fn call(
+    alloc: Global,
+    core: &mut Core,
+    seats: &mut Vec<Seat>,
+    scripts: &[Script],
+    next: Next,
+) -> Result<bool, NoMemory>
+    requires stands { AllStand core.old (all_steps scripts.now) seats.old.items }
+    requires known { next.caller < length scripts.now }
+    requires top { CanWalk core.old.opening (all_steps scripts.now) }
+    ensures { IfOk result (CallComes core.old core.new (all_steps scripts.now) next seats.new.items) }
+{
+    let _events = core.log().len();
+    let place = next.caller as usize;
+    let seat = swap_seat(seats, place, first_seat(alloc));
+    let lines = scripts[place].lines();
+    match take_turn(alloc, core, next.caller, lines, seat, next.release)? {
+        Some(turned) => {
+            swap_seat(seats, place, turned);
+            Ok(true)
+        }
+        None => Ok(false),
+    }
+}
+
+/// What stands behind the last event of a database, where a text begins with it.
+fn behind_event<'a>(
+    alloc: Global,
+    core: &Core,
+    text: &'a [u8],
+) -> Result<Option<&'a [u8]>, NoMemory>
+    ensures { IfOk result (λ rest. (before : List Event) (event : Event) → core.now.events ≡ before ++ event ∷ []
+        → MatchOption rest ((more : List ℕ) → ¬ (text.now ≡ text_of_event (last_design core.now.opening core.now.events) (length before) event ++ more))
+        (λ more. text.now ≡ text_of_event (last_design core.now.opening core.now.events) (length before) event ++ more.now)) }
+{
+    let log = core.log();
+    let Some(last) = log.last() else {
+        return Ok(None);
+    };
+    let mut printed = Vec::new(alloc);
+    event_text(
+        alloc,
+        core.head(),
+        (log.len() - 1) as u64,
+        last,
+        &mut printed,
+    )?;
+    Ok(after(text, printed.as_slice()))
+}
+
+/// Makes the events again with which a text begins: whether each was the next one of its caller, and is printed so.
+pub fn replay(
+    alloc: Global,
+    core: &mut Core,
+    seats: &mut Vec<Seat>,
+    scripts: &[Script],
+    text: &[u8],
+) -> Result<bool, NoMemory>
+    requires few { length scripts.now ≤ 64 }
+    requires stands { AllStand core.old (all_steps scripts.now) seats.old.items }
+    requires top { CanWalk core.old.opening (all_steps scripts.now) }
+    ensures opening { IfOk result (λ ended. IsTrue ended → core.new.opening ≡ core.old.opening) }
+    ensures stands { IfOk result (λ ended. IsTrue ended → AllStand core.new (all_steps scripts.now) seats.new.items) }
+    ensures only { IfOk result (λ ended. (report : List ℕ) → IsRestOf core.old (all_steps scripts.now) report text.now
+        → MatchBool ended (PrintsOnly core.old.opening (all_steps scripts.now) report core.new.events) (PrintsNone core.old.opening (all_steps scripts.now) report)) }
+{
+    let mut rest = text;
+    'events: loop {
+        let number = core.log().len() as u64;
+        let Some(next) = next_caller(rest, number, scripts.len() as u32) else {
+            return Ok(true);
+        };
+        if !call(alloc, core, seats, scripts, next)? {
+            return Ok(false);
+        }
+        match behind_event(alloc, core, rest)? {
+            Some(more) => rest = more,
+            None => return Ok(false),
+        }
+    }
+}

@@ -1,0 +1,9 @@
+pub mod Advancing
+pub mod Committing
+pub mod Ending
+pub mod Heads
+pub mod Leading
+pub mod Lines
+pub mod Meeting
+pub mod One
+pub mod Rests

@@ -1,0 +1,20 @@
+use Rattle.std.proofs.Common.{◌∙◌, refl, sym, arith}
+use Rattle.walk_items.specs.Stand.{stand_of}
+use Rattle.par_parts.proofs.PassLemmas.{own_passed}
+use Rattle.par_parts.proofs.passing.pass_own.Goals as goal
+
+pub own-init : goal.own-init
+own-init g c = record {
+  stands = c.pass.ensures.stands;
+  less = omega arith;
+  same = own_passed (g.S.Shown.design c.args.ground.now.design) c.args.count c.args.count (stand_of c.args.place.now) (stand_of c.args.place.now) (stand_of c.pass.new.place)
+      c.requires.some c.requires.one c.pass.ensures.passed refl;
+}
+
+pub own-preserved : goal.own-preserved
+own-preserved g c = record {
+  stands = c.pass-in-own.ensures.stands;
+  less = omega arith;
+  same = own_passed (g.S.Shown.design c.args.ground.now.design) c.args.count c.own.more (stand_of c.args.place.now) (stand_of c.own.place) (stand_of c.pass-in-own.new.place)
+      c.own-test.true (sym c.is_over.ensures ∙ c.if-is_over.false) c.pass-in-own.ensures.passed c.own.invariant.same;
+}

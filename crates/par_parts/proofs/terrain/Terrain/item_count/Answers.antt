@@ -1,0 +1,12 @@
+use Rattle.std.proofs.Common.{◌∙◌, ◌-◌, ◌^◌, [], length, min, ap, sym}
+use Rattle.flat_spec.specs.Below.{items_under}
+use Rattle.flat_spec.proofs.BelowLemmas.{flattening_is_under_top}
+use Rattle.walk_items.specs.Stand.{top_of}
+use Rattle.par_parts.proofs.terrain.Terrain.item_count.Goals as goal
+
+pub returns : goal.returns
+returns g c =
+    let d = g.S.Shown.design c.args.self.now.ground.design in
+    c.count_top.ensures (top_of d) c.requires.top_is
+    ∙ ap (λ v. min (length (items_under d (top_of d) [] v)) (2 ^ 64 - 1)) (sym c.requires.top_is)
+    ∙ ap (λ v. min (length v) (2 ^ 64 - 1)) (sym (flattening_is_under_top d (top_of d) c.requires.ground.top))

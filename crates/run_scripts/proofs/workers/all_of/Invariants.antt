@@ -1,6 +1,0 @@
-use Rattle.std.proofs.Common.{◌≡◌, map}
-use Rattle.std.specs.Prelude.{Ok}
-use Rattle.run_scripts.proofs.workers.all_of.Given as goal
-
-abbrev pub invariant-loop-tried : goal.invariant-loop-tried
-invariant-loop-tried l = map Ok l.all.items ≡ l.yielded

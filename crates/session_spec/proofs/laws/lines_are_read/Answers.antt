@@ -1,5 +1,0 @@
-use Rattle.session_spec.proofs.ReadLines as lemma
-use Rattle.session_spec.proofs.laws.lines_are_read.Goals as goal
-
-pub returns : goal.returns
-returns c = lemma.lines_are_read

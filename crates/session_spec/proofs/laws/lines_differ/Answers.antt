@@ -1,5 +1,0 @@
-use Rattle.session_spec.proofs.ReadLines as lemma
-use Rattle.session_spec.proofs.laws.lines_differ.Goals as goal
-
-pub returns : goal.returns
-returns c = lemma.lines_differ

@@ -1,5 +1,0 @@
-use Rattle.session_spec.proofs.OneScript as lemma
-use Rattle.session_spec.proofs.laws.one_script.Goals as goal
-
-pub returns : goal.returns
-returns c = lemma.one_script

@@ -1,5 +1,0 @@
-use Rattle.session_spec.proofs.OneStep as lemma
-use Rattle.session_spec.proofs.laws.one_step.Goals as goal
-
-pub returns : goal.returns
-returns c = lemma.one_step

@@ -1,5 +1,0 @@
-use Rattle.session_spec.proofs.BadLines as lemma
-use Rattle.session_spec.proofs.worked.bad_lines.Goals as goal
-
-pub returns : goal.returns
-returns c = lemma.have_bad_lines

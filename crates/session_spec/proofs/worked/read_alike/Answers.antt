@@ -1,5 +1,0 @@
-use Rattle.session_spec.proofs.ReadAlike as lemma
-use Rattle.session_spec.proofs.worked.read_alike.Goals as goal
-
-pub returns : goal.returns
-returns c = lemma.read_alike

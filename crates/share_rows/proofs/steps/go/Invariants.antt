@@ -1,6 +1,0 @@
-use Rattle.share_rows.specs.Callers.{GoesTo}
-use Rattle.share_rows.proofs.steps.go.Given as goal
-
--- the pass is ready, and has its number
-abbrev pub invariant-loop-one : goal.invariant-loop-one
-invariant-loop-one g l = GoesTo l.db l.initial.caller.pass l.caller.pass l.caller.tx

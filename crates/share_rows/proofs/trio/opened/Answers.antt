@@ -1,5 +1,0 @@
-use Rattle.share_rows.proofs.Trios.{opened}
-use Rattle.share_rows.proofs.trio.opened.Goals as goal
-
-pub returns : goal.returns
-returns c = opened c.args.design c.in-Ok.db c.in-Ok.passes.items c.in_ok-first.first c.in_ok-first.second c.in_ok-first.idle c.in-Ok.ensures (c.in_ok-first.ensures c.in-Ok.ensures.many)

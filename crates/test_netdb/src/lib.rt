@@ -1,0 +1,21 @@
+//! The worked rows of the program, run on its top call over files and a sink in memory.
+#![tactic(auto)]
+
+#[cfg(test)]
+mod arrays;
+#[cfg(test)]
+mod calls;
+#[cfg(test)]
+mod eco;
+#[cfg(test)]
+mod eco_texts;
+#[cfg(test)]
+mod further;
+#[cfg(test)]
+mod generated;
+#[cfg(test)]
+mod rows;
+#[cfg(test)]
+mod runs;
+#[cfg(test)]
+mod texts;

@@ -1,0 +1,10 @@
+//! A design with nothing but its top and the cells below it.
+#![tactic(auto)]
+
+mod cells;
+pub mod error;
+pub mod keep;
+mod places;
+
+pub use error::KeepError;
+pub use keep::keep_used;

@@ -1,0 +1,9 @@
+//! The uses of a design, as lines on their way to a sink.
+#![tactic(auto)]
+
+mod lines;
+mod names;
+pub mod write;
+
+pub use netdb_outside::WriteError;
+pub use write::write_uses;

@@ -1,0 +1,7 @@
+//! What holds of a history that is replayed. A law is what a function without parameters ensures; there is nothing to run.
+ghost use Rattle.used_replay.specs.Replayed.{ReplayedIsLast};
+
+/// The accepted commits of a history, done again on its opening design, come to the design of its last version.
+pub fn replayed_is_last()
+    ensures { ReplayedIsLast }
+{}

@@ -1,0 +1,6 @@
+pub mod ExampleUsed
+pub mod Kept
+pub mod Laws
+pub mod Lines
+pub mod Named
+pub mod Uses
