@@ -1,5 +1,5 @@
 //! What is written of a design, of a run and of a generated run.
-ghost use Rattle.std.specs.Prelude.{◌≡◌, ◌≤◌, ◌↔◌, IsTrue, length};
+ghost use Rattle.std.specs.Prelude.{◌≡◌, ◌≤◌, ◌↔◌, IsTrue, None, false, length};
 ghost use Rattle.std.specs.List.{list_any};
 ghost use Rattle.edif_spec.specs.Arranged.{canonical_text};
 ghost use Rattle.script_spec.specs.Headline.{CanWalk, SomeWalks};
@@ -169,6 +169,17 @@ fn some_walks(scripts: &[Script]) -> bool
     one_walks(scripts)
 }
 
+/// Whether scripts want a top that a design lacks: one of them walks, and there is none.
+fn lacks_top(design: &Design, scripts: &[Script]) -> bool
+    ensures lacks { IsTrue result → SomeWalks (all_steps scripts.now) × (design.now.top ≡ None) }
+    ensures has { result ≡ false → CanWalk design.now (all_steps scripts.now) }
+{
+    if some_walks(scripts) {
+        return design.top().is_none();
+    }
+    false
+}
+
 /// Runs scripts on a design, and writes the report.
 fn report<R: Threads + Wait + Sync, K: Sink, G: Gate + Sync>(
     rt: &R,
@@ -204,10 +215,8 @@ pub fn write_report<R: Threads + Wait + Sync, K: Sink, G: Gate + Sync>(
     ensures gives { RunGives design (all_steps scripts.now) (K.written out.old) (K.written out.new) result }
     ensures counts { CountsWriting (K.faults out.old) (K.faults out.new) result }
 {
-    if some_walks(scripts) {
-        if design.top().is_none() {
-            return Status::NoTop;
-        }
+    if lacks_top(&design, scripts) {
+        return Status::NoTop;
     }
     report(rt, alloc, design, scripts, gate, out)
 }
@@ -247,10 +256,8 @@ pub fn write_with_uses<R: Threads + Wait + Sync, K: Sink, G: Gate + Sync>(
     ensures gives { UsesGive design (all_steps scripts.now) (K.written out.old) (K.written out.new) result }
     ensures counts { CountsWriting (K.faults out.old) (K.faults out.new) result }
 {
-    if some_walks(scripts) {
-        if design.top().is_none() {
-            return Status::NoTop;
-        }
+    if lacks_top(&design, scripts) {
+        return Status::NoTop;
     }
     report_uses(rt, alloc, design, scripts, gate, out)
 }

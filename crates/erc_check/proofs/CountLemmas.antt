@@ -9,7 +9,7 @@ use Rattle.flat_spec.specs.declared.item.Item.TheVariants.{Pin}
 use Rattle.erc_spec.specs.Drives.{direction_at, is_at, is_either, is_strong, is_strong_port, is_weak}
 use Rattle.erc_spec.specs.Findings.{capped, is_driven, strong_pins}
 use Rattle.erc_spec.proofs.NoDriver.{no_strong}
-use Rattle.erc_check.specs.Drives.{one_more}
+use Rattle.erc_check.specs.Firsts.{one_more}
 use Rattle.erc_check.specs.Tally.{drive, drive_by}
 
 capped-one : (n : ℕ) → capped (capped n + 1) ≡ capped (n + 1)

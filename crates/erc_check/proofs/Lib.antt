@@ -1,4 +1,6 @@
 mod CountLemmas
+mod FirstLemmas
+mod FrontLemmas
 mod LeftLemmas
-mod TableLemmas
+mod OrderLemmas
 mod TallyLemmas

@@ -1,2 +1,3 @@
-pub mod Drives
+pub mod Firsts
+pub mod Front
 pub mod Tally

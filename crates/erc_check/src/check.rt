@@ -1,6 +1,7 @@
 //! The electrical check.
 ghost use Rattle.std.specs.Prelude.{◌≡◌, ◌↔◌, Err, IfOk, None, OnOk, false};
 ghost use Rattle.erc_spec.specs.Findings.{findings, findings_in};
+ghost use Rattle.erc_check.specs.Front.{IsFront};
 ghost use Rattle.erc_check.specs.Tally.{AddsAll, AddsFirst, AddsNext};
 
 use crate::tally::Tally;
@@ -11,16 +12,20 @@ use std::alloc::Global;
 
 /// What an electrical check finds in a design: first, for each net that is the first of those connected with it, in order, whether no pin
 /// drives it, or several do strongly; then, in order, each input of a leaf below the top that no net joins. An input of the top drives
-/// strongly, and so does an output of a leaf below it; a pin that leads both ways or has no direction drives, but not strongly. `NoTop`
-/// comes exactly where the design has no top.
+/// strongly, and so does an output of a leaf below it; a pin that leads both ways or has no direction drives, but not strongly.
 ///
-/// It makes one walk. Beside it, for each pin it goes along the steps of its path and looks up the path of a net. It takes memory as a
-/// walk does, and for each net that is its own first, for each occurrence that has such a net at a pin with the nets of its contents,
-/// and for what is found.
+/// `WalkError` is the one error of all calls that walk a whole design: `NoTop` comes exactly where the design has no top, and the other is
+/// want of memory.
+///
+/// It makes one walk. Beside it, for each pin that drives a net it looks for that net among those that are their own first, in as many
+/// steps as the logarithm of their number. It takes memory as a walk does, for each net that is its own first, and for what is found.
 pub fn erc_check<S: Shown>(alloc: Global, design: &S) -> Result<Row<Finding>, WalkError>
     ensures found { IfOk result (λ found. found ≡ findings (S.design design.now)) }
     ensures no_top { (result ≡ Err WalkError.NoTop) ↔ ((S.design design.now).top ≡ None) }
 {
+    let Some(_) = design.top() else {
+        return Err(WalkError::NoTop);
+    };
     match Walk::new(alloc, design) {
         Ok(mut walk) => match check_left(alloc, design, &mut walk) {
             Ok(found) => Ok(found),
@@ -37,7 +42,7 @@ fn check_left<S: Shown, W: Shown + Drop>(
     design: &S,
     walk: &mut Walk<W>,
 ) -> Result<Row<Finding>, NoMemory>
-    ensures { IfOk result (λ found. found ≡ findings_in (S.design design.now) walk.old.left) }
+    ensures { IfOk result (λ found. IsFront (S.design design.now) walk.old.left → found ≡ findings_in (S.design design.now) walk.old.left) }
 {
     let mut tally = Tally::new(alloc);
     add_left(alloc, design, walk, &mut tally)?;

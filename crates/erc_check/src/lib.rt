@@ -2,7 +2,7 @@
 #![tactic(auto)]
 
 pub mod check;
-mod drives;
+mod firsts;
 mod ports;
 mod tally;
 

@@ -1,18 +1,15 @@
 //! The ports of pins.
 ghost use Rattle.std.specs.Prelude.{◌≡◌};
-ghost use Rattle.erc_spec.specs.Drives.{direction_at, is_either, is_input, is_open_port, is_output, is_strong_port};
+ghost use Rattle.erc_check.specs.Front.{direction_in};
+ghost use Rattle.erc_spec.specs.Drives.{is_either, is_input, is_open_port, is_output, is_strong_port};
 
-use flat_lookup::cell_along;
-use netlist_schema::{Direction, Shown};
+use netlist_schema::{CellId, Direction, Shown};
 
-/// The direction of a port of the occurrence at a path: none where there is no such port, or it has none. Takes no memory.
-pub fn direction_at<S: Shown>(design: &S, path: &[u32], port: u32) -> Option<Direction>
-    ensures { result ≡ direction_at (S.design design.now) path.now port }
+/// The direction of a port of a cell: none where there is no such cell or port, or it has none. Takes no memory.
+pub fn direction_in<S: Shown>(design: &S, cell: Option<CellId>, port: u32) -> Option<Direction>
+    ensures { result ≡ direction_in (S.design design.now) cell port }
 {
-    let Some(top) = design.top() else {
-        return None;
-    };
-    let Some(cell) = cell_along(design, top.cell, path) else {
+    let Some(cell) = cell else {
         return None;
     };
     let Some(body) = design.cell(cell) else {

@@ -1,31 +1,33 @@
 //! `Tally`: what a check has seen of a flattening.
-ghost use Rattle.std.specs.Prelude.{◌≡◌, ◌++◌, ◌∷◌, [], List, IfOk, OnOk, if◌then◌else◌};
-ghost use Rattle.std.specs.List.{flat_map};
-ghost use Rattle.std.specs.Option.{option_to_list};
+ghost use Rattle.std.specs.Prelude.{◌≡◌, ◌++◌, ◌∷◌, [], ℕ, List, IfOk, None, OnOk, Option as Perhaps, if◌then◌else◌, map};
+ghost use Rattle.std.specs.List.{AllPairs, Contains, flat_map};
 ghost use Rattle.netlist_schema.specs.Design.{Design as Parts};
 ghost use Rattle.flat_spec.specs.ConnectionTest.{same_net};
+ghost use Rattle.flat_spec.specs.PathOrder.{NetBefore};
 ghost use Rattle.flat_spec.specs.Paths.{at_path};
 ghost use Rattle.flat_spec.specs.Types.{Item as Shows, NetAt as Place};
 ghost use Rattle.walk_items.specs.Lent.{item_of, net_of};
 ghost use Rattle.erc_spec.specs.Drives.{is_open_port};
-ghost use Rattle.erc_spec.specs.Findings.{findings_in};
-ghost use Rattle.erc_check.specs.Drives.{drive_in, net_found};
+ghost use Rattle.erc_spec.specs.Findings.{findings_in, first_net};
+ghost use Rattle.erc_check.specs.Firsts.{first_found, with_note};
 ghost use Rattle.erc_check.specs.Tally.{AddsAll, IsTally, drive_by};
 
-use crate::drives::Drives;
-use crate::ports::{direction_at, is_either, is_open_port, is_strong_port};
+use crate::firsts::{FirstNet, add_pin};
+use crate::ports::{direction_in, is_either, is_open_port, is_strong_port};
 use erc_spec::Finding;
-use flat_spec::{NetAt, Path};
-use netlist_schema::{Direction, NoMemory, Row, Shown};
+use flat_spec::{Item, Path};
+use netlist_schema::{CellId, Direction, NoMemory, Row, Shown};
 use std::alloc::Global;
 use walk_items::{ItemRef, NetRef};
 
 /// What a check has seen of a flattening so far.
 pub struct Tally {
+    /// The cell of the occurrence that was entered last, whose nets and pins come next.
+    cell: Option<CellId>,
     /// The nets that are the first of those connected with them, in order.
-    firsts: Vec<NetAt>,
-    /// How pins drive them.
-    drives: Drives,
+    firsts: Vec<FirstNet>,
+    /// Where among them those of the last occurrence begin. Only time depends on it.
+    near: usize,
     /// What is found of pins, in order.
     pins: Vec<Finding>,
 }
@@ -33,8 +35,9 @@ pub struct Tally {
 impl Drop for Tally {
     fn drop(self) {
         let Tally {
+            cell: _,
             firsts: _,
-            drives: _,
+            near: _,
             pins: _,
         } = self;
     }
@@ -46,8 +49,9 @@ impl Tally {
         ensures { (d : Parts) → IsTally d [] result }
     {
         Tally {
+            cell: None,
             firsts: Vec::new(alloc),
-            drives: Drives::new(alloc),
+            near: 0,
             pins: Vec::new(alloc),
         }
     }
@@ -62,10 +66,14 @@ impl Tally {
         ensures { OnOk result (AddsAll (S.design design.now) (item_of item.entry ∷ []) self.old self.new) }
     {
         match item {
-            ItemRef::Enter { .. } => Ok(()),
+            ItemRef::Enter { cell, .. } => {
+                self.cell = Some(cell);
+                Ok(())
+            }
             ItemRef::Net { path, net, first } => add_first(
                 alloc,
                 &mut self.firsts,
+                &mut self.near,
                 path,
                 net,
                 first,
@@ -76,9 +84,12 @@ impl Tally {
                 bit,
                 first,
             } => {
-                let direction = direction_at(design, path, port);
+                let direction = direction_in(design, self.cell, port);
                 match first {
-                    Some(at) => add_drive(alloc, &mut self.drives, path, direction, at),
+                    Some(at) => {
+                        add_drive(&mut self.firsts, self.near, path, direction, at);
+                        Ok(())
+                    }
                     None => add_open(alloc, &mut self.pins, path, direction, port, bit),
                 }
             }
@@ -90,11 +101,12 @@ impl Tally {
         ensures { IfOk result (λ found. (d : Parts) (items : List Shows) → IsTally d items self → found ≡ findings_in d items) }
     {
         let Tally {
+            cell: _,
             firsts,
-            drives,
+            near: _,
             mut pins,
         } = self;
-        let mut found = net_findings(alloc, firsts, &drives)?;
+        let mut found = net_findings(alloc, firsts)?;
         found.append(&mut pins)?;
         Ok(Row::of(found))
     }
@@ -107,39 +119,55 @@ fn is_own_first(path: &[u32], net: u32, first: NetRef<'_>) -> bool
     path == first.path && net == first.net
 }
 
-/// Adds a net, where it is its own first.
+/// Where the first nets of the occurrence at the path begin, the next of which is to come behind these.
+fn first_near(firsts: &[FirstNet], near: usize, path: &[u32]) -> usize {
+    match firsts.last() {
+        Some(last) => {
+            if last.at.path.as_slice() == path {
+                return near;
+            }
+            firsts.len()
+        }
+        None => 0,
+    }
+}
+
+/// Adds a net, where it is its own first. No pin that was seen drives it.
 fn add_first(
     alloc: Global,
-    firsts: &mut Vec<NetAt>,
+    firsts: &mut Vec<FirstNet>,
+    near: &mut usize,
     path: &[u32],
     net: u32,
     first: NetRef<'_>,
 ) -> Result<(), NoMemory>
-    ensures { OnOk result (firsts.new.items ≡ firsts.old.items ++ (if same_net (at_path path.now net) (net_of first.entry) then net_of first.entry ∷ [] else [])) }
+    ensures { OnOk result (firsts.new.items ≡ firsts.old.items ++ map (with_note (λ x. None)) (first_net (Item.Net path.now net (net_of first.entry)))) }
 {
     if is_own_first(path, net, first) {
-        firsts.push(first.made(alloc)?)?;
+        *near = first_near(firsts, *near, path);
+        let at = first.made(alloc)?;
+        firsts.push(FirstNet { at, drive: None })?;
     }
     Ok(())
 }
 
-/// Adds a pin at a net, where it drives the net.
+/// Adds a pin at a net, where it drives the net. Takes no memory.
 fn add_drive(
-    alloc: Global,
-    drives: &mut Drives,
+    firsts: &mut [FirstNet],
+    near: usize,
     path: &[u32],
     direction: Option<Direction>,
     at: NetRef<'_>,
-) -> Result<(), NoMemory>
-    ensures { OnOk result ((x : Place) → drive_in drives.new x ≡ drive_by path.now direction (net_of at.entry) x (drive_in drives.old x)) }
+)
+    ensures { (nets : List Place) (drives : Place → Perhaps ℕ) → AllPairs NetBefore nets → Contains nets (net_of at.entry)
+        → firsts.old ≡ map (with_note drives) nets
+        → firsts.new ≡ map (with_note (λ x. drive_by path.now direction (net_of at.entry) x (drives x))) nets }
 {
     if is_strong_port(path, direction) {
-        return drives.add(alloc, at, true);
+        add_pin(firsts, near, at, true);
+    } else if is_either(direction) {
+        add_pin(firsts, near, at, false);
     }
-    if is_either(direction) {
-        return drives.add(alloc, at, false);
-    }
-    Ok(())
 }
 
 /// Adds a pin that no net joins, where it is an input of a leaf below the top.
@@ -160,32 +188,13 @@ fn add_open(
     Ok(())
 }
 
-/// What is found of a net.
-fn net_finding(drives: &Drives, at: NetAt) -> Option<Finding>
-    ensures { option_to_list result ≡ net_found (drive_in drives.now at) at }
-{
-    match drives.find(&at) {
-        None => Some(Finding::Undriven { at }),
-        Some(strong) => {
-            if strong < 2 {
-                return None;
-            }
-            Some(Finding::Many { at, strong })
-        }
-    }
-}
-
-/// What is found of nets.
-fn net_findings(
-    alloc: Global,
-    firsts: Vec<NetAt>,
-    drives: &Drives,
-) -> Result<Vec<Finding>, NoMemory>
-    ensures { IfOk result (λ found. found.items ≡ flat_map (λ x. net_found (drive_in drives.now x) x) firsts.items) }
+/// What is found of first nets.
+fn net_findings(alloc: Global, firsts: Vec<FirstNet>) -> Result<Vec<Finding>, NoMemory>
+    ensures { IfOk result (λ found. found.items ≡ flat_map first_found firsts.items) }
 {
     let mut found = Vec::new(alloc);
-    for at in firsts {
-        if let Some(finding) = net_finding(drives, at) {
+    for first in firsts {
+        if let Some(finding) = first.found() {
             found.push(finding)?;
         }
     }

@@ -1,6 +1,7 @@
-mod ItemLemmas
+pub mod ItemLemmas
 mod ManyLemmas
-mod MemberLemmas
+pub mod MemberLemmas
 pub mod NoDriver
-mod PinOrder
-mod ToldLemmas
+pub mod OpenLemmas
+pub mod PinOrder
+pub mod ToldLemmas

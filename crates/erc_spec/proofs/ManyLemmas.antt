@@ -9,23 +9,22 @@ use Rattle.netlist_schema.specs.Types.{TopHead}
 use Rattle.netlist_schema.specs.Valid.{IsValid}
 use Rattle.flat_spec.specs.ConnectionTest.{same_net}
 use Rattle.flat_spec.specs.Flattening.{flattening}
-use Rattle.flat_spec.specs.Occurrences.{occurrences}
 use Rattle.flat_spec.specs.Paths.{Bit, IsNet}
 use Rattle.flat_spec.specs.Representatives.{representative}
 use Rattle.flat_spec.specs.Types.{Item, NetAt}
 use Rattle.flat_spec.specs.declared.item.Item.TheVariants.{Enter, Net, Pin}
 use Rattle.flat_spec.proofs.ListLemmas.{Ascends, Ascends-pairs, Contains-member, Member, Member-append_cases, Member-append_left, Member-contains}
-use Rattle.flat_spec.proofs.OccurrenceLemmas.{OccurrenceBefore, occurrences_are_all}
 use Rattle.flat_spec.proofs.PinLemmas.{AllPairs-ascends}
 use Rattle.flat_spec.proofs.TestLemmas.{same_net-refl}
 use Rattle.erc_spec.specs.Drives.{direction_at, is_at, is_open_port, is_strong, is_strong_port}
 use Rattle.erc_spec.specs.Findings.{capped, findings, findings_in, first_nets, is_driven, net_finding, pin_finding, strong_pins}
-use Rattle.erc_spec.specs.Told.{AreStrongPins, IsStrongPin}
+use Rattle.erc_spec.specs.Told.{AreStrongPins, IsStrongPin, PinBefore}
 use Rattle.erc_spec.specs.declared.finding.Finding.TheVariants.{Undriven, Many, Open}
-use Rattle.erc_spec.proofs.ItemLemmas.{first_net_from, flat}
+use Rattle.erc_spec.proofs.ItemLemmas.{first_net_from}
 use Rattle.erc_spec.proofs.MemberLemmas.{Member-flat_map, Member-from_flat_map}
 use Rattle.erc_spec.proofs.NoDriver.{no_strong}
-use Rattle.erc_spec.proofs.PinOrder.{Ascends-weaker, no_longer, part, part-ascends, part-member, pin_at, PinBefore, PinBefore-differ, pins-ascend}
+use Rattle.erc_spec.proofs.OpenLemmas.{all_pins-ascend}
+use Rattle.erc_spec.proofs.PinOrder.{Ascends-weaker, no_longer, part, part-ascends, part-member, pin_at, PinBefore-differ}
 use Rattle.erc_spec.proofs.ToldLemmas.{is_first, lead_of_pin, pin_of_lead}
 
 module _ (d : Design) (items : List Item) where
@@ -99,16 +98,11 @@ module _ (d : Design) (top : TopHead) (valid : IsValid d) (is : d.top ≡ Some t
   abbrev pub all_strong : List (List ℕ × Bit)
   all_strong = strong_list d (representative d top.cell x) (flattening d)
 
-  all-ascend : Ascends PinBefore (flat_map pin_at (flattening d))
-  all-ascend =
-      subst (λ items. Ascends PinBefore (flat_map pin_at items)) (sym (flat d top is))
-      (pins-ascend d top (occurrences d top.cell) (AllPairs-ascends OccurrenceBefore (occurrences d top.cell) (occurrences_are_all d top.cell valid.no_cycle).in_order))
-
   strong-differ : Ascends (λ p q. p ≢ q) all_strong
   unfolding strong_list
   strong-differ =
       Ascends-weaker PinBefore (λ p q. p ≢ q) all_strong PinBefore-differ
-      (part-ascends PinBefore pin_at (is_strong_at d (representative d top.cell x)) (flattening d) all-ascend)
+      (part-ascends PinBefore pin_at (is_strong_at d (representative d top.cell x)) (flattening d) (all_pins-ascend d top valid is))
 
   strong_from : (path : List ℕ) (b : Bit) → IsStrongPin d top.cell x (path, b) → Member all_strong (path, b)
   unfolding strong_list

@@ -1,5 +1,5 @@
 -- The pins of a flattening are in order, so each comes once; and those that pass a test are too.
-use Rattle.std.proofs.Common.{◌≡◌, ◌≢◌, ◌⊎◌, ℕ, ◌+◌, ◌<◌, ◌≤◌, List, [], ◌∷◌, ◌++◌, map, length, Bool, true, false, cond, Option, Some, None, refl, sym, ap, subst, ◌∙◌, inl, inr, arith}
+use Rattle.std.proofs.Common.{◌≡◌, ◌≢◌, ℕ, ◌+◌, ◌<◌, ◌≤◌, List, [], ◌∷◌, ◌++◌, map, length, Bool, true, false, cond, Option, Some, None, refl, sym, ap, subst, ◌∙◌, inl, inr, arith}
 use Rattle.std.specs.Prelude.{is_none}
 use Rattle.std.specs.List.{flat_map, range_with_len}
 use Rattle.std.specs.Option.{option_map_or}
@@ -17,16 +17,8 @@ use Rattle.flat_spec.proofs.BitLemmas.{bits_from, bits_in}
 use Rattle.flat_spec.proofs.ListLemmas.{Ascends, Ascends-append, Ascends-map, Member, Member-append_cases, Member-append_left, Member-append_right, Member-from_map, without}
 use Rattle.flat_spec.proofs.OccurrenceLemmas.{OccurrenceBefore, range_with_len-ascends}
 use Rattle.flat_spec.proofs.RepresentativeLemmas.{PathBefore-not_both}
-use Rattle.erc_spec.specs.Told.{pin_bits}
+use Rattle.erc_spec.specs.Told.{BitBefore, pin_bits, PinBefore}
 use Rattle.erc_spec.proofs.MemberLemmas.{Member-flat_map, Member-from_flat_map}
-
--- by port, and within one by bit
-abbrev pub BitBefore : Bit → Bit → Type 0
-BitBefore a b = (a.port < b.port) ⊎ ((a.port ≡ b.port) × (a.bit < b.bit))
-
--- by occurrence, and within one by bit
-abbrev pub PinBefore : List ℕ × Bit → List ℕ × Bit → Type 0
-PinBefore p q = PathBefore p.0 q.0 ⊎ ((p.0 ≡ q.0) × BitBefore p.1 q.1)
 
 pub PinBefore-differ : (p q : List ℕ × Bit) → PinBefore p q → p ≢ q
 PinBefore-differ p q before same = not_itself p (subst (λ (v : List ℕ × Bit). PinBefore p v) (sym same) before)
@@ -121,6 +113,16 @@ module _ (d : Design) (top : TopHead) where
       let before : PathBefore o.path q.0 = subst (λ v. PathBefore o.path v) later.2 (h.0 later.0 later.1) in
       inl (subst (λ v. PathBefore v q.0) (pin_path o p here) before)))
 
+-- two parts of a list in order
+pub ascends_parts : {B : Type 0} (R : B → B → Type 0) (xs ys : List B) → Ascends R (xs ++ ys) → Ascends R xs × Ascends R ys × ((x y : B) → Member xs x → Member ys y → R x y)
+ascends_parts R [] ys h = (tt, h, λ x y m k. absurd m)
+ascends_parts R (v ∷ xs) ys h =
+    let rest = ascends_parts R xs ys h.1 in (
+      (λ y m. h.0 y (Member-append_left xs ys y m), rest.0),
+      rest.1,
+      λ x y m k. elim m [ inl same ↦ subst (λ w. R w y) same (h.0 y (Member-append_right xs ys y k)) | inr there ↦ rest.2 x y there k ],
+    )
+
 -- the part of a list in order that passes a test is in order
 module _ {A B : Type 0} (R : B → B → Type 0) (f : A → List B) (test : A → Bool) where
   abbrev pub part : A → List B
@@ -133,19 +135,10 @@ module _ {A B : Type 0} (R : B → B → Type 0) (f : A → List B) (test : A �
       by x at true is here = (x, at, is, here)
       by x at false is here = absurd here
 
-  ascends_parts : (xs ys : List B) → Ascends R (xs ++ ys) → Ascends R xs × Ascends R ys × ((x y : B) → Member xs x → Member ys y → R x y)
-  ascends_parts [] ys h = (tt, h, λ x y m k. absurd m)
-  ascends_parts (v ∷ xs) ys h =
-      let rest = ascends_parts xs ys h.1 in (
-        (λ y m. h.0 y (Member-append_left xs ys y m), rest.0),
-        rest.1,
-        λ x y m k. elim m [ inl same ↦ subst (λ w. R w y) same (h.0 y (Member-append_right xs ys y k)) | inr there ↦ rest.2 x y there k ],
-      )
-
   pub part-ascends : (xs : List A) → Ascends R (flat_map f xs) → Ascends R (flat_map part xs)
   part-ascends [] h = tt
   part-ascends (x ∷ xs) h =
-      let all = ascends_parts (f x) (flat_map f xs) h in
+      let all = ascends_parts R (f x) (flat_map f xs) h in
       Ascends-append R (part x) (flat_map part xs) (here (test x) all.0) (part-ascends xs all.1)
       (λ y z m k. let found = part-member xs z k in all.2 y z (front (test x) y m) (Member-flat_map f xs found.0 z found.1 found.3))
     where

@@ -158,7 +158,7 @@ module _ (d : Design) (items : List Item) where
       (Member-flat_map (pin_finding d) items (Pin path port bit None) (Open path port bit) m
       (subst (λ b. Member (cond b (Open path port bit ∷ []) []) (Open path port bit)) (sym is) (inl refl)))
 
-joins_net : (d : Design) (root : CellId) (x : NetAt) (path : List ℕ) (b : Bit) → JoinsPin d root x path b → IsNet d root x
+pub joins_net : (d : Design) (root : CellId) (x : NetAt) (path : List ℕ) (b : Bit) → JoinsPin d root x path b → IsNet d root x
 joins_net d root x [] b j = Joins-net d root x (own b) j.1
 joins_net d root x (i ∷ path) b j = Joins-net d root x (on j.0 b) j.2
 

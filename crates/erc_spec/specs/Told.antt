@@ -1,5 +1,5 @@
 -- What holds of findings, in the words of the hierarchy: of pins, of the nets that join them, and of connection.
-use Rattle.std.specs.Prelude.{◌≡◌, ◌↔◌, ◌<◌, ℕ, List, [], ◌∷◌, length, true, ◌||◌, Some}
+use Rattle.std.specs.Prelude.{◌≡◌, ◌↔◌, ◌<◌, ◌⊎◌, ℕ, List, [], ◌∷◌, length, true, ◌||◌, Some}
 use Rattle.std.specs.List.{AllPairs, Contains, flat_map}
 use Rattle.std.specs.Option.{option_map_or}
 use Rattle.netlist_schema.specs.Design.{Design, cell_at}
@@ -7,7 +7,7 @@ use Rattle.netlist_schema.specs.Names.{AreDistinct}
 use Rattle.netlist_schema.specs.Types.{CellId, TopHead}
 use Rattle.netlist_schema.specs.Valid.{IsValid}
 use Rattle.flat_spec.specs.Connection.{Connected}
-use Rattle.flat_spec.specs.PathOrder.{NetBefore}
+use Rattle.flat_spec.specs.PathOrder.{NetBefore, PathBefore}
 use Rattle.flat_spec.specs.Paths.{Bit, Reaches, IsNet}
 use Rattle.flat_spec.specs.Pins.{JoinsPin, shown_bits}
 use Rattle.flat_spec.specs.Representatives.{representative}
@@ -95,3 +95,29 @@ IsFirst d root x = IsNet d root x × (representative d root x ≡ x)
 abbrev pub ToldNetsAreThere : Type 0
 ToldNetsAreThere = (d : Design) (top : TopHead) (x : NetAt) → IsValid d → d.top ≡ Some top
     → Contains (flat_map told_net (findings d)) x → IsFirst d top.cell x
+
+-- by port, and within one by bit
+abbrev pub BitBefore : Bit → Bit → Type 0
+BitBefore a b = (a.port < b.port) ⊎ ((a.port ≡ b.port) × (a.bit < b.bit))
+
+-- by occurrence, and within one by bit
+abbrev pub PinBefore : List ℕ × Bit → List ℕ × Bit → Type 0
+PinBefore p q = PathBefore p.0 q.0 ⊎ ((p.0 ≡ q.0) × BitBefore p.1 q.1)
+
+-- the pin of a finding
+abbrev pub told_pin : Finding → List (List ℕ × Bit)
+told_pin (Undriven x) = []
+told_pin (Many x strong) = []
+told_pin (Open path port bit) = (path, record { port = port; bit = bit }) ∷ []
+
+-- the pins that are told to be open are in order, so none is told twice
+abbrev pub PinsAreToldInOrder : Type 0
+PinsAreToldInOrder = (d : Design) (top : TopHead) → IsValid d → d.top ≡ Some top → AllPairs PinBefore (flat_map told_pin (findings d))
+
+-- of two findings, the second told behind the first, the first is of a net or the second of a pin
+abbrev pub NetComesFirst : Finding → Finding → Type 0
+NetComesFirst f g = (told_pin f ≡ []) ⊎ (told_net g ≡ [])
+
+-- no net is told behind a pin
+abbrev pub PinsAreToldLast : Type 0
+PinsAreToldLast = (d : Design) → AllPairs NetComesFirst (findings d)

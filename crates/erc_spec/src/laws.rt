@@ -5,7 +5,7 @@ ghost use Rattle.erc_spec.specs.ExampleLevels.{LevelsAreFound, LevelsAreTold};
 ghost use Rattle.erc_spec.specs.ExamplePorts.{PortsAreFound};
 ghost use Rattle.erc_spec.specs.ExampleWeak.{NothingIsFoundInWeak};
 ghost use Rattle.erc_spec.specs.Examples.{BoardIsFound, BoardIsTold, CounterIsTold, NothingIsFoundInCounter};
-ghost use Rattle.erc_spec.specs.Told.{ManyIsExact, NetsAreToldInOrder, OpenIsExact, StrongPinsCanBeListed, ToldNetsAreThere, UndrivenIsExact};
+ghost use Rattle.erc_spec.specs.Told.{ManyIsExact, NetsAreToldInOrder, OpenIsExact, PinsAreToldInOrder, PinsAreToldLast, StrongPinsCanBeListed, ToldNetsAreThere, UndrivenIsExact};
 
 /// Of the nets connected with a net the first is told to be undriven exactly where none of them joins a pin that drives.
 pub fn undriven_is_exact()
@@ -22,6 +22,12 @@ pub fn many_is_exact()
 /// A pin is told to be open exactly where it is an input of a leaf below the top, and no net joins it.
 pub fn open_is_exact()
     ensures { OpenIsExact }
+{}
+
+/// The pins that are told to be open are told in order, so each once at most, and behind all nets.
+pub fn open_pins_are_told_in_order()
+    ensures in_order { PinsAreToldInOrder }
+    ensures behind { PinsAreToldLast }
 {}
 
 /// The nets of findings are there, and each is the first of those connected with it; they are told in order, so each once at most.

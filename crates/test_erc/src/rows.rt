@@ -1,6 +1,6 @@
 //! The worked designs.
 use crate::checks::{check_full, check_row};
-use crate::designs::{CLASH, COUNTER, EMPTY, FEEDTHROUGH, LEVELS, PADS};
+use crate::designs::{BOXES, CLASH, COUNTER, EMPTY, FEEDTHROUGH, LEAF, LEVELS, PADS, TOWER};
 use std::test::Fail;
 
 #[test]
@@ -26,6 +26,21 @@ fn outputs_clash_and_an_input_is_open(rt: HostRuntime) -> Result<(), Fail> {
 #[test]
 fn drivers_are_counted_on_all_levels(rt: HostRuntime) -> Result<(), Fail> {
     check_row(&rt, rt.alloc(), &LEVELS)
+}
+
+#[test]
+fn boxes_without_anything_in_them_drive_nothing(rt: HostRuntime) -> Result<(), Fail> {
+    check_row(&rt, rt.alloc(), &BOXES)
+}
+
+#[test]
+fn pins_of_a_leaf_at_the_top_are_not_told(rt: HostRuntime) -> Result<(), Fail> {
+    check_row(&rt, rt.alloc(), &LEAF)
+}
+
+#[test]
+fn drivers_before_and_behind_many_nets_are_counted(rt: HostRuntime) -> Result<(), Fail> {
+    check_row(&rt, rt.alloc(), &TOWER)
 }
 
 #[test]

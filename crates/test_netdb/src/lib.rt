@@ -6,6 +6,8 @@ mod arrays;
 #[cfg(test)]
 mod calls;
 #[cfg(test)]
+mod checks;
+#[cfg(test)]
 mod eco;
 #[cfg(test)]
 mod eco_texts;
