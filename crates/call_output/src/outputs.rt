@@ -17,7 +17,7 @@ use gen_run::summary;
 use netdb_outside::{Gate, Put, Sink, WriteError};
 use netdb_spec::Status;
 use netlist_schema::{Design, Shown};
-use par_writer::write_par_flat;
+use par_flat::write_par_flat;
 use run_uses::write_run_uses;
 use script_run_all::{RunEnd, write_run};
 use script_spec::{Script, Step};
@@ -87,18 +87,19 @@ fn write_used<K: Sink>(alloc: Global, design: &Design, out: &mut K) -> Status
 }
 
 /// Writes the items of the flattening of a design, which so many workers make.
-fn write_spread<R: Threads + Sync, K: Sink>(
+fn write_spread<R: Threads + Sync, G: Gate + Sync, K: Sink>(
     rt: &R,
     alloc: Global,
     design: &Design,
     workers: u32,
+    gate: &G,
     out: &mut K,
 ) -> Status
     requires { AreWorkers workers }
     ensures gives { OutputGives (Wanted.Spread workers) design.now (K.written out.old) (K.written out.new) result }
     ensures counts { CountsWriting (K.faults out.old) (K.faults out.new) result }
 {
-    match write_par_flat(rt, alloc, design, workers, out) {
+    match write_par_flat(rt, alloc, design, workers, gate, out) {
         Ok(()) => Status::Ok,
         Err(FlatError::NoTop) => Status::NoTop,
         Err(FlatError::WriteFault) => Status::WriteFault,
@@ -120,11 +121,12 @@ fn write_check<K: Sink>(alloc: Global, design: &Design, out: &mut K) -> Status
 }
 
 /// Writes what is wanted of a design.
-pub fn write_output<R: Threads + Sync, K: Sink>(
+pub fn write_output<R: Threads + Sync, G: Gate + Sync, K: Sink>(
     rt: &R,
     alloc: Global,
     design: &Design,
     wanted: Wanted,
+    gate: &G,
     out: &mut K,
 ) -> Status
     requires { IsGoodWanted wanted }
@@ -136,7 +138,7 @@ pub fn write_output<R: Threads + Sync, K: Sink>(
         Wanted::Items { limit } => write_items(alloc, design, limit, out),
         Wanted::Pins => write_pins(alloc, design, out),
         Wanted::Used => write_used(alloc, design, out),
-        Wanted::Spread { workers } => write_spread(rt, alloc, design, workers, out),
+        Wanted::Spread { workers } => write_spread(rt, alloc, design, workers, gate, out),
         Wanted::Findings => write_check(alloc, design, out),
     }
 }

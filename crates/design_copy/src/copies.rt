@@ -44,8 +44,8 @@ fn libs_of<S: Shown>(alloc: Global, design: &S) -> Result<Row<Lib>, NoMemory>
     Ok(Row::of(made))
 }
 
-/// A copy of the top, where there is one.
-fn top_of(alloc: Global, top: Option<&TopHead>) -> Result<Option<TopHead>, NoMemory>
+/// A copy of a top, where there is one. The one error is that an allocation was refused.
+pub fn top_of(alloc: Global, top: Option<&TopHead>) -> Result<Option<TopHead>, NoMemory>
     ensures { IfOk result (λ made. made ≡ option_copied top.entry) }
 {
     match top {

@@ -3,4 +3,4 @@
 
 pub mod copies;
 
-pub use copies::copy_of;
+pub use copies::{copy_of, top_of};

@@ -2,7 +2,8 @@
 ghost use Rattle.std.specs.Prelude.{◌≡◌, ◌≤◌, IfOk, OnErr, OnOk, IsErrOf};
 ghost use Rattle.netdb_outside.specs.declared.write_error.WriteError.TheVariants.{WriteFault};
 ghost use Rattle.netdb_outside.specs.Outside.{Appends, AppendsFront, Rose};
-ghost use Rattle.last_uses.specs.LastUses.{last_uses_text, last_version};
+ghost use Rattle.script_spec.specs.Report.{last_design};
+ghost use Rattle.last_uses.specs.LastUses.{last_uses_text};
 
 use design_copy::copy_of;
 use history_spec::Event;
@@ -19,7 +20,7 @@ fn last_watched<S: Shown>(
     opening: &S,
     history: &[Event],
 ) -> Result<Watched, NoMemory>
-    ensures { IfOk result (λ made. made.design ≡ last_version (S.design opening.now) history.now) }
+    ensures { IfOk result (λ made. made.design ≡ last_design (S.design opening.now) history.now) }
 {
     let design = copy_of(alloc, opening)?;
     let mut watched = Watched::new(alloc, design)?;

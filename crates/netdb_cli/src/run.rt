@@ -25,13 +25,14 @@ const RUN_WORD: u32 = 2;
 const CHECK_WORD: u32 = 3;
 
 /// Reads a design file, and writes what is wanted of its design.
-fn show_file<R: Threads + Sync, F: Files, K: Sink>(
+fn show_file<R: Threads + Sync, F: Files, K: Sink, G: Gate + Sync>(
     rt: &R,
     alloc: Global,
     name: &str,
     wanted: Wanted,
     files: &mut F,
     out: &mut K,
+    gate: &G,
 ) -> Status
     requires { IsGoodWanted wanted }
     ensures gives { Gives (Show name.now wanted) (F.told files.new) (K.written out.old) (K.written out.new) result }
@@ -40,7 +41,7 @@ fn show_file<R: Threads + Sync, F: Files, K: Sink>(
     ensures files { SameFiles (F.told files.old) (F.told files.new) }
 {
     match read_design(alloc, files, name) {
-        Ok(design) => write_output(rt, alloc, &design, wanted, out),
+        Ok(design) => write_output(rt, alloc, &design, wanted, gate, out),
         Err(status) => status,
     }
 }
@@ -215,7 +216,7 @@ fn run_command<R: Threads + Wait + Sync, F: Files, K: Sink, G: Gate + Sync>(
     ensures files { SameFiles (F.told files.old) (F.told files.new) }
 {
     match command {
-        Command::Show { name, wanted } => show_file(rt, alloc, name, wanted, files, out),
+        Command::Show { name, wanted } => show_file(rt, alloc, name, wanted, files, out, gate),
         Command::Run { name, scripts } => run_on_file(rt, alloc, name, scripts, files, out, gate),
         Command::Generate { size } => write_summary(alloc, size, out),
         Command::Uses { name, scripts } => uses_of_file(rt, alloc, name, scripts, files, out, gate),
@@ -231,14 +232,14 @@ fn run_command<R: Threads + Wait + Sync, F: Files, K: Sink, G: Gate + Sync>(
 ///
 /// `write F` reads the design file F and writes its canonical text; `write F used` that of what is left of the design without the cells
 /// that its top does not use. `flat F` writes the items of its flattening, a line each, and then `end`; `flat F limit N` at most N of
-/// them, N from 1 to 4,294,967,295, and then `end`, or `more` where items are left; `flat F workers W` what `flat F` writes, made by W
-/// workers beside each other, W from 1 to 64. `csv F` writes the pins of the flattening as a table. `erc F` writes the nets without a
-/// driver or with several and the inputs that stand open, a line each, and then `end`. `run F S1 .. Sn` reads 1 to 64 scripts of at most
-/// 262,144 bytes, runs them beside each other on the design of F, each by a worker of its own, which tells the gate of its lines, and
-/// writes the report of the run; `uses F S1 .. Sn` does the same, and writes the users of each cell of the last version behind it.
-/// `check F R S1 .. Sn` reads a report of at most 134,217,728 bytes too, and writes `yes` where it is the report of a history of the
-/// scripts on the design of F, else `no`. `gen N` makes a design and a run of size N, from 1 to 4,096, and writes a summary. Whatever it
-/// answers, it changes no file.
+/// them, N from 1 to 4,294,967,295, and then `end`, or `more` where items are left; `flat F workers W` what `flat F` writes, made in rounds
+/// by W workers beside each other, W from 1 to 64, each of which tells the gate 1 before its first line of a round and 2 behind its last
+/// one. `csv F` writes the pins of the flattening as a table. `erc F` writes the nets without a driver or with several and the inputs that
+/// stand open, a line each, and then `end`. `run F S1 .. Sn` reads 1 to 64 scripts of at most 262,144 bytes, runs them beside each other on
+/// the design of F, each by a worker of its own, which tells the gate of its lines, and writes the report of the run; `uses F S1 .. Sn`
+/// does the same, and writes the users of each cell of the last version behind it. `check F R S1 .. Sn` reads a report of at most
+/// 134,217,728 bytes too, and writes `yes` where it is the report of a history of the scripts on the design of F, else `no`. `gen N` makes a
+/// design and a run of size N, from 1 to 4,096, and writes a summary. Whatever it answers, it changes no file.
 ///
 /// At `Ok` the whole text was written. What `write` wrote spells a tree that means the design that was read. What `run` wrote is the
 /// report of one legal history whose callers are just the scripts: each script fits the events of its caller there in order, each walk is

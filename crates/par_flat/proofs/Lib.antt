@@ -1,1 +1,4 @@
-pub mod PartLemmas
+mod DeskLemmas
+mod LineLemmas
+mod PartLemmas
+mod TextLemmas

@@ -1,18 +1,18 @@
 -- Runs of items, one after another.
-use Rattle.std.proofs.Common.{◌≡◌, ◌<◌, ◌≤◌, ◌+◌, ◌-◌, ◌*◌, ◌/◌, ◌^◌, ℕ, zero, suc, List, [], ◌∷◌, ◌++◌, length, get_or, take, drop, refl, sym, ap, ◌∙◌, arith, append_assoc, append-nil, Bool, true, false, Option, Some, None}
-use Rattle.std.specs.Prelude.{IfOk, IsOk, Result, Ok, Err, option_map, if◌then◌else◌}
+use Rattle.std.proofs.Common.{◌≡◌, ◌<◌, ◌≤◌, ◌+◌, ◌-◌, ◌*◌, ◌^◌, ◌⊎◌, inl, inr, ℕ, zero, suc, List, [], ◌∷◌, ◌++◌, length, get_or, take, drop, refl, sym, ap, ◌∙◌, arith, append_assoc, append-nil, Bool, true, false, Option, Some, None}
+use Rattle.std.specs.Prelude.{IfOk, IsOk, Result, Ok, Err, min, option_map, if◌then◌else◌}
 use Rattle.std.specs.List.{All, flat_map}
-use Rattle.std.proofs.lemmas.Bool.{false≢true, le-ltb, lt-ltb}
+use Rattle.std.proofs.lemmas.Bool.{cases_lt, false≢true, le-ltb, lt-ltb}
 use Rattle.std.proofs.lemmas.Grind.{flat_map-append}
 use Rattle.std.proofs.lemmas.List.{take-append-drop}
 use Rattle.std.proofs.lemmas.List.Elements.{All-append}
-use Rattle.std.proofs.Math.Nat.{mul-le-mul_right, mul-div-le}
+use Rattle.std.proofs.Math.Nat.{min-le_right, mul-le-mul_right}
 use Rattle.netlist_schema.specs.declared.memory.NoMemory.{NoMemory}
 use Rattle.flat_spec.specs.Types.{Item}
 use Rattle.flat_lines_spec.specs.Lines.{shown_items}
 use Rattle.par_parts.proofs.ListLemmas.{drop_drop}
-use Rattle.par_flat.specs.Parts.{AreJoined, GivesMore, items_in, part_of}
-use Rattle.par_flat.specs.declared.items.Cut.{Cut}
+use Rattle.par_flat.specs.Parts.{AreJoined, GivesMore, first_of, items_in, part_of, share_of}
+use Rattle.par_flat.specs.declared.cut.Cut.{Cut}
 
 -- room for the first item: it, and what is shown of the others
 pub one_shown : (room : Option ℕ) (item : Item) (items : List Item) → (room ≡ Some 0 → ⊥) → shown_items room (item ∷ items) ≡ item ∷ shown_items (option_map (λ n. n - 1) room) items
@@ -48,36 +48,52 @@ full_given room wanted before old full so_far = sym (append-nil before) ∙ ap (
 pub fewer_left : (before after old new : List Item) → GivesMore old before new after true → length new < length old
 fewer_left before after old new given = let e = ap length given.1 in omega (arith, e)
 
--- the first item of a worker has a number of 64 bits
-pub first_fits : (cut : Cut) (worker : ℕ) → worker < cut.workers → cut.workers * cut.share < 2 ^ 64 → worker * cut.share < 2 ^ 64
-first_fits cut worker one fits = let low = mul-le-mul_right {m = worker} {n = cut.workers} cut.share (omega arith) in omega (arith, low, fits)
+-- the items before those of a worker have a number of 64 bits
+pub first_fits : (cut : Cut) (worker : ℕ) → worker < cut.workers → cut.workers * cut.share + cut.more < 2 ^ 64 → first_of cut worker < 2 ^ 64
+first_fits cut worker one fits =
+    let low = mul-le-mul_right {m = worker} {n = cut.workers} cut.share (omega arith) in let few = min-le_right worker cut.more in omega (arith, low, few, fits)
 
-pub shares_fit : (workers count : ℕ) → count < 2 ^ 64 → workers * (count / workers) < 2 ^ 64
-shares_fit workers count small = let low = mul-div-le count workers in omega (arith, low, small)
-
--- the parts of all workers but the last, and that of the last
-early_part : (items : List Item) (cut : Cut) (worker : ℕ) → worker + 1 < cut.workers → part_of items cut worker ≡ take cut.share (drop (worker * cut.share) items)
-early_part items cut worker early =
-    ap (λ (b : Bool). shown_items (if b then Some cut.share else None) (drop (worker * cut.share) items)) (lt-ltb (worker + 1) cut.workers early)
-
-last_part : (items : List Item) (cut : Cut) (worker : ℕ) → cut.workers ≤ worker + 1 → part_of items cut worker ≡ drop (worker * cut.share) items
-last_part items cut worker last =
-    ap (λ (b : Bool). shown_items (if b then Some cut.share else None) (drop (worker * cut.share) items)) (le-ltb (worker + 1) cut.workers last)
-
--- a part, and what is behind it
-part_then : (items : List Item) (cut : Cut) (worker : ℕ) → worker + 1 < cut.workers → part_of items cut worker ++ drop ((worker + 1) * cut.share) items ≡ drop (worker * cut.share) items
-part_then items cut worker early =
-    let behind : drop ((worker + 1) * cut.share) items ≡ drop cut.share (drop (worker * cut.share) items) =
-    ap (λ n. drop n items) (next worker cut.share) ∙ sym (drop_drop (worker * cut.share) cut.share items) in
-    (λ t. early_part items cut worker early t ++ behind t) ∙ take-append-drop cut.share (drop (worker * cut.share) items)
+-- the items before those of the next worker
+next_first : (cut : Cut) (worker : ℕ) → first_of cut (worker + 1) ≡ first_of cut worker + share_of cut worker
+next_first cut worker = go (cases_lt worker cut.more)
   where
     next : (n k : ℕ) → (n + 1) * k ≡ n * k + k
     next n k = grind arith
 
+    go : (worker < cut.more) ⊎ (cut.more ≤ worker) → first_of cut (worker + 1) ≡ first_of cut worker + share_of cut worker
+    go (inl less) =
+        let share : share_of cut worker ≡ cut.share + 1 = ap (λ (b : Bool). if b then cut.share + 1 else cut.share) (lt-ltb worker cut.more less) in
+        let late : min (worker + 1) cut.more ≡ worker + 1 = omega (arith, less) in
+        let early : min worker cut.more ≡ worker = omega (arith, less) in
+        let e = next worker cut.share in
+        omega (arith, share, late, early, e)
+    go (inr more) =
+        let share : share_of cut worker ≡ cut.share = ap (λ (b : Bool). if b then cut.share + 1 else cut.share) (le-ltb worker cut.more more) in
+        let late : min (worker + 1) cut.more ≡ cut.more = omega (arith, more) in
+        let early : min worker cut.more ≡ cut.more = omega (arith, more) in
+        let e = next worker cut.share in
+        omega (arith, share, late, early, e)
+
+-- the parts of all workers but the last, and that of the last
+early_part : (items : List Item) (cut : Cut) (worker : ℕ) → worker + 1 < cut.workers → part_of items cut worker ≡ take (share_of cut worker) (drop (first_of cut worker) items)
+early_part items cut worker early =
+    ap (λ (b : Bool). shown_items (if b then Some (share_of cut worker) else None) (drop (first_of cut worker) items)) (lt-ltb (worker + 1) cut.workers early)
+
+last_part : (items : List Item) (cut : Cut) (worker : ℕ) → cut.workers ≤ worker + 1 → part_of items cut worker ≡ drop (first_of cut worker) items
+last_part items cut worker last =
+    ap (λ (b : Bool). shown_items (if b then Some (share_of cut worker) else None) (drop (first_of cut worker) items)) (le-ltb (worker + 1) cut.workers last)
+
+-- a part, and what is behind it
+part_then : (items : List Item) (cut : Cut) (worker : ℕ) → worker + 1 < cut.workers → part_of items cut worker ++ drop (first_of cut (worker + 1)) items ≡ drop (first_of cut worker) items
+part_then items cut worker early =
+    let behind : drop (first_of cut (worker + 1)) items ≡ drop (share_of cut worker) (drop (first_of cut worker) items) =
+    ap (λ n. drop n items) (next_first cut worker) ∙ sym (drop_drop (first_of cut worker) (share_of cut worker) items) in
+    (λ t. early_part items cut worker early t ++ behind t) ∙ take-append-drop (share_of cut worker) (drop (first_of cut worker) items)
+
 -- the parts of the workers from one on are the items from its first one on
 parts_from : (items : List Item) (cut : Cut) (at : ℕ) (parts : List (Result (List Item) NoMemory)) → 0 < length parts → at + length parts ≡ cut.workers
     → ((k : ℕ) (r : Result (List Item) NoMemory) → k < length parts → items_in (get_or parts k r) ≡ part_of items cut (at + k))
-    → flat_map items_in parts ≡ drop (at * cut.share) items
+    → flat_map items_in parts ≡ drop (first_of cut at) items
 parts_from items cut at [] some long each = absurd (omega arith)
 parts_from items cut at (part ∷ []) some long each =
     let e : at + 0 ≡ at = omega arith in
@@ -102,10 +118,13 @@ all_parts items cut parts some long there each =
     (λ k r less.
     let e : k ≡ 0 + k = omega arith in
     in_part (get_or parts k r) (part_of items cut k) (there k r less) (each k r (omega (arith, less, long))) ∙ ap (part_of items cut) e)
-    ∙ ap (λ n. drop n items) (none cut.share)
+    ∙ ap (λ n. drop n items) none
   where
-    none : (k : ℕ) → 0 * k ≡ 0
-    none k = grind arith
+    nothing : (k : ℕ) → 0 * k ≡ 0
+    nothing k = grind arith
+
+    none : first_of cut 0 ≡ 0
+    none = let e = nothing cut.share in let low : min 0 cut.more ≡ 0 = omega arith in omega (arith, e, low)
 
 -- one part more
 pub joined_more : (parts : List (Result (List Item) NoMemory)) (part : Result (List Item) NoMemory) (all more : List Item) → AreJoined parts all → IsOk part

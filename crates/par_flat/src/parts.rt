@@ -4,14 +4,11 @@ ghost use Rattle.flat_spec.specs.Flattening.{flattening};
 ghost use Rattle.occ_walk.specs.Left.{left};
 ghost use Rattle.flat_lines_spec.specs.Lines.{shown_items};
 ghost use Rattle.walk_items.specs.Stand.{MayStand, stand_of};
-ghost use Rattle.par_parts.specs.Terrain.{IsTerrain};
 ghost use Rattle.par_flat.specs.Parts.{GivesMore};
 
 use flat_spec::Item;
 use netlist_schema::{NoMemory, Shown};
-use occ_walk::steps::next_item;
-use par_parts::{Terrain, start_at};
-use std::alloc::Global;
+use par_parts::{CountedGround, start_at};
 use walk_items::Place;
 
 /// The room behind an item.
@@ -33,17 +30,16 @@ fn is_full(room: Option<u64>) -> bool
 
 /// Adds the next item, where one is left: whether one was.
 fn add_next<S: Shown + Drop>(
-    terrain: &Terrain<S>,
+    ground: &CountedGround<S>,
     place: &mut Place,
     items: &mut Vec<Item>,
 ) -> Result<bool, NoMemory>
-    requires terrain { IsTerrain (S.design terrain.now.ground.design) terrain.now.ground.classes terrain.now.ground.notes terrain.now.counts terrain.now.top }
-    requires stands { MayStand (S.design terrain.now.ground.design) (stand_of place.old) }
-    ensures stands { MayStand (S.design terrain.now.ground.design) (stand_of place.new) }
-    ensures given { IfOk result (GivesMore (left (S.design terrain.now.ground.design) (stand_of place.old)) items.old.items
-        (left (S.design terrain.now.ground.design) (stand_of place.new)) items.new.items) }
+    requires stands { MayStand ground.now (stand_of place.old) }
+    ensures stands { MayStand ground.now (stand_of place.new) }
+    ensures given { IfOk result (GivesMore (left ground.now (stand_of place.old)) items.old.items
+        (left ground.now (stand_of place.new)) items.new.items) }
 {
-    match next_item(&terrain.ground, place)? {
+    match ground.next_item(place)? {
         Some(item) => {
             items.push(item)?;
             Ok(true)
@@ -54,21 +50,20 @@ fn add_next<S: Shown + Drop>(
 
 /// Adds the items that are left, no more than so many where there is a limit.
 fn add_left<S: Shown + Drop>(
-    terrain: &Terrain<S>,
+    ground: &CountedGround<S>,
     place: &mut Place,
     most: Option<u64>,
     items: &mut Vec<Item>,
 ) -> Result<(), NoMemory>
-    requires terrain { IsTerrain (S.design terrain.now.ground.design) terrain.now.ground.classes terrain.now.ground.notes terrain.now.counts terrain.now.top }
-    requires stands { MayStand (S.design terrain.now.ground.design) (stand_of place.old) }
-    ensures { OnOk result (items.new.items ≡ items.old.items ++ shown_items most (left (S.design terrain.now.ground.design) (stand_of place.old))) }
+    requires stands { MayStand ground.now (stand_of place.old) }
+    ensures { OnOk result (items.new.items ≡ items.old.items ++ shown_items most (left ground.now (stand_of place.old))) }
 {
     let mut room = most;
     'items: loop {
         if is_full(room) {
             return Ok(());
         }
-        if !add_next(terrain, place, items)? {
+        if !add_next(ground, place, items)? {
             return Ok(());
         }
         room = one_less(room);
@@ -77,16 +72,14 @@ fn add_left<S: Shown + Drop>(
 
 /// The items behind the first so many, no more than so many where there is a limit.
 pub fn items_from<S: Shown + Drop>(
-    alloc: Global,
-    terrain: &Terrain<S>,
+    ground: &CountedGround<S>,
     first: u64,
     most: Option<u64>,
 ) -> Result<Vec<Item>, NoMemory>
-    requires { IsTerrain (S.design terrain.now.ground.design) terrain.now.ground.classes terrain.now.ground.notes terrain.now.counts terrain.now.top }
-    ensures { IfOk result (λ items. items.items ≡ shown_items most (drop first (flattening (S.design terrain.now.ground.design)))) }
+    ensures { IfOk result (λ items. items.items ≡ shown_items most (drop first (flattening ground.now))) }
 {
-    let mut place = start_at(terrain, first)?;
-    let mut items = Vec::new(alloc);
-    add_left(terrain, &mut place, most, &mut items)?;
+    let mut place = start_at(ground, first)?;
+    let mut items = Vec::new(ground.alloc());
+    add_left(ground, &mut place, most, &mut items)?;
     Ok(items)
 }

@@ -1,2 +1,5 @@
+pub mod CountLemmas
 pub mod ListLemmas
 pub mod PassLemmas
+pub mod RoomLemmas
+pub mod SizeLemmas

@@ -1,2 +1,5 @@
+pub mod CountedGround
+pub mod Counts
+pub mod Items
+pub mod Own
 pub mod Skip
-pub mod Terrain

@@ -3,8 +3,8 @@ use Rattle.std.specs.Prelude.{◌≡◌, ◌<◌, ◌≤◌, ◌+◌, ◌-◌, �
 use Rattle.netlist_schema.specs.Design.{Design}
 use Rattle.netlist_schema.specs.Hierarchy.{insts_at}
 use Rattle.netlist_schema.specs.Types.{CellId}
-use Rattle.par_counts.specs.Counts.{count_at}
-use Rattle.par_counts.specs.declared.tables.ItemCounts.{ItemCounts}
+use Rattle.par_parts.specs.Counts.{count_at}
+use Rattle.par_parts.specs.declared.tables.ItemCounts.{ItemCounts}
 use Rattle.occ_walk.specs.Left.{left}
 use Rattle.walk_items.specs.Left.{is_over}
 use Rattle.walk_items.specs.Stand.{MayStand, Stand}

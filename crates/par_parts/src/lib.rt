@@ -1,10 +1,15 @@
-//! Walks over the same design that begin at any item: what they share, and how items are passed over without a look at each.
+//! Walks over the same design that begin at any item: what they share, how many items stand at and below the occurrences of each cell,
+//! and how items are passed over without a look at each.
 #![tactic(auto)]
 
+pub mod count;
+pub mod counted_ground;
+pub mod counts;
 pub mod passing;
-pub mod start;
-pub mod terrain;
+pub mod tables;
 
-pub use passing::skip;
-pub use start::start_at;
-pub use terrain::Terrain;
+pub use count::count_top;
+pub use counted_ground::CountedGround;
+pub use counts::count_items;
+pub use passing::{skip, start_at};
+pub use tables::ItemCounts;

@@ -1,4 +1,4 @@
-//! Worked designs, and a taller one.
+//! Worked designs, and one whose text is long.
 use netlist_schema::{Design, Direction};
 use std::alloc::Global;
 use std::test::Fail;
@@ -104,4 +104,65 @@ pub fn bare(alloc: Global) -> Result<Design, Fail> {
 /// The counter.
 pub fn counter(alloc: Global) -> Result<Design, Fail> {
     design_of(alloc, COUNTER.as_bytes())
+}
+
+/// A leaf, and what stands before it.
+const HEAD: &[u8] = b"(edif e (edifVersion 2 0 0) (edifLevel 0) (keywordMap (keywordLevel 0))
+ (library w (edifLevel 0) (technology (numberDefinition))
+  (cell c0 (cellType GENERIC) (view v (viewType NETLIST) (interface)))";
+
+/// What stands behind the cells.
+const FOOT: &[u8] = b") (design e (cellRef c7 (libraryRef w))))";
+
+/// Appends an instance with a property of so many bytes.
+fn push_inst(text: &mut Vec<u8>, name: u8, of: u8, bytes: u32) -> Result<(), Fail> {
+    text.extend_from_slice(b" (instance ")?;
+    text.push(name)?;
+    text.extend_from_slice(b" (viewRef v (cellRef c")?;
+    text.push(of)?;
+    text.extend_from_slice(b" (libraryRef w))) (property k (string \"")?;
+    for _ in 0..bytes {
+        text.push(b'x')?;
+    }
+    text.extend_from_slice(b"\")))")?;
+    Ok(())
+}
+
+/// Appends a cell of four such instances, the first of one cell and the others of another.
+fn push_four(text: &mut Vec<u8>, id: u8, of: u8, others: u8, bytes: u32) -> Result<(), Fail> {
+    text.extend_from_slice(b" (cell c")?;
+    text.push(id)?;
+    text.extend_from_slice(
+        b" (cellType GENERIC) (view v (viewType NETLIST) (interface) (contents",
+    )?;
+    push_inst(text, b'p', of, bytes)?;
+    push_inst(text, b'q', others, bytes)?;
+    push_inst(text, b'r', others, bytes)?;
+    push_inst(text, b's', others, bytes)?;
+    text.extend_from_slice(b")))")?;
+    Ok(())
+}
+
+/// A design of 1,045 items, of which 16 among the first 22 have a property of so many bytes.
+fn grown(alloc: Global, bytes: u32) -> Result<Design, Fail> {
+    let mut text = HEAD.to_vec(alloc)?;
+    push_four(&mut text, b'1', b'0', b'0', bytes)?;
+    push_four(&mut text, b'2', b'1', b'1', 1)?;
+    push_four(&mut text, b'3', b'0', b'0', 1)?;
+    push_four(&mut text, b'4', b'3', b'3', 1)?;
+    push_four(&mut text, b'5', b'4', b'4', 1)?;
+    push_four(&mut text, b'6', b'5', b'5', 1)?;
+    push_four(&mut text, b'7', b'2', b'6', 1)?;
+    text.extend_from_slice(FOOT)?;
+    design_of(alloc, text.as_slice())
+}
+
+/// A design whose first items are long: the lines of the first 17 have more than 700,000 bytes.
+pub fn heavy(alloc: Global) -> Result<Design, Fail> {
+    grown(alloc, 60_000)
+}
+
+/// A design of 1,045 items of some bytes each.
+pub fn tree(alloc: Global) -> Result<Design, Fail> {
+    grown(alloc, 1)
 }

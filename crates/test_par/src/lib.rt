@@ -4,4 +4,10 @@
 #[cfg(test)]
 mod designs;
 #[cfg(test)]
+mod measures;
+#[cfg(test)]
 mod rows;
+#[cfg(test)]
+mod shares;
+#[cfg(test)]
+mod turns;

@@ -1,14 +1,14 @@
 //! The same text for every number of workers, and workers that run at the same time.
 ghost use Rattle.std.specs.Prelude.{◌≤◌};
 
-use crate::designs::{bare, board, counter};
+use crate::designs::{bare, board, counter, heavy, tree};
+use crate::measures::{Measure, TallyGate};
 use flat_report::item_text;
 use flat_spec::Item;
 use flat_writer::{FlatError, write_flat};
 use netdb_outside::{FreeGate, Hold, HoldGate, MemSink};
 use netlist_schema::{Design, Row};
-use par_flat::{WalkError, par_flat};
-use par_writer::write_par_flat;
+use par_flat::{WalkError, par_flat, write_par_flat};
 use std::alloc::Global;
 use std::process::Abort;
 use std::test::Fail;
@@ -58,7 +58,7 @@ fn writes<R: Threads + Abort + Sync>(
     requires { (1 ≤ workers) × (workers ≤ 64) }
 {
     let mut out = MemSink::new(alloc, None);
-    write_par_flat(rt, alloc, design, workers, &mut out).expect(rt, "a text");
+    write_par_flat(rt, alloc, design, workers, &FreeGate, &mut out).expect(rt, "a text");
     assert!(rt; out.written() == wanted, "another text by {workers}");
 }
 
@@ -99,11 +99,18 @@ fn any_number_of_workers_gives_the_counter(rt: HostRuntime) -> Result<(), Fail> 
     Ok(())
 }
 
+#[test]
+fn any_number_of_workers_gives_the_tree(rt: HostRuntime) -> Result<(), Fail> {
+    let tree = tree(rt.alloc())?;
+    is_same(&rt, rt.alloc(), &tree);
+    Ok(())
+}
+
 /// There are no items.
 fn has_none<R: Threads + Abort + Sync>(rt: &R, alloc: Global, design: &Design) {
     let mut out = MemSink::new(alloc, None);
     assert!(rt; par_flat(rt, alloc, design, 2, &FreeGate).err() == Some(WalkError::NoTop));
-    assert!(rt; write_par_flat(rt, alloc, design, 2, &mut out) == Err(FlatError::NoTop));
+    assert!(rt; write_par_flat(rt, alloc, design, 2, &FreeGate, &mut out) == Err(FlatError::NoTop));
     assert!(rt; out.written().is_empty());
 }
 
@@ -136,7 +143,7 @@ fn meeting(alloc: Global, first: u32, second: u32) -> Result<HoldGate, Fail> {
 }
 
 /// So many workers, of which two meet at a gate, give what one walk does.
-fn meet<R: Threads + Abort + Sync>(
+fn meet_giving<R: Threads + Abort + Sync>(
     rt: &R,
     alloc: Global,
     design: &Design,
@@ -152,11 +159,28 @@ fn meet<R: Threads + Abort + Sync>(
     assert!(rt; !gate.failed(), "they did not meet");
 }
 
+/// So many workers, of which two meet at a gate, write what one walk does.
+fn meet_writing<R: Threads + Abort + Sync>(
+    rt: &R,
+    alloc: Global,
+    design: &Design,
+    workers: u32,
+    gate: &HoldGate,
+)
+    requires { (1 ≤ workers) × (workers ≤ 64) }
+{
+    let plain = plain_text(rt, alloc, design);
+    let mut out = MemSink::new(alloc, None);
+    write_par_flat(rt, alloc, design, workers, gate, &mut out).expect(rt, "a text");
+    assert!(rt; out.written() == plain.written(), "another text");
+    assert!(rt; !gate.failed(), "they did not meet");
+}
+
 #[test]
-fn two_workers_run_at_the_same_time(rt: HostRuntime) -> Result<(), Fail> {
+fn two_workers_give_at_the_same_time(rt: HostRuntime) -> Result<(), Fail> {
     let gate = meeting(rt.alloc(), 0, 1)?;
     let counter = counter(rt.alloc())?;
-    meet(&rt, rt.alloc(), &counter, 2, &gate);
+    meet_giving(&rt, rt.alloc(), &counter, 2, &gate);
     Ok(())
 }
 
@@ -164,6 +188,52 @@ fn two_workers_run_at_the_same_time(rt: HostRuntime) -> Result<(), Fail> {
 fn a_worker_without_items_calls_the_gate_too(rt: HostRuntime) -> Result<(), Fail> {
     let gate = meeting(rt.alloc(), 0, 63)?;
     let counter = counter(rt.alloc())?;
-    meet(&rt, rt.alloc(), &counter, 64, &gate);
+    meet_giving(&rt, rt.alloc(), &counter, 64, &gate);
+    Ok(())
+}
+
+#[test]
+fn two_workers_write_at_the_same_time(rt: HostRuntime) -> Result<(), Fail> {
+    let gate = meeting(rt.alloc(), 0, 1)?;
+    let counter = counter(rt.alloc())?;
+    meet_writing(&rt, rt.alloc(), &counter, 2, &gate);
+    Ok(())
+}
+
+#[test]
+fn a_worker_without_lines_calls_the_gate_too(rt: HostRuntime) -> Result<(), Fail> {
+    let gate = meeting(rt.alloc(), 5, 63)?;
+    let counter = counter(rt.alloc())?;
+    meet_writing(&rt, rt.alloc(), &counter, 64, &gate);
+    Ok(())
+}
+
+/// How long a text of one of 64 workers may be behind which it makes no line, and the longest piece that it may make: a line more.
+const BOUND: u64 = 524_288;
+
+const LONGEST: u64 = BOUND + 61_000;
+
+/// The first of 64 workers would make a longer text than it may. It stops, and more rounds follow; the text is that of one walk.
+fn is_bounded<R: Threads + Abort + Sync>(rt: &R, alloc: Global, design: &Design) {
+    let mut plain = Measure::new();
+    write_flat(alloc, design, None, &mut plain).expect(rt, "a text");
+    let gate = TallyGate::new();
+    let mut out = Measure::new();
+    write_par_flat(rt, alloc, design, 64, &gate, &mut out).expect(rt, "a text");
+    assert!(rt;
+        out.all == plain.all && out.sum == plain.sum,
+        "another text"
+    );
+    assert!(rt;
+        out.longest > BOUND && out.longest < LONGEST,
+        "a piece of another length"
+    );
+    assert!(rt; gate.begins() > 64 && gate.begins() < 1_280, "other rounds");
+}
+
+#[test]
+fn no_more_text_is_made_than_may_be(rt: HostRuntime) -> Result<(), Fail> {
+    let heavy = heavy(rt.alloc())?;
+    is_bounded(&rt, rt.alloc(), &heavy);
     Ok(())
 }

@@ -28,12 +28,12 @@ fn chain(alloc: Global, count: u32) -> Result<Vec<u8>, Fail> {
 }
 
 #[test]
-fn a_full_library_that_is_one_chain_is_kept(rt: HostRuntime) -> Result<(), Fail> {
+fn a_library_that_is_one_chain_is_kept(rt: HostRuntime) -> Result<(), Fail> {
     let alloc = rt.alloc();
-    let design = design_of(alloc, chain(alloc, 8_000)?.as_slice())?;
+    let design = design_of(alloc, chain(alloc, 500)?.as_slice())?;
     let _used = Used::of(alloc, &design)?;
     let kept = keep_used(alloc, &design)?;
-    assert!(rt; design.cell_count(LibId(0)) == 8_002);
-    assert!(rt; kept.cell_count(LibId(0)) == 8_001);
+    assert!(rt; design.cell_count(LibId(0)) == 502);
+    assert!(rt; kept.cell_count(LibId(0)) == 501);
     Ok(())
 }

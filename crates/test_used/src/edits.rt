@@ -90,6 +90,34 @@ fn a_new_cell_has_a_list(rt: HostRuntime) -> Result<(), Fail> {
 }
 
 #[test]
+fn instances_behind_one_that_is_dropped_move_up(rt: HostRuntime) -> Result<(), Fail> {
+    let found = uses_after(
+        rt.alloc(),
+        LARGE,
+        "begin\nadd-inst w T l w A\nadd-inst w T o p INV\nadd-inst w T q p BUF\ndrop-inst w T x\ndrop-inst w T l\ndrop-inst w T q\ncommit\n",
+    )?;
+    assert!(rt;
+        found.as_slice()
+            == "uses\ncell p BUF uses 1\n use w B b\ncell p INV uses 4\n use w A i\n use w A j\n use w T k\n use w T o\ncell w A uses 2\n use w B a\n use w T y\ncell w B uses 1\n use z Z b\ncell w T uses 0\ncell z Z uses 0\n".as_bytes()
+    );
+    Ok(())
+}
+
+#[test]
+fn an_instance_is_dropped_with_its_notes(rt: HostRuntime) -> Result<(), Fail> {
+    let found = uses_after(
+        rt.alloc(),
+        LARGE,
+        "begin\nset-note x/i K int 1\ndrop-inst w T y\ndrop-note x/i K\nadd-cell p E leaf\ndrop-inst w A i\ncommit\n",
+    )?;
+    assert!(rt;
+        found.as_slice()
+            == "uses\ncell p BUF uses 1\n use w B b\ncell p INV uses 2\n use w A j\n use w T k\ncell p E uses 0\ncell w A uses 2\n use w B a\n use w T x\ncell w B uses 1\n use z Z b\ncell w T uses 0\ncell z Z uses 0\n".as_bytes()
+    );
+    Ok(())
+}
+
+#[test]
 fn users_are_lent(rt: HostRuntime) -> Result<(), Fail> {
     let alloc = rt.alloc();
     let watched = Watched::new(alloc, design_of(alloc, SMALL.as_bytes())?)?;

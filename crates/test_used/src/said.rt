@@ -44,12 +44,17 @@ fn edit(alloc: Global, watched: &mut Watched, script: &Script) -> Result<(), Fai
     Ok(())
 }
 
-/// The lines of the uses after the operations of a script.
-pub fn uses_after(alloc: Global, design: &str, script: &str) -> Result<Vec<u8>, Fail> {
-    if script.len() > MOST_BYTES {
+/// The script of a text.
+pub fn script_of(alloc: Global, text: &str) -> Result<Script, Fail> {
+    if text.len() > MOST_BYTES {
         return Err(Fail::from("too long a script"));
     }
-    let script = parse(alloc, script.as_bytes())?;
+    Ok(parse(alloc, text.as_bytes())?)
+}
+
+/// The lines of the uses after the operations of a script.
+pub fn uses_after(alloc: Global, design: &str, script: &str) -> Result<Vec<u8>, Fail> {
+    let script = script_of(alloc, script)?;
     let mut watched = Watched::new(alloc, design_of(alloc, design.as_bytes())?)?;
     edit(alloc, &mut watched, &script)?;
     watched_uses(alloc, &watched)

@@ -10,11 +10,11 @@ use Rattle.std.proofs.lemmas.List.FromFn.{length-enumerate_from}
 use Rattle.std.proofs.lemmas.Option.{slice_get-map}
 use Rattle.netlist_schema.specs.Design.{Design, cells_in, lib_at}
 use Rattle.netlist_schema.specs.Order.{cell_cmp}
-use Rattle.netlist_schema.specs.Types.{CellId, Lib, LibHead, Name, Note, TopHead}
+use Rattle.netlist_schema.specs.Types.{CellId, Inst, Lib, LibHead, Name, Note, TopHead}
 use Rattle.netlist_schema.specs.Valid.{IsValid}
 use Rattle.netlist_schema.proofs.Cells.{All-slice_get}
 use Rattle.netlist_schema.proofs.Lists.{all_from_places, get_there, same_test, take_next}
-use Rattle.edif_spec.specs.Arranged.{new_cells, new_top}
+use Rattle.edif_spec.specs.Arranged.{new_cells, new_id, new_inst, new_top}
 use Rattle.edit_rules_spec.specs.Paths.{same_cell}
 use Rattle.edit_rules_spec.proofs.Levels.{is_same_cell, same_cell-refl}
 use Rattle.flat_cells.specs.Below.{AreCellsBelow}
@@ -113,3 +113,7 @@ parts_are d top places title libs head notes same_title same_libs same_head same
     let all = same_libs ∙ ap (libs_by d) same ∙ libs_are d top.cell in
     let first = same_head ∙ ap (λ p. new_top p top) same in
     λ i. record { title = same_title i; libs = all i; top = Some (first i); notes = same_notes i }
+
+-- an instance whose cell keeps its id stays as it is
+pub inst_stays : (places : List (List ℕ)) (inst : Inst) → new_id places inst.of ≡ inst.of → inst ≡ new_inst places inst
+inst_stays places inst same = λ i. record { name = inst.name; of = sym same i; designator = inst.designator; properties = inst.properties }

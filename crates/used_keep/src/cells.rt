@@ -23,6 +23,18 @@ fn new_inst(alloc: Global, places: &Places, inst: &Inst) -> Result<Inst, NoMemor
     })
 }
 
+/// An instance with its cell by the new id: the same one where that is its id already.
+#[tactic(auto, using(crate::proofs::Placing::inst_stays))]
+fn kept_inst(alloc: Global, places: &Places, inst: &Shared<Inst>) -> Result<Shared<Inst>, NoMemory>
+    ensures { IfOk result (λ made. made ≡ new_inst places.now inst.now) }
+{
+    if places.new_id(inst.of) == inst.of {
+        return inst.share();
+    }
+    let made = new_inst(alloc, places, inst)?;
+    Shared::of(alloc, made)
+}
+
 /// Copies of instances, each so.
 fn new_insts(
     alloc: Global,
@@ -33,8 +45,7 @@ fn new_insts(
 {
     let mut made = Vec::new(alloc);
     for inst in insts {
-        let inst = new_inst(alloc, places, inst)?;
-        made.push(Shared::of(alloc, inst)?)?;
+        made.push(kept_inst(alloc, places, inst)?)?;
     }
     Ok(Row::of(made))
 }

@@ -22,7 +22,8 @@ use Rattle.flat_spec.specs.Paths.{Reaches}
 use Rattle.flat_spec.proofs.ListLemmas.{Member, slice_get-contains}
 use Rattle.flat_spec.proofs.OccurrenceLemmas.{occurrences-member, occurrences-reaches}
 use Rattle.flat_spec.proofs.PathLemmas.{Reaches-cons, Reaches-parts}
-use Rattle.used_spec.specs.Kept.{is_kept, kept_below, kept_libs, kept_places, kept_slots, lib_with}
+use Rattle.used_spec.specs.Kept.{is_kept, kept, kept_below, kept_libs, kept_places, kept_slots, lib_with}
+use Rattle.used_spec.specs.Laws.{ComesFrom}
 use Rattle.used_spec.specs.Uses.{count_in, id_at}
 use Rattle.used_spec.proofs.Numbered.{IsPicked, enumerated, numbered, picked_are, picked_has, picked_new}
 use Rattle.used_spec.proofs.Renumbered.{old_there, place_at}
@@ -52,7 +53,7 @@ reaches_below d (i ∷ path) c end is =
       | inr below ↦ inr (deeper parts.0 has below)
     ]
 
-contains_place : {A : Type 0} (xs : List A) (x : A) → Contains xs x → (i : ℕ) × (slice_get xs i ≡ Some x)
+pub contains_place : {A : Type 0} (xs : List A) (x : A) → Contains xs x → (i : ℕ) × (slice_get xs i ≡ Some x)
 contains_place xs x (i, within, is) = (i, slice_get-get_or xs i x within ∙ ap Some is)
 
 -- and to each cell below some path leads
@@ -162,14 +163,6 @@ pub moved_some : (d : Design) (top : TopHead) (id : CellId) → IsCell d id → 
 moved_some d top id is kept = let c = some_of (cell_at d id) is in ap is_some (cell_moved d top id c.0 c.1 kept)
 
 -- and each cell of the kept design comes from one
-pub record ComesFrom (d : Design) (top : TopHead) (id : CellId) (n : CellBody) : Type 0 where
-  pub old_id : CellId
-  pub old : CellBody
-  pub found : cell_at d old_id ≡ Some old
-  pub kept : is_kept d top.cell old_id ≡ true
-  pub at : id ≡ new_id (kept_places d top.cell) old_id
-  pub is : n ≡ new_cell (kept_places d top.cell) old
-
 pub cell_from : (d : Design) (top : TopHead) (id : CellId) (n : CellBody) → cell_at (kept_below d top) id ≡ Some n → ComesFrom d top id n
 cell_from d top id n e =
     let k = lib_of_cell (kept_below d top) id n e in
@@ -202,3 +195,12 @@ pub all_has : (P : Inst → Type 0) (d : Design) (id : CellId) (c : CellBody) �
 all_has P d id c e f = λ k x within.
     let same : insts_at d id ≡ insts_of c = ap (λ (o : Option CellBody). option_map_or insts_of o []) e in
     f (slice_index_or (insts_of c) k x) (subst (λ (is : List Inst). Contains is (slice_index_or (insts_of c) k x)) (sym same) (Contains-get_or (insts_of c) k x within))
+
+-- the same of the kept design of a design with this top
+pub stands_anew : (d : Design) (top : TopHead) (id : CellId) (c : CellBody) → d.top ≡ Some top → cell_at d id ≡ Some c → is_kept d top.cell id ≡ true
+    → cell_at (kept d) (new_id (kept_places d top.cell) id) ≡ Some (new_cell (kept_places d top.cell) c)
+stands_anew d top id c has found kept =
+    ap (λ (o : Option TopHead). cell_at (option_map_or (kept_below d) o d) (new_id (kept_places d top.cell) id)) has ∙ cell_moved d top id c found kept
+
+pub stood_before : (d : Design) (top : TopHead) (id : CellId) (n : CellBody) → d.top ≡ Some top → cell_at (kept d) id ≡ Some n → ComesFrom d top id n
+stood_before d top id n has found = cell_from d top id n (sym (ap (λ (o : Option TopHead). cell_at (option_map_or (kept_below d) o d) id) has) ∙ found)

@@ -150,7 +150,7 @@ names_kept d top v = record {
 
 -- ---- the hierarchy
 
-inst_moved : (d : Design) (top : TopHead) (id : CellId) (i : Inst) → is_kept d top.cell id ≡ true → HasInst d id i → HasInst (kept_below d top) (new_id (kept_places d top.cell) id) (new_inst (kept_places d top.cell) i)
+pub inst_moved : (d : Design) (top : TopHead) (id : CellId) (i : Inst) → is_kept d top.cell id ≡ true → HasInst d id i → HasInst (kept_below d top) (new_id (kept_places d top.cell) id) (new_inst (kept_places d top.cell) i)
 inst_moved d top id i is h =
     let places = kept_places d top.cell in
     let c = cell_of_inst d id i h in

@@ -1,7 +1,9 @@
+pub mod KeptAgain
 pub mod KeptCells
 pub mod KeptNamed
 pub mod KeptValid
 pub mod Entries
+pub mod InOrder
 pub mod NamedItems
 pub mod Numbered
 pub mod Renumbered

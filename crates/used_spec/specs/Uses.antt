@@ -1,5 +1,5 @@
 -- Where the cells of a design are used.
-use Rattle.std.specs.Prelude.{ℕ, List, Option, option_and_then, slice_get, length, map, filter}
+use Rattle.std.specs.Prelude.{ℕ, Bool, List, Option, if◌then◌else◌, nat_eq, nat_lt, option_and_then, slice_get, length, map, filter}
 use Rattle.std.specs.List.{enumerate_from, flat_map, range_with_len}
 use Rattle.netlist_schema.specs.Design.{Design, cells_in}
 use Rattle.netlist_schema.specs.Hierarchy.{insts_at}
@@ -58,3 +58,10 @@ uses d = map (λ lib. map (users d) (ids_of lib (count_in d lib))) (range_with_l
 -- the uses of a cell by such an index, none where it has no such cell
 abbrev pub users_at : List (List (List UsedAt)) → CellId → Option (List UsedAt)
 users_at index cell = option_and_then (λ cells. slice_get cells cell.slot) (slice_get index cell.lib.0)
+
+-- a use comes before another: by library, place of the cell, and place of the instance
+abbrev pub comes_before : UsedAt → UsedAt → Bool
+comes_before a b =
+    if nat_eq a.cell.lib.0 b.cell.lib.0
+    then (if nat_eq a.cell.slot b.cell.slot then nat_lt a.inst b.inst else nat_lt a.cell.slot b.cell.slot)
+    else nat_lt a.cell.lib.0 b.cell.lib.0

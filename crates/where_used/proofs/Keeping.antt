@@ -152,7 +152,7 @@ all_keep (change ∷ changes) d is =
     same_then (edited (edited_once d (edit_of d change)) (cell_edits (edited_once d (edit_of d change)) changes)) (edited_once d (edit_of d change)) d
     (all_keep changes (edited_once d (edit_of d change)) is.1) (one_keeps d change is.0)
 
-notes_keep : (d : Design) (notes : Option (List Note)) → HasSameInsts (edited d (option_to_list (option_map noted notes))) d
+pub notes_keep : (d : Design) (notes : Option (List Note)) → HasSameInsts (edited d (option_to_list (option_map noted notes))) d
 notes_keep d None = same_itself d
 notes_keep d (Some notes) = record { libs = refl; counts = λ lib. refl; insts = λ cell. refl }
 

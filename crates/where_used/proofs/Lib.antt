@@ -4,3 +4,7 @@ pub mod Keeping
 pub mod Turning
 pub mod Parting
 pub mod Turned
+pub mod Rising
+pub mod After
+pub mod Moving
+pub mod Blank

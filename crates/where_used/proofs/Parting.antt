@@ -10,12 +10,12 @@ use Rattle.netlist_schema.specs.Hierarchy.{insts_at}
 use Rattle.netlist_schema.specs.Types.{CellBody, CellId, Inst}
 use Rattle.netlist_schema.proofs.Lists.{all_append}
 use Rattle.netlist_order_spec.proofs.Places.{lib_of_cell}
-use Rattle.used_spec.specs.Uses.{Placed, all_cells, all_placed, count_in, id_at, ids_of, placed_at, placed_in, placed_in_all}
+use Rattle.used_spec.specs.Uses.{Placed, all_cells, all_placed, comes_before, count_in, id_at, ids_of, placed_at, placed_in, placed_in_all}
 use Rattle.used_spec.specs.declared.used_at.UsedAt.{UsedAt}
 use Rattle.used_spec.proofs.KeptCells.{count_is}
-use Rattle.where_used.specs.Rows.{comes_before}
+use Rattle.used_spec.proofs.InOrder.{eq_true, in_one_cell, lt_true, ne_false}
 use Rattle.where_used.proofs.Adding.{cells_upto}
-use Rattle.where_used.proofs.Turning.{AllBefore, AllBehind, eq_true, in_one_cell, lt_false, lt_true, ne_false}
+use Rattle.where_used.proofs.Turning.{AllBefore, AllBehind, lt_false}
 
 -- ---- ranges
 
@@ -153,14 +153,27 @@ placed_before d id front xs = placed_in_all d front ++ placed_in id xs
 abbrev pub placed_behind : Design → CellId → List CellId → ℕ → List Inst → List Placed
 placed_behind d id back place ys = map (placed_at id) (enumerate_from (place + 1) ys) ++ placed_in_all d back
 
+pub front_before : (d : Design) (id : CellId) (front : List CellId) (place : ℕ) → AllByRecursion (IsLow id) front → AllBefore (record { cell = id; inst = place }) (placed_in_all d front)
+front_before d id front place low =
+    let at : UsedAt = record { cell = id; inst = place } in
+    all_flat (λ (p : Placed). comes_before p.at at ≡ true) (λ c. placed_in c (insts_at d c)) front
+    (all_by (IsLow id) (λ c. AllByRecursion (λ (p : Placed). comes_before p.at at ≡ true) (placed_in c (insts_at d c))) front
+    (λ c is. all_map (λ (p : Placed). comes_before p.at at ≡ true) (placed_at c) (enumerate_from 0 (insts_at d c)) (all_any (λ q. comes_before (placed_at c q).at at ≡ true) (enumerate_from 0 (insts_at d c)) (λ q. is.before q.0 place)))
+    low)
+
+pub back_behind : (d : Design) (id : CellId) (back : List CellId) (place : ℕ) → AllByRecursion (IsHigh id) back → AllBehind (record { cell = id; inst = place }) (placed_in_all d back)
+back_behind d id back place high =
+    let at : UsedAt = record { cell = id; inst = place } in
+    all_flat (λ (p : Placed). comes_before p.at at ≡ false) (λ c. placed_in c (insts_at d c)) back
+    (all_by (IsHigh id) (λ c. AllByRecursion (λ (p : Placed). comes_before p.at at ≡ false) (placed_in c (insts_at d c))) back
+    (λ c is. all_map (λ (p : Placed). comes_before p.at at ≡ false) (placed_at c) (enumerate_from 0 (insts_at d c)) (all_any (λ q. comes_before (placed_at c q).at at ≡ false) (enumerate_from 0 (insts_at d c)) (λ q. is.behind q.0 place)))
+    high)
+
 pub all_before : (d : Design) (id : CellId) (front : List CellId) (xs : List Inst) (place : ℕ) → AllByRecursion (IsLow id) front → length xs ≤ place → AllBefore (record { cell = id; inst = place }) (placed_before d id front xs)
 all_before d id front xs place low short =
     let at : UsedAt = record { cell = id; inst = place } in
     all_append (λ (p : Placed). comes_before p.at at ≡ true) (placed_in_all d front) (placed_in id xs)
-    (all_flat (λ (p : Placed). comes_before p.at at ≡ true) (λ c. placed_in c (insts_at d c)) front
-    (all_by (IsLow id) (λ c. AllByRecursion (λ (p : Placed). comes_before p.at at ≡ true) (placed_in c (insts_at d c))) front
-    (λ c is. all_map (λ (p : Placed). comes_before p.at at ≡ true) (placed_at c) (enumerate_from 0 (insts_at d c)) (all_any (λ q. comes_before (placed_at c q).at at ≡ true) (enumerate_from 0 (insts_at d c)) (λ q. is.before q.0 place)))
-    low))
+    (front_before d id front place low)
     (all_map (λ (p : Placed). comes_before p.at at ≡ true) (placed_at id) (enumerate_from 0 xs)
     (enumerate_all (λ q. comes_before (placed_at id q).at at ≡ true) 0 xs (λ i x from to. in_one_cell id i place ∙ lt_true i place (omega (arith, to, short)))))
 
@@ -170,10 +183,7 @@ all_behind d id back place ys high =
     all_append (λ (p : Placed). comes_before p.at at ≡ false) (map (placed_at id) (enumerate_from (place + 1) ys)) (placed_in_all d back)
     (all_map (λ (p : Placed). comes_before p.at at ≡ false) (placed_at id) (enumerate_from (place + 1) ys)
     (enumerate_all (λ q. comes_before (placed_at id q).at at ≡ false) (place + 1) ys (λ i x from to. in_one_cell id i place ∙ lt_false i place (omega (arith, from)))))
-    (all_flat (λ (p : Placed). comes_before p.at at ≡ false) (λ c. placed_in c (insts_at d c)) back
-    (all_by (IsHigh id) (λ c. AllByRecursion (λ (p : Placed). comes_before p.at at ≡ false) (placed_in c (insts_at d c))) back
-    (λ c is. all_map (λ (p : Placed). comes_before p.at at ≡ false) (placed_at c) (enumerate_from 0 (insts_at d c)) (all_any (λ q. comes_before (placed_at c q).at at ≡ false) (enumerate_from 0 (insts_at d c)) (λ q. is.behind q.0 place)))
-    high))
+    (back_behind d id back place high)
 
 joined_placed : (x y c z : List Placed) → x ++ ((y ++ c) ++ z) ≡ (x ++ y) ++ (c ++ z)
 joined_placed x y c z = ap (λ v. x ++ v) (append_assoc y c z) ∙ sym (append_assoc x y (c ++ z))

@@ -1,81 +1,29 @@
 -- One instance is put at a place: what its row, and that of the one that stood there, come to is the index of the design afterwards.
-use Rattle.std.proofs.Common.{◌≡◌, ◌≢◌, ◌+◌, ◌≤◌, ⊎_elim, ℕ, zero, suc, arith, Bool, true, false, cond, List, [], ◌∷◌, ◌++◌, length, map, Option, Some, None, refl, sym, ap, subst, ◌∙◌, slice_get}
+use Rattle.std.proofs.Common.{◌≡◌, ◌+◌, ◌≤◌, ℕ, zero, suc, arith, Bool, true, false, cond, List, [], ◌∷◌, ◌++◌, length, map, Option, Some, None, refl, sym, ap, subst, ◌∙◌, slice_get}
 use Rattle.std.specs.Prelude.{IsSomeAnd, nat_lt, option_and_then, option_map, option_to_list, slice_set}
-use Rattle.std.specs.List.{enumerate_from, flat_map, range_with_len}
+use Rattle.std.specs.List.{enumerate_from}
 use Rattle.std.specs.Option.{option_map_or}
-use Rattle.std.proofs.lemmas.List.FromFn.{length-map-range_with_len}
 use Rattle.std.proofs.lemmas.Option.{slice_get_within}
 use Rattle.netlist_schema.specs.Change.{body_with, put_at, with_inst_put}
 use Rattle.netlist_schema.specs.Design.{Design, cell_at, insts_in, insts_of}
 use Rattle.netlist_schema.specs.Hierarchy.{insts_at}
 use Rattle.netlist_schema.specs.Types.{CellBody, CellId, Contents, Inst as InstType}
-use Rattle.netlist_schema.proofs.WithCell.{cases_cell}
-use Rattle.edit_rules_spec.specs.Edit.{changed_at, edited, noted, with_changed_cell}
+use Rattle.edit_rules_spec.specs.Edit.{edited, noted, with_changed_cell}
 use Rattle.edit_rules_spec.specs.Seen.{contents_at}
-use Rattle.edit_rules_spec.proofs.Edits.{cell_at-changed_other, cell_at-changed_same}
-use Rattle.edit_rules_spec.proofs.Lists.{length-changed_at}
+use Rattle.edit_rules_spec.proofs.Edits.{cell_at-changed_same}
 use Rattle.edit_cells.specs.Change.{CanAllBeMade, cell_edits, edits_of, inst_put}
 use Rattle.edit_cells.specs.declared.change.Change.{Change}
 use Rattle.edit_cells.specs.declared.change.CellChange.{CellChange}
 use Rattle.edit_cells.specs.declared.change.CellChange.TheVariants.{Inst}
 use Rattle.edit_cells.proofs.Patches.{inside_changed}
-use Rattle.used_spec.specs.Uses.{Placed, all_cells, all_placed, count_in, ids_of, placed_at, placed_in, placed_in_all, users, users_at, uses}
+use Rattle.used_spec.specs.Uses.{Placed, all_placed, placed_at, placed_in, uses}
 use Rattle.used_spec.specs.declared.used_at.UsedAt.{UsedAt}
-use Rattle.used_spec.proofs.Entries.{used_entry}
 use Rattle.used_spec.proofs.Numbered.{past_end}
+use Rattle.used_spec.proofs.InOrder.{lt_true}
 use Rattle.where_used.specs.Rows.{IsTurn, drop_in, drop_use, put_in, put_use, turned}
-use Rattle.where_used.proofs.Entries.{same_index}
-use Rattle.where_used.proofs.Keeping.{counts_same, lib_changed}
-use Rattle.where_used.proofs.Parting.{IsHigh, IsLow, Parted, all_before, all_behind, all_by, parted, placed_before, placed_behind, placed_none, placed_one, same_others}
-use Rattle.where_used.proofs.Turning.{Index, IsOver, changed_in, drop_over, lt_false, lt_true, not_itself, put_over, row_other, row_same, swap_over}
-
--- ---- an index with a list for each cell
-
--- a list is there
-abbrev marked : {A : Type 0} → Option A → Bool
-marked None = false
-marked (Some x) = true
-
-pub record HasRoom (d : Design) (index : Index) : Type 0 where
-  pub libs : length index ≡ length d.libs
-  pub cells : (cell : CellId) → marked (users_at index cell) ≡ marked (cell_at d cell)
-
-marked_map : {A B : Type 0} (f : A → B) (o : Option A) → marked (option_map f o) ≡ marked o
-marked_map f None = refl
-marked_map f (Some x) = refl
-
-by_mark : {A B X : Type 0} (x : X) (o : Option A) (p : Option B) → marked o ≡ marked p → option_map (λ _. x) o ≡ option_map (λ _. x) p
-by_mark x None None e = refl
-by_mark x None (Some b) e = cc
-by_mark x (Some a) None e = cc
-by_mark x (Some a) (Some b) e = refl
-
-room_uses : (d : Design) → HasRoom d (uses d)
-room_uses d = record {
-  libs = length-map-range_with_len (λ lib. map (users d) (ids_of lib (count_in d lib))) 0 (length d.libs);
-  cells = λ cell. ap marked (used_entry d cell) ∙ marked_map (λ _. users d cell) (cell_at d cell);
-}
-
-room_changed : (d : Design) (f : List UsedAt → List UsedAt) (index : Index) (of : CellId) → HasRoom d index → HasRoom d (changed_in of f index)
-room_changed d f index of room = record {
-  libs = length-changed_at (λ cells. changed_at f of.slot cells) of.lib.0 index ∙ room.libs;
-  cells = λ cell. ⊎_elim
-      (λ (same : cell ≡ of). subst (λ (c : CellId). marked (users_at (changed_in of f index) c) ≡ marked (cell_at d c)) (sym same)
-      (ap marked (row_same f index of) ∙ marked_map f (users_at index of) ∙ room.cells of))
-      (λ (apart : cell ≢ of). ap marked (row_other f index of cell apart) ∙ room.cells cell)
-      (cases_cell cell of);
-}
-
-over_uses : (d : Design) → IsOver (uses d) (all_placed d)
-over_uses d = record { each = λ cell. subst (λ o. o ≡ option_map (λ _. users d cell) o) (sym (used_entry d cell)) (again (cell_at d cell) (users d cell)) }
-  where
-    again : {A : Type 0} (o : Option A) (us : List UsedAt) → option_map (λ _. us) o ≡ option_map (λ _. us) (option_map (λ _. us) o)
-    again None us = refl
-    again (Some x) us = refl
-
-finished : (d : Design) (index : Index) → HasRoom d index → IsOver index (all_placed d) → index ≡ uses d
-finished d index room over = same_index d index room.libs (λ cell.
-    over.each cell ∙ by_mark (users d cell) (users_at index cell) (cell_at d cell) (room.cells cell) ∙ sym (used_entry d cell))
+use Rattle.where_used.proofs.Parting.{all_before, all_behind, parted, placed_before, placed_behind, placed_none, placed_one}
+use Rattle.where_used.proofs.After.{back_same, finished, front_same, over_uses, part_after, room_after, room_changed, room_uses}
+use Rattle.where_used.proofs.Turning.{IsOver, drop_over, lt_false, not_itself, put_over, swap_over}
 
 -- ---- a list with an item at a place
 
@@ -101,31 +49,6 @@ module _ (d : Design) (id : CellId) (place : ℕ) (inst : InstType) where
 
   abbrev after : Design
   after = with_changed_cell d id change_body
-
-  cells_same : all_cells after ≡ all_cells d
-  cells_same = λ i. flat_map (λ lib. ids_of lib (counts_same d id change_body lib i)) (range_with_len 0 (length-changed_at (lib_changed change_body id.slot) id.lib.0 d.libs i))
-
-  abbrev part_after : Parted d id → Parted after id
-  part_after part = record { front = part.front; back = part.back; cells = cells_same ∙ part.cells; low = part.low; high = part.high }
-
-  others_same : (c : CellId) → c ≢ id → insts_at after c ≡ insts_at d c
-  others_same c apart = ap (λ (o : Option CellBody). option_map_or insts_of o []) (cell_at-changed_other d id change_body c apart)
-
-  front_same : (part : Parted d id) → placed_in_all after part.front ≡ placed_in_all d part.front
-  front_same part = same_others after d id part.front (all_by (IsLow id) (λ c. c ≢ id) part.front (λ c is. is.other) part.low) others_same
-
-  back_same : (part : Parted d id) → placed_in_all after part.back ≡ placed_in_all d part.back
-  back_same part = same_others after d id part.back (all_by (IsHigh id) (λ c. c ≢ id) part.back (λ c is. is.other) part.high) others_same
-
-  room_after : (index : Index) → HasRoom d index → HasRoom after index
-  room_after index room = record {
-    libs = room.libs ∙ sym (length-changed_at (lib_changed change_body id.slot) id.lib.0 d.libs);
-    cells = λ cell. room.cells cell ∙ ⊎_elim
-        (λ (same : cell ≡ id). subst (λ (c : CellId). marked (cell_at d c) ≡ marked (cell_at after c)) (sym same)
-        (sym (ap marked (cell_at-changed_same d id change_body) ∙ marked_map change_body (cell_at d id))))
-        (λ (apart : cell ≢ id). ap marked (sym (cell_at-changed_other d id change_body cell apart)))
-        (cases_cell cell id);
-  }
 
   abbrev at : UsedAt
   at = record { cell = id; inst = place }
@@ -174,9 +97,9 @@ module _ (d : Design) (id : CellId) (place : ℕ) (inst : InstType) where
       let past : nat_lt place (length i.insts) ≡ false = lt_false place (length i.insts) (omega (arith, last)) in
       let insts : insts_at after id ≡ i.insts ++ inst ∷ [] = i.later ∙ ap (λ (b : Bool). cond b (slice_set i.insts place inst) (i.insts ++ inst ∷ [])) past in
       let later : before ++ p ∷ behind ≡ all_placed after =
-      (λ t. (sym (front_same part) t ++ placed_in id i.insts) ++ p ∷ (sym (back_same part) t)) ∙ sym (placed_one after id (part_after part) i.insts [] inst place insts last) in
+      (λ t. (sym (front_same d id change_body part) t ++ placed_in id i.insts) ++ p ∷ (sym (back_same d id change_body part) t)) ∙ sym (placed_one after id (part_after d id change_body part) i.insts [] inst place insts last) in
       let room = room_changed d (put_use at) (uses d) inst.of (room_uses d) in (
-        finished after (put_in inst.of at (uses d)) (room_after (put_in inst.of at (uses d)) room) (subst (λ (ps : List Placed). IsOver (put_in inst.of at (uses d)) ps) later put),
+        finished after (put_in inst.of at (uses d)) (room_after d id change_body (put_in inst.of at (uses d)) room) (subst (λ (ps : List Placed). IsOver (put_in inst.of at (uses d)) ps) later put),
         finished d (drop_in inst.of at (put_in inst.of at (uses d))) (room_changed d (drop_use at) (put_in inst.of at (uses d)) inst.of room)
             (subst (λ (ps : List Placed). IsOver (drop_in inst.of at (put_in inst.of at (uses d))) ps) (sym (placed_none d id part i.insts place i.now)) (drop_over (put_in inst.of at (uses d)) before behind p low put)),
       )
@@ -201,10 +124,10 @@ module _ (d : Design) (id : CellId) (place : ℕ) (inst : InstType) where
       let within : nat_lt place (length i.insts) ≡ true = lt_true place (length i.insts) (slice_get_within i.insts place x some) in
       let insts : insts_at after id ≡ s.front ++ inst ∷ s.back = i.later ∙ ap (λ (b : Bool). cond b (slice_set i.insts place inst) (i.insts ++ inst ∷ [])) within ∙ s.set inst in
       let later : before ++ p ∷ behind ≡ all_placed after =
-      (λ t. (sym (front_same part) t ++ placed_in id s.front) ++ p ∷ (map (placed_at id) (enumerate_from (place + 1) s.back) ++ sym (back_same part) t))
-      ∙ sym (placed_one after id (part_after part) s.front s.back inst place insts s.long) in
+      (λ t. (sym (front_same d id change_body part) t ++ placed_in id s.front) ++ p ∷ (map (placed_at id) (enumerate_from (place + 1) s.back) ++ sym (back_same d id change_body part) t))
+      ∙ sym (placed_one after id (part_after d id change_body part) s.front s.back inst place insts s.long) in
       let room = room_changed d (put_use at) (uses d) inst.of (room_uses d) in (
-        finished after (drop_in x.of at (put_in inst.of at (uses d))) (room_after (drop_in x.of at (put_in inst.of at (uses d))) (room_changed d (drop_use at) (put_in inst.of at (uses d)) x.of room))
+        finished after (drop_in x.of at (put_in inst.of at (uses d))) (room_after d id change_body (drop_in x.of at (put_in inst.of at (uses d))) (room_changed d (drop_use at) (put_in inst.of at (uses d)) x.of room))
             (subst (λ (ps : List Placed). IsOver (drop_in x.of at (put_in inst.of at (uses d))) ps) later gone),
         finished d (drop_in inst.of at (put_in inst.of at (uses d))) (room_changed d (drop_use at) (put_in inst.of at (uses d)) inst.of room)
             (subst (λ (ps : List Placed). IsOver (drop_in inst.of at (put_in inst.of at (uses d))) ps) (sym here) back),

@@ -1,10 +1,9 @@
 -- An index in which one use is put, and from which one is taken.
-use Rattle.std.proofs.Common.{◌≡◌, ◌≢◌, ◌+◌, ◌<◌, ◌≤◌, ◌⊎◌, ⊎_elim, inl, inr, ℕ, suc, arith, Bool, true, false, cond, List, [], ◌∷◌, ◌++◌, drop, get_or, length, map, Option, Some, None, refl, sym, ap, subst, ◌∙◌, slice_get}
-use Rattle.std.specs.Prelude.{filter, nat_eq, nat_lt, option_and_then, option_map}
+use Rattle.std.proofs.Common.{◌≡◌, ◌≢◌, ◌+◌, ◌≤◌, ◌⊎◌, ⊎_elim, inl, inr, ℕ, suc, arith, Bool, true, false, cond, List, [], ◌∷◌, ◌++◌, drop, length, map, Option, Some, None, refl, sym, ap, subst, ◌∙◌, slice_get}
+use Rattle.std.specs.Prelude.{filter, nat_lt, option_and_then, option_map}
 use Rattle.std.specs.List.{AllByRecursion, insert, remove}
-use Rattle.std.proofs.lemmas.Bool.{cases_Bool, cases_eq, eq-eqb, eqb-true, false_from_ne_true}
+use Rattle.std.proofs.lemmas.Bool.{cases_Bool, cases_eq}
 use Rattle.std.proofs.lemmas.Bool.Decides.{nat_tests}
-use Rattle.std.proofs.lemmas.List.{drop_all, drop_more}
 use Rattle.netlist_schema.specs.Types.{CellId}
 use Rattle.netlist_schema.proofs.Lists.{drop_front, take_front}
 use Rattle.netlist_schema.proofs.WithCell.{same_id}
@@ -12,9 +11,10 @@ use Rattle.edit_rules_spec.specs.Edit.{changed_at}
 use Rattle.edit_rules_spec.specs.Paths.{same_cell}
 use Rattle.edit_rules_spec.proofs.Edits.{slice_get-changed_other, slice_get-changed_same}
 use Rattle.edit_rules_spec.proofs.Levels.{is_same_cell, same_cell-refl}
-use Rattle.used_spec.specs.Uses.{Placed, users_among, users_at}
+use Rattle.used_spec.specs.Uses.{Placed, comes_before, users_among, users_at}
 use Rattle.used_spec.specs.declared.used_at.UsedAt.{UsedAt}
-use Rattle.where_used.specs.Rows.{comes_before, drop_in, drop_use, place_of, put_in, put_use}
+use Rattle.used_spec.proofs.InOrder.{in_one_cell}
+use Rattle.where_used.specs.Rows.{drop_in, drop_use, place_of, put_in, put_use}
 use Rattle.where_used.proofs.Adding.{among_both}
 
 abbrev pub Index : Type 0
@@ -22,23 +22,8 @@ Index = List (List (List UsedAt))
 
 -- ---- the order of uses
 
-pub lt_true : (a b : ℕ) → a < b → nat_lt a b ≡ true
-lt_true a b h = grind (arith, nat_tests)
-
 pub lt_false : (a b : ℕ) → b ≤ a → nat_lt a b ≡ false
 lt_false a b h = grind (arith, nat_tests)
-
-pub ne_false : (a b : ℕ) → a ≢ b → nat_eq a b ≡ false
-ne_false a b h = false_from_ne_true (nat_eq a b) (λ same. h (eqb-true a b same))
-
-pub eq_true : (a : ℕ) → nat_eq a a ≡ true
-eq_true a = eq-eqb a a refl
-
--- in one cell by the instances
-pub in_one_cell : (id : CellId) (k j : ℕ) → comes_before (record { cell = id; inst = k }) (record { cell = id; inst = j }) ≡ nat_lt k j
-in_one_cell id k j =
-    ap (λ b. cond b (cond (nat_eq id.slot id.slot) (nat_lt k j) (nat_lt id.slot id.slot)) (nat_lt id.lib.0 id.lib.0)) (eq_true id.lib.0)
-    ∙ ap (λ b. cond b (nat_lt k j) (nat_lt id.slot id.slot)) (eq_true id.slot)
 
 pub not_itself : (at : UsedAt) → comes_before at at ≡ false
 not_itself at = in_one_cell at.cell at.inst at.inst ∙ lt_false at.inst at.inst (omega arith)
@@ -202,20 +187,3 @@ swap_over index before rest at a b is = record {
     two cell true false = refl
     two cell false true = refl
     two cell false false = refl
-
--- ---- a list that is gone through
-
-pub place_here : (at : UsedAt) (us : List UsedAt) (i : ℕ) (u : UsedAt) → i < length us → comes_before (get_or us i u) at ≡ false → i + place_of at (drop i us) ≡ place_of at us → i ≡ place_of at us
-place_here at us i u within miss so_far =
-    let here : place_of at (drop i us) ≡ 0 = ap (place_of at) (drop_more us i u within) ∙ ap (λ b. cond b (suc (place_of at (drop (i + 1) us))) 0) miss in
-    omega (arith, here, so_far)
-
-pub place_next : (at : UsedAt) (us : List UsedAt) (i : ℕ) (u : UsedAt) → i < length us → comes_before (get_or us i u) at ≡ true → i + place_of at (drop i us) ≡ place_of at us → i + 1 + place_of at (drop (i + 1) us) ≡ place_of at us
-place_next at us i u within hit so_far =
-    let here : place_of at (drop i us) ≡ suc (place_of at (drop (i + 1) us)) = ap (place_of at) (drop_more us i u within) ∙ ap (λ b. cond b (suc (place_of at (drop (i + 1) us))) 0) hit in
-    omega (arith, here, so_far)
-
-pub place_end : (at : UsedAt) (us : List UsedAt) (i : ℕ) → length us ≤ i → i ≤ length us → i + place_of at (drop i us) ≡ place_of at us → length us ≡ place_of at us
-place_end at us i past fits so_far =
-    let none : place_of at (drop i us) ≡ 0 = ap (place_of at) (drop_all i us past) in
-    omega (arith, none, so_far, past, fits)

@@ -1,3 +1,4 @@
 pub mod Changes
 pub mod Index
+pub mod Moves
 pub mod Rows

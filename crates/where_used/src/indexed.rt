@@ -1,21 +1,27 @@
 //! `Indexed`: a design with the index of its uses.
-ghost use Rattle.std.specs.Prelude.{◌≡◌, IfOk, IfSome, IsSomeAnd, IsTrue, OnErr, OnOk, option_map, slice_get, unwrap_or};
+ghost use Rattle.std.specs.Prelude.{◌≡◌, [], IfOk, IfSome, IsSomeAnd, IsTrue, OnErr, OnOk, option_map, slice_get, unwrap_or};
 ghost use Rattle.std.specs.List.{All};
-ghost use Rattle.std.specs.Option.{option_copied, option_map_or};
+ghost use Rattle.std.specs.Option.{option_map_or};
+ghost use Rattle.netlist_schema.specs.Design.{insts_of};
 ghost use Rattle.netlist_schema.specs.Hierarchy.{insts_at};
 ghost use Rattle.netlist_schema.specs.Valid.{IsValid};
 ghost use Rattle.edit_rules_spec.specs.Edit.{edited};
 ghost use Rattle.edit_cells.specs.Change.{CanAllBeMade, edits_of};
 ghost use Rattle.used_spec.specs.Uses.{uses};
 ghost use Rattle.where_used.specs.Changes.{KeepsInsts, KeepsUses};
-ghost use Rattle.where_used.specs.Rows.{IsTurn, drop_in};
+ghost use Rattle.where_used.specs.Moves.{AreMoves, IsRefilled};
+ghost use Rattle.where_used.specs.Rows.{IsBlank, IsTurn, drop_in};
 
+use crate::moves::{Move, drop_news, drop_olds, moves_of, put_news};
 use crate::used::Used;
+use cell_puts::put_in_place;
+use design_copy::top_of;
 use edit_cells::patch::patched;
-use edit_cells::put::put_change;
 use edit_cells::{CellChange, Change};
-use flat_lookup::inst_at;
-use netlist_schema::{CellId, Copied, Design, Lib, NoMemory, Note, Row, Shown, TopHead};
+use flat_lookup::{inst_at, insts_at};
+use netlist_schema::{
+    CellBody, CellId, Contents, Copied, Design, Lib, LibId, NoMemory, Note, Row, Shown,
+};
 use std::alloc::Global;
 use std::marker::Model;
 use used_spec::UsedAt;
@@ -75,9 +81,11 @@ impl Indexed {
         &self.pair.used
     }
 
-    /// Makes a change, all of it or nothing. Where no instance is added, taken away or given another cell, the index stays. Where one
-    /// instance is put at a place, it costs the lists of its cell and of the cell of the one that stood there. Else the index is made
-    /// anew.
+    /// Makes a change, all of it or nothing. A change of one cell, of the notes or of both goes in its place, and no other cell is copied.
+    /// Where no instance is added, taken away or given another cell, the index stays. One instance that is put at a place costs the lists
+    /// of its cell and of the cell of the one that stood there, a new cell without instances an empty list, and other contents of a
+    /// cell the lists of the cells of which an instance stands there at another place than before, or no longer. Else, and where more
+    /// than a thousand instances would change their places so, the index is made anew.
     pub fn make(&mut self, alloc: Global, change: Change) -> Result<(), NoMemory>
         requires can { CanAllBeMade self.old change.cells }
         requires valid { IsValid (edited self.old (edits_of self.old change)) }
@@ -98,10 +106,16 @@ fn make(alloc: Global, pair: &mut Pair, change: Change) -> Result<(), NoMemory>
     ensures err { OnErr result (pair.new.design ≡ pair.old.design) }
 {
     if keeps_uses(&pair.design, &change) {
-        return put_change(alloc, &mut pair.design, change);
+        return put_in_place(alloc, &mut pair.design, change);
     }
-    match turn_of(&pair.design, &change) {
-        Some(turn) => make_turn(alloc, pair, change, turn),
+    if let Some(turn) = turn_of(&pair.design, &change) {
+        return make_turn(alloc, pair, change, turn);
+    }
+    if let Some(lib) = blank_of(&change) {
+        return make_blank(alloc, pair, change, lib);
+    }
+    match refill_of(alloc, &pair.design, &change)? {
+        Some(refill) => make_refill(alloc, pair, change, &refill),
         None => make_anew(alloc, pair, change),
     }
 }
@@ -184,13 +198,133 @@ fn make_turn(alloc: Global, pair: &mut Pair, change: Change, turn: Turn) -> Resu
     ensures err { OnErr result (pair.new.design ≡ pair.old.design) }
 {
     pair.used.put(alloc, turn.of, turn.at)?;
-    match put_change(alloc, &mut pair.design, change) {
+    match put_in_place(alloc, &mut pair.design, change) {
         Ok(()) => {
             take_out(alloc, &mut pair.used, turn.old, turn.at);
             Ok(())
         }
         Err(refused) => {
             pair.used.take_out(alloc, turn.of, turn.at);
+            Err(refused)
+        }
+    }
+}
+
+/// Whether a cell has no instances.
+fn is_blank(body: &CellBody) -> bool
+    ensures { IsTrue result → insts_of body.now ≡ [] }
+{
+    match &body.contents {
+        Some(contents) => contents.insts.as_slice().is_empty(),
+        None => true,
+    }
+}
+
+/// The library to which a change adds a cell without instances, where it does nothing else.
+fn blank_of(change: &Change) -> Option<LibId>
+    ensures { IfSome result (λ lib. IsBlank change.now lib) }
+{
+    let cells = change.cells.as_slice();
+    if change.notes.is_some() {
+        return None;
+    }
+    if cells.len() != 1 {
+        return None;
+    }
+    match &cells[0] {
+        CellChange::Fresh { id, body } => {
+            if !is_blank(body) {
+                return None;
+            }
+            Some(id.lib)
+        }
+        _ => None,
+    }
+}
+
+/// Adds a cell without instances to a design, and an empty list to the index. All memory is taken before anything else is changed.
+fn make_blank(alloc: Global, pair: &mut Pair, change: Change, lib: LibId) -> Result<(), NoMemory>
+    requires index { pair.old.used ≡ uses pair.old.design }
+    requires can { CanAllBeMade pair.old.design change.cells }
+    requires valid { IsValid (edited pair.old.design (edits_of pair.old.design change)) }
+    requires blank { IsBlank change lib }
+    ensures index { pair.new.used ≡ uses pair.new.design }
+    ensures ok { OnOk result (pair.new.design ≡ edited pair.old.design (edits_of pair.old.design change)) }
+    ensures err { OnErr result (pair.new.design ≡ pair.old.design) }
+{
+    let _valid = pair.design.lib_count();
+    pair.used.add_cell(alloc, lib)?;
+    match put_in_place(alloc, &mut pair.design, change) {
+        Ok(()) => Ok(()),
+        Err(refused) => {
+            pair.used.cut_cell(lib);
+            Err(refused)
+        }
+    }
+}
+
+/// A cell whose contents are replaced, and the places there whose instances change their cells.
+#[derive(Drop)]
+struct Refill {
+    cell: CellId,
+    places: Vec<Move>,
+}
+
+/// The same, for other contents of a cell, where the places are not too many.
+fn refill_in(
+    alloc: Global,
+    design: &Design,
+    cell: CellId,
+    contents: &Contents,
+) -> Result<Option<Refill>, NoMemory>
+    ensures { IfOk result (λ found. IfSome found (λ refill. (refill.cell ≡ cell) × AreMoves (insts_at design.now cell) contents.now.insts refill.places.items)) }
+{
+    match moves_of(alloc, insts_at(design, cell), contents.insts.as_slice())? {
+        Some(places) => Ok(Some(Refill { cell, places })),
+        None => Ok(None),
+    }
+}
+
+/// What a change replaces, where that is the contents of one cell, and besides at most the notes.
+fn refill_of(alloc: Global, design: &Design, change: &Change) -> Result<Option<Refill>, NoMemory>
+    ensures { IfOk result (λ found. IfSome found (λ refill. IsRefilled design.now change.now refill.cell refill.places.items)) }
+{
+    let cells = change.cells.as_slice();
+    if cells.len() != 1 {
+        return Ok(None);
+    }
+    match &cells[0] {
+        CellChange::Inner { id, contents } => refill_in(alloc, design, *id, contents),
+        _ => Ok(None),
+    }
+}
+
+/// Replaces the contents of a cell of a design, and changes the lists of the cells of which it has more or fewer instances, or
+/// instances at other places. All memory is taken before anything else is changed.
+fn make_refill(
+    alloc: Global,
+    pair: &mut Pair,
+    change: Change,
+    refill: &Refill,
+) -> Result<(), NoMemory>
+    requires index { pair.old.used ≡ uses pair.old.design }
+    requires can { CanAllBeMade pair.old.design change.cells }
+    requires valid { IsValid (edited pair.old.design (edits_of pair.old.design change)) }
+    requires refill { IsRefilled pair.old.design change refill.now.cell refill.now.places.items }
+    ensures index { pair.new.used ≡ uses pair.new.design }
+    ensures ok { OnOk result (pair.new.design ≡ edited pair.old.design (edits_of pair.old.design change)) }
+    ensures err { OnErr result (pair.new.design ≡ pair.old.design) }
+{
+    let places = refill.places.as_slice();
+    let count = places.len();
+    put_news(alloc, &mut pair.used, refill.cell, places)?;
+    match put_in_place(alloc, &mut pair.design, change) {
+        Ok(()) => {
+            drop_olds(alloc, &mut pair.used, refill.cell, places);
+            Ok(())
+        }
+        Err(refused) => {
+            drop_news(alloc, &mut pair.used, refill.cell, places, count);
             Err(refused)
         }
     }
@@ -273,7 +407,7 @@ fn with_libs(
 {
     let notes = given_or_copied(alloc, notes, design.notes())?;
     let title = design.title().copy(alloc)?;
-    let top = copied_top(alloc, design.top())?;
+    let top = top_of(alloc, design.top())?;
     Ok(Design::of(title, libs, top, notes))
 }
 
@@ -288,15 +422,5 @@ fn given_or_copied(
     match given {
         Some(notes) => Ok(notes),
         None => others.copy(alloc),
-    }
-}
-
-/// A copy of the top, where there is one.
-fn copied_top(alloc: Global, top: Option<&TopHead>) -> Result<Option<TopHead>, NoMemory>
-    ensures { IfOk result (λ made. made ≡ option_copied top.entry) }
-{
-    match top {
-        Some(top) => Ok(Some(top.copy(alloc)?)),
-        None => Ok(None),
     }
 }

@@ -3,6 +3,7 @@
 
 mod build;
 pub mod indexed;
+mod moves;
 mod rows;
 pub mod used;
 pub mod watched;

@@ -2,11 +2,11 @@
 ghost use Rattle.std.specs.Prelude.{◌≡◌, IfOk, OnErr, OnOk};
 ghost use Rattle.std.specs.Option.{option_copied};
 ghost use Rattle.used_spec.specs.Uses.{uses, users_at};
-ghost use Rattle.where_used.specs.Rows.{drop_in, put_in};
+ghost use Rattle.where_used.specs.Rows.{drop_in, put_in, with_row, without_row};
 
 use crate::build::{add_all, blank};
-use crate::rows::{drop_use, put_use};
-use netlist_schema::{CellId, NoMemory, Row, Shown};
+use crate::rows::{add_row, cut_row, drop_use, put_use};
+use netlist_schema::{CellId, LibId, NoMemory, Row, Shown};
 use std::alloc::Global;
 use std::marker::Model;
 use used_spec::UsedAt;
@@ -26,10 +26,13 @@ impl Drop for Used {
 impl Model for Used {
     ghost use Rattle.std.specs.Prelude.{List};
     ghost use Rattle.used_spec.specs.declared.used_at.UsedAt.{UsedAt as Use};
+    ghost use Rattle.where_used.specs.Rows.{IsIndex};
 
     ghost Value = { List (List (List Use)) };
 
     ghost view = { λ u. u.libs.items };
+
+    ghost invariant = { λ u. IsIndex u.libs.items };
 }
 
 impl Used {
@@ -67,5 +70,20 @@ impl Used {
         ensures { self.new ≡ drop_in of at self.old }
     {
         drop_use(alloc, &mut self.libs, of, at)
+    }
+
+    /// Adds an empty list for a cell more of a library. Where memory is refused, the index stays.
+    pub(crate) fn add_cell(&mut self, alloc: Global, lib: LibId) -> Result<(), NoMemory>
+        ensures ok { OnOk result (self.new ≡ with_row lib self.old) }
+        ensures err { OnErr result (self.new ≡ self.old) }
+    {
+        add_row(alloc, &mut self.libs, lib)
+    }
+
+    /// Takes the list of the last cell of a library out.
+    pub(crate) fn cut_cell(&mut self, lib: LibId)
+        ensures { self.new ≡ without_row lib self.old }
+    {
+        cut_row(&mut self.libs, lib)
     }
 }

@@ -1,5 +1,6 @@
 //! `Watched`: cells of a design that keep an index of their uses.
 ghost use Rattle.std.specs.Prelude.{◌≡◌, [], IfOk};
+ghost use Rattle.netlist_schema.specs.Names.{AreDistinct};
 ghost use Rattle.used_spec.specs.Uses.{uses};
 
 use crate::indexed::Indexed;
@@ -76,14 +77,16 @@ impl Watched {
 
     /// The objects that were read, each once, in the order of their first reads.
     pub fn reads(&self) -> &Row<Object>
-        ensures { result.now ≡ self.now.reads }
+        ensures value { result.now ≡ self.now.reads }
+        ensures distinct { AreDistinct self.now.reads }
     {
         self.reads.row()
     }
 
     /// The objects that were written, each once.
     pub fn written(&self) -> &Row<Object>
-        ensures { result.now ≡ self.now.written }
+        ensures value { result.now ≡ self.now.written }
+        ensures distinct { AreDistinct self.now.written }
     {
         self.written.row()
     }

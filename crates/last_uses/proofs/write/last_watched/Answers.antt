@@ -9,6 +9,6 @@ pub returns : goal.returns
 returns g c =
     let opening = g.S.Shown.design c.args.opening.now in
     let begun : c.in_ok-watched.watched.design ≡ opening = ap (λ (w : State). w.design) c.in_ok-watched.ensures ∙ c.in_ok-design.ensures in
-    c.in_ok-replay.ensures
+    c.in_ok-replay.ensures.done
     ∙ ap (λ (d : Design). replayed d c.args.history.now) begun
     ∙ replayed_is_last opening c.args.history.now

@@ -10,13 +10,13 @@ use Rattle.par_flat.proofs.parts.add_left.Goals as goal
 
 pub returns-then-is_full : goal.returns-then-is_full
 returns-then-is_full g c =
-    let d = g.S.Shown.design c.args.terrain.now.ground.design in
+    let d = c.args.ground.now in
     let wanted : List Item = c.args.items.now.items ++ shown_items c.args.most (left d (stand_of c.args.place.now)) in
     full_given c.items.room wanted c.items.items.items (left d (stand_of c.items.place)) (c.is_full.ensures.0 c.if-is_full.true) c.items.invariant.given
 
 pub returns-then-not-branch : goal.returns-then-not-branch
 returns-then-not-branch g c =
-    let d = g.S.Shown.design c.args.terrain.now.ground.design in
+    let d = c.args.ground.now in
     let wanted : List Item = c.args.items.now.items ++ shown_items c.args.most (left d (stand_of c.args.place.now)) in
     let old : List Item = left d (stand_of c.items.place) in
     let new : List Item = left d (stand_of c.add_next.new.place) in
@@ -25,7 +25,7 @@ returns-then-not-branch g c =
 
 pub items-preserved : goal.items-preserved
 items-preserved g c =
-    let d = g.S.Shown.design c.args.terrain.now.ground.design in
+    let d = c.args.ground.now in
     let wanted : List Item = c.args.items.now.items ++ shown_items c.args.most (left d (stand_of c.args.place.now)) in
     let old : List Item = left d (stand_of c.items.place) in
     let new : List Item = left d (stand_of c.add_next.new.place) in
@@ -40,7 +40,7 @@ items-preserved g c =
 
 pub items-smaller : goal.items-smaller
 items-smaller g c =
-    let d = g.S.Shown.design c.args.terrain.now.ground.design in
+    let d = c.args.ground.now in
     let old : List Item = left d (stand_of c.items.place) in
     let new : List Item = left d (stand_of c.add_next.new.place) in
     let given = subst (λ (b : Bool). GivesMore old c.items.items.items new c.add_next.new.items.items b) c.if-not-branch.false c.in_ok-add_next.ensures.given in

@@ -6,10 +6,10 @@ use Rattle.par_flat.proofs.parts.add_left.Given as goal
 
 abbrev pub invariant-items : goal.invariant-items
 invariant-items g l = record {
-  stands : MayStand (g.S.Shown.design l.terrain.ground.design) (stand_of l.place);
-  given : l.items.items ++ shown_items l.room (left (g.S.Shown.design l.terrain.ground.design) (stand_of l.place))
-      ≡ l.fn.items.items ++ shown_items l.fn.most (left (g.S.Shown.design l.terrain.ground.design) (stand_of l.fn.place));
+  stands : MayStand l.ground (stand_of l.place);
+  given : l.items.items ++ shown_items l.room (left l.ground (stand_of l.place))
+      ≡ l.fn.items.items ++ shown_items l.fn.most (left l.ground (stand_of l.fn.place));
 }
 
 abbrev pub decreases-items : goal.decreases-items
-decreases-items g l = length (left (g.S.Shown.design l.terrain.ground.design) (stand_of l.place))
+decreases-items g l = length (left l.ground (stand_of l.place))

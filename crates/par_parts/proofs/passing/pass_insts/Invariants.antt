@@ -7,11 +7,11 @@ use Rattle.par_parts.proofs.passing.pass_insts.Given as goal
 
 abbrev pub invariant-insts : goal.invariant-insts
 invariant-insts g l = record {
-  stands : MayStand (g.S.Shown.design l.terrain.ground.design) (stand_of l.place);
+  stands : MayStand l.ground (stand_of l.place);
   over : is_over l.place.stage ≡ true;
   less : l.more ≤ l.count;
-  same : drop l.more (left (g.S.Shown.design l.terrain.ground.design) (stand_of l.place)) ≡ drop l.count (left (g.S.Shown.design l.terrain.ground.design) (stand_of l.fn.place));
+  same : drop l.more (left l.ground (stand_of l.place)) ≡ drop l.count (left l.ground (stand_of l.fn.place));
 }
 
 abbrev pub decreases-insts : goal.decreases-insts
-decreases-insts g l = length (insts_at (g.S.Shown.design l.terrain.ground.design) l.place.here.cell) - l.place.here.next
+decreases-insts g l = length (insts_at l.ground l.place.here.cell) - l.place.here.next

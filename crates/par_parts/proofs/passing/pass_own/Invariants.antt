@@ -5,9 +5,9 @@ use Rattle.par_parts.proofs.passing.pass_own.Given as goal
 
 abbrev pub invariant-own : goal.invariant-own
 invariant-own g l = record {
-  stands : MayStand (g.S.Shown.design l.ground.design) (stand_of l.place);
+  stands : MayStand l.ground (stand_of l.place);
   less : l.more < l.count;
-  same : drop l.more (left (g.S.Shown.design l.ground.design) (stand_of l.place)) ≡ drop l.count (left (g.S.Shown.design l.ground.design) (stand_of l.fn.place));
+  same : drop l.more (left l.ground (stand_of l.place)) ≡ drop l.count (left l.ground (stand_of l.fn.place));
 }
 
 abbrev pub decreases-own : goal.decreases-own

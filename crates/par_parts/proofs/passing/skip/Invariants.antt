@@ -5,8 +5,8 @@ use Rattle.par_parts.proofs.passing.skip.Given as goal
 
 abbrev pub invariant-on : goal.invariant-on
 invariant-on g l = record {
-  stands : MayStand (g.S.Shown.design l.terrain.ground.design) (stand_of l.place);
-  same : drop l.more (left (g.S.Shown.design l.terrain.ground.design) (stand_of l.place)) ≡ drop l.count (left (g.S.Shown.design l.terrain.ground.design) (stand_of l.fn.place));
+  stands : MayStand l.ground (stand_of l.place);
+  same : drop l.more (left l.ground (stand_of l.place)) ≡ drop l.count (left l.ground (stand_of l.fn.place));
 }
 
 abbrev pub decreases-on : goal.decreases-on

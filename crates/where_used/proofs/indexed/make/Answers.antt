@@ -15,4 +15,4 @@ pub returns-then-keeps_uses-clause-index : goal.returns-then-keeps_uses-clause-i
 returns-then-keeps_uses-clause-index c =
     let d = c.args.pair.now.design in
     c.requires.index
-    ∙ either c.put_change.result d (edited d (edits_of d c.args.change)) c.put_change.new.design c.put_change.ensures.ok c.put_change.ensures.err (c.if-keeps_uses.ensures refl)
+    ∙ either c.put_in_place.result d (edited d (edits_of d c.args.change)) c.put_in_place.new.design c.put_in_place.ensures.ok c.put_in_place.ensures.err (c.if-keeps_uses.ensures refl)

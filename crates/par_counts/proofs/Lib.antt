@@ -1,3 +1,0 @@
-pub mod RoomLemmas
-pub mod SizeLemmas
-pub mod CountLemmas

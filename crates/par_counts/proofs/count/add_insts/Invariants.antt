@@ -1,7 +1,0 @@
-use Rattle.std.proofs.Common.{◌≡◌, ◌+◌, ◌-◌, ◌^◌, min, take}
-use Rattle.std.specs.List.{sum_by}
-use Rattle.par_counts.specs.Counts.{kept_of}
-use Rattle.par_counts.proofs.count.add_insts.Given as goal
-
-abbrev pub invariant-loop-inst : goal.invariant-loop-inst
-invariant-loop-inst l = l.count ≡ min (l.own + sum_by (kept_of l.counts) (take l.inst-index l.insts)) (2 ^ 64 - 1)

@@ -1,0 +1,119 @@
+//! The lines that one worker makes.
+ghost use Rattle.std.specs.Prelude.{◌≡◌, ◌<◌, ◌+◌, ◌^◌, ◌++◌, [], IfOk, OnOk, drop, false};
+ghost use Rattle.std.specs.Option.{ForSome};
+ghost use Rattle.flat_spec.specs.Flattening.{flattening};
+ghost use Rattle.occ_walk.specs.Left.{left};
+ghost use Rattle.walk_items.specs.Left.{is_over};
+ghost use Rattle.walk_items.specs.Stand.{MayStand, stand_of};
+ghost use Rattle.par_flat.specs.Desks.{IsSeat};
+ghost use Rattle.par_flat.specs.Lines.{GivesLine, IsPart};
+
+use crate::desks::{Desk, Most, Seat, place_at};
+use flat_report::kept_text;
+use netlist_schema::{NoMemory, Shown};
+use par_parts::CountedGround;
+use path_texts::PathTexts;
+use walk_items::{ItemRef, Place};
+
+/// The path of the occurrence to which an item belongs.
+fn path_of(item: ItemRef<'_>) -> &[u32] {
+    match item {
+        ItemRef::Enter { path, .. } => path,
+        ItemRef::Net { path, .. } => path,
+        ItemRef::Pin { path, .. } => path,
+    }
+}
+
+/// Adds the line of the next item, where the place has gone on to one.
+fn add_ahead<S: Shown + Drop>(
+    ground: &CountedGround<S>,
+    texts: &mut PathTexts<'_, S>,
+    place: &mut Place,
+    text: &mut Vec<u8>,
+) -> Result<bool, NoMemory>
+    requires same { texts.old ≡ ground.now }
+    requires stands { MayStand ground.now (stand_of place.old) }
+    requires some { is_over place.old.stage ≡ false }
+    ensures same { texts.new ≡ texts.old }
+    ensures stands { MayStand ground.now (stand_of place.new) }
+    ensures given { IfOk result (GivesLine ground.now (left ground.now (stand_of place.old)) text.old.items
+        (left ground.now (stand_of place.new)) text.new.items) }
+{
+    let Some(item) = ground.peek(place) else {
+        return Ok(false);
+    };
+    texts.keep(path_of(item));
+    kept_text(ground.alloc(), texts, item, text)?;
+    ground.pass(place);
+    Ok(true)
+}
+
+/// Adds the line of the next item, where one is left: whether one was.
+fn add_line<S: Shown + Drop>(
+    ground: &CountedGround<S>,
+    texts: &mut PathTexts<'_, S>,
+    place: &mut Place,
+    text: &mut Vec<u8>,
+) -> Result<bool, NoMemory>
+    requires same { texts.old ≡ ground.now }
+    requires stands { MayStand ground.now (stand_of place.old) }
+    ensures same { texts.new ≡ texts.old }
+    ensures stands { MayStand ground.now (stand_of place.new) }
+    ensures given { IfOk result (GivesLine ground.now (left ground.now (stand_of place.old)) text.old.items
+        (left ground.now (stand_of place.new)) text.new.items) }
+{
+    if !ground.settle(place)? {
+        return Ok(false);
+    }
+    add_ahead(ground, texts, place, text)
+}
+
+/// Adds the lines of the items that are left, no more than so many, and none behind a text that is so long. Returns how many it added.
+fn add_lines<S: Shown + Drop>(
+    ground: &CountedGround<S>,
+    texts: &mut PathTexts<'_, S>,
+    place: &mut Place,
+    most: Most,
+    text: &mut Vec<u8>,
+) -> Result<u64, NoMemory>
+    requires same { texts.old ≡ ground.now }
+    requires stands { MayStand ground.now (stand_of place.old) }
+    requires empty { text.old.items ≡ [] }
+    ensures stands { OnOk result (MayStand ground.now (stand_of place.new)) }
+    ensures part { IfOk result (λ count. IsPart ground.now (left ground.now (stand_of place.old)) most count text.new.items) }
+    ensures left { IfOk result (λ count. left ground.now (stand_of place.new) ≡ drop count (left ground.now (stand_of place.old))) }
+{
+    let mut count = 0;
+    'lines: while count < most.items && text.len() < most.bytes {
+        if !add_line(ground, texts, place, text)? {
+            return Ok(count);
+        }
+        count += 1;
+    }
+    Ok(count)
+}
+
+/// Makes the lines of the items behind the first so many, in place of those that the worker made before: of how many items. It goes on
+/// from where the worker stands, and makes the text of a path from the one before.
+pub fn make_lines<S: Shown + Drop>(
+    ground: &CountedGround<S>,
+    desk: &mut Desk,
+    first: u64,
+    most: Most,
+) -> Result<u64, NoMemory>
+    requires seat { ForSome desk.old.seat (IsSeat ground.now) }
+    requires fits { first + most.items < 2 ^ 64 }
+    ensures worker { desk.new.worker ≡ desk.old.worker }
+    ensures seat { ForSome desk.new.seat (IsSeat ground.now) }
+    ensures part { IfOk result (λ count. IsPart ground.now (drop first (flattening ground.now)) most count desk.new.text.items) }
+{
+    desk.text.clear();
+    let mut place = place_at(ground, desk.seat.take(), first)?;
+    let mut texts = PathTexts::new(ground.alloc(), ground.design());
+    let count = add_lines(ground, &mut texts, &mut place, most, &mut desk.text)?;
+    desk.seat = Some(Seat {
+        before: first + count,
+        place,
+    });
+    Ok(count)
+}

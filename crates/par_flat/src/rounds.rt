@@ -1,0 +1,48 @@
+//! How many items are made into lines at once.
+ghost use Rattle.std.specs.Prelude.{◌≡◌, ◌<◌, ◌≤◌, ◌+◌, ◌*◌, ◌/◌, min};
+
+use crate::desks::Most;
+
+/// The most items that are made into lines at once, but for those by which equal shares are rounded up.
+pub const MOST_AT_ONCE: u64 = 262_144;
+
+/// The most bytes of text that are made at once, but for a line of each worker.
+pub const MOST_BYTES: usize = 33_554_432;
+
+/// Which items are made into lines at once: those of each worker, where so many were written before.
+#[derive(Clone, Copy)]
+pub struct Round {
+    pub workers: u32,
+    pub first: u64,
+    pub most: Most,
+}
+
+/// What each worker makes at most, where all of them make so many items: an even share of these, and of the bytes.
+pub fn share_of(workers: u32, left: u64) -> Most
+    requires { (1 ≤ workers) × (workers ≤ 64) }
+    ensures all { left ≤ workers * result.items }
+    ensures even { workers * result.items < left + workers }
+    ensures bytes { result.bytes ≡ MOST_BYTES / workers }
+{
+    Most {
+        items: left.div_ceil(u64::from(workers)),
+        bytes: MOST_BYTES / workers as usize,
+    }
+}
+
+/// How many items are made at once behind a round in which so many of those that were wanted were written. Where those were too many
+/// for the bytes, as many as were written; else twice as many as before.
+pub fn next_at_once(at_once: u64, wanted: u64, made: u64) -> u64
+    requires some { (1 ≤ at_once) × (1 ≤ made) }
+    requires few { at_once ≤ MOST_AT_ONCE }
+    requires wanted { wanted ≤ at_once }
+    ensures early { made < wanted → result ≡ made }
+    ensures whole { wanted ≤ made → result ≡ min (at_once * 2) MOST_AT_ONCE }
+    ensures some { 1 ≤ result }
+    ensures few { result ≤ MOST_AT_ONCE }
+{
+    if made < wanted {
+        return made;
+    }
+    (at_once * 2).min(MOST_AT_ONCE)
+}
