@@ -1,23 +1,18 @@
 -- What a check of a report wrote, as far as its status says.
 use Rattle.std.specs.Prelude.{◌≡◌, ◌⊎◌, ℕ, List, [], ◌∷◌, ◌++◌, codes, None, Option}
 use Rattle.netlist_schema.specs.Design.{Design}
-use Rattle.history_spec.specs.declared.event.Event.{Event}
 use Rattle.script_spec.specs.Headline.{CanWalk, SomeWalks}
-use Rattle.script_spec.specs.Report.{Prints}
 use Rattle.script_spec.specs.declared.script.Step.{Step}
 use Rattle.call_output.specs.Gives.{TextGives}
+use Rattle.history_check.specs.Verdicts.{PrintsNone, PrintsSome}
 use Rattle.netdb_spec.specs.declared.status.Status.{Status}
 use Rattle.netdb_spec.specs.declared.status.Status.TheVariants as status
 
--- the report is that of a history of the scripts on the design
-abbrev pub IsTold : Design → List (List Step) → List ℕ → Type 0
-IsTold d scripts report = (history : List Event) × Prints d scripts report history
-
--- the line `yes` was written where the report is that of a history, and the line `no` where it is that of none, as far as the status says
+-- the line `yes` was written where a history prints the report, and the line `no` where none does, as far as the status says
 abbrev pub VerdictGives : Design → List (List Step) → List ℕ → Option (List ℕ) → Option (List ℕ) → Status → Type 0
 VerdictGives d scripts report old new result =
-    (IsTold d scripts report × TextGives (codes "yes" ++ 10 ∷ []) old new result)
-    ⊎ ((IsTold d scripts report → ⊥) × TextGives (codes "no" ++ 10 ∷ []) old new result)
+    (PrintsSome d scripts report × TextGives (codes "yes" ++ 10 ∷ []) old new result)
+    ⊎ (PrintsNone d scripts report × TextGives (codes "no" ++ 10 ∷ []) old new result)
 
 -- The verdict was written. Where a script walks and the design has no top, nothing is; nor where there was no memory for the check.
 abbrev pub CheckGives : Design → List (List Step) → List ℕ → Option (List ℕ) → Option (List ℕ) → Status → Type 0

@@ -33,6 +33,12 @@ pub read_through : (told : Option Shelf) (name bytes : List ℕ) (limit : ℕ) �
 read_through None name bytes limit size h = tt
 read_through (Some shelf) name bytes limit size h = rw h.0 (h.1 ∙ sym (drop_all (limit + 1) bytes (omega (arith, size))))
 
+-- so is that of bytes that were read
+pub report_through : (told : Option Shelf) (name : List ℕ) (limit : ℕ) (r : Result (List ℕ) Status) → IfOk r (λ bytes. (length bytes ≤ limit) × IfSome told (λ shelf. IsReadWhole shelf name bytes))
+    → IfOk r (λ _. IsReadThrough told name limit)
+report_through told name limit (Ok bytes) h = read_through told name bytes limit h.0 h.1
+report_through told name limit (Err result) h = tt
+
 -- a file stays as it is
 pub stays : (old new : Option Shelf) (name : List ℕ) (P : List ℕ → Type 0) → SameFiles old new → IsFile old name P → IsFile new name P
 stays None None name P same h = tt

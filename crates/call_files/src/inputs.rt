@@ -12,6 +12,7 @@ ghost use Rattle.call_words.specs.Command.{spelled};
 ghost use Rattle.netdb_spec.specs.Counts.{CountsReading};
 ghost use Rattle.netdb_spec.specs.Refusals.{RefusesDesign, RefusesFile, RefusesReport, RefusesScript, RefusesScripts};
 ghost use Rattle.netdb_spec.specs.Steps.{IsNoDesign, IsNoScript, status_of};
+ghost use Rattle.netdb_spec.specs.declared.limits.TheConstants.{MOST_REPORT_BYTES as MOST_REPORT};
 ghost use Rattle.netdb_spec.specs.Told.{AreRead, IsFile, IsLastRead, IsRead, IsReadThrough, IsReportFile, IsScriptFile};
 
 use edif_file::{DesignReader, NoDesign};
@@ -119,9 +120,10 @@ fn read_script<F: Files>(
     }
 }
 
-/// Reads the bytes of a report, or tells the status that refuses it.
+/// Reads the bytes of a report, once and to its end, or tells the status that refuses it.
 pub fn read_report<F: Files>(alloc: Global, files: &mut F, name: &str) -> Result<Text, Status>
     ensures read { IfOk result (λ bytes. IsReportFile (F.told files.new) name.now bytes) }
+    ensures through { IfOk result (λ _. IsReadThrough (F.told files.new) name.now MOST_REPORT) }
     ensures refused { IfErr result (RefusesReport (F.told files.new) name.now) }
     ensures counts { CountsReading (F.faults files.old) (F.faults files.new) (status_of result) }
     ensures files { SameFiles (F.told files.old) (F.told files.new) }

@@ -19,13 +19,13 @@ use Rattle.history_check_spec.specs.Left.{AreLoud, Between, EndsBy, Leads, Left,
 use Rattle.history_check_spec.proofs.Ending.{block_never, owes_again_never, owes_never, pin_never}
 use Rattle.history_check_spec.proofs.Leading.{leads_on}
 use Rattle.history_check.specs.Follow.{Ends, EndsNever, IsEnd}
-use Rattle.history_check.specs.Moves.{HasPassed, Passes}
-use Rattle.history_check.specs.Seats.{Stands, phase_of}
+use Rattle.history_turns.specs.Moves.{HasPassed, Passes}
+use Rattle.history_turns.specs.Seats.{Stands, phase_of}
 use Rattle.history_check.specs.declared.ends.End.{End}
-use Rattle.history_check.specs.declared.seats.At.{At}
-use Rattle.history_check.specs.declared.seats.At.TheVariants as at
-use Rattle.history_check.specs.declared.seats.Seat.{Seat}
-use Rattle.history_check.proofs.Turning.{writes_both}
+use Rattle.history_turns.specs.declared.seats.At.{At}
+use Rattle.history_turns.specs.declared.seats.At.TheVariants as at
+use Rattle.history_turns.specs.declared.seats.Seat.{Seat}
+use Rattle.history_turns.proofs.Turning.{writes_both}
 
 module _ (story : Story) (caller : ℕ) (steps : List Step) (seat : Seat) (stands : Stands story caller steps seat) (legal : Legal story.opening story.events) (mid : List ℕ) (a : At) (k : ℕ)
     (passed : HasPassed seat.at steps seat.line seat.said.items mid a k) where
@@ -74,12 +74,12 @@ module _ (story : Story) (caller : ℕ) (steps : List Step) (seat : Seat) (stand
   left : (said : List Word) (ending : Ending) → Runs versions Nothing steps (exchanges caller story.events) said ending → (more : List Word) × (said ≡ words ++ more) × Left versions (phase_of a) (drop k steps) [] more ending
   left said ending runs = here.back [] said ending (subst (λ (z : List Exchange). Runs versions Nothing steps z said ending) (sym (append-nil (exchanges caller story.events))) runs)
 
-  pub ends_never : NoEnd versions (phase_of a) (drop k steps) → EndsNever story caller steps
-  ends_never none said ending runs = absurd (let l = left said ending runs in none l.0 ending l.2)
+  pub ends_never : (most : ℕ) → NoEnd versions (phase_of a) (drop k steps) → EndsNever story caller steps most
+  ends_never most none said ending runs filled small = absurd (let l = left said ending runs in none l.0 ending l.2)
 
   -- the history has the places that were wanted
-  pub ends_not_full : (last : List Word) (places : ℕ) → EndsBy versions (phase_of a) (drop k steps) last (Full places) → length story.events + places ≤ most_events → EndsNever story caller steps
-  ends_not_full last places e room said ending runs filled =
+  pub ends_not_full : (most : ℕ) (last : List Word) (places : ℕ) → EndsBy versions (phase_of a) (drop k steps) last (Full places) → length story.events + places ≤ most_events → EndsNever story caller steps most
+  ends_not_full most last places e room said ending runs filled small =
       let l = left said ending runs in
       let is = (e.back l.0 ending l.2).1 in
       let wanting : most_events < length story.events + places = subst (λ (z : Ending). HasFilled story.events z) is filled in
@@ -123,7 +123,7 @@ pub end_here : (lines : List ScriptLine) (k : ℕ) (phase : Phase) (e : End) →
 end_here lines k phase e is = subst (λ (z : List Step). IsEnd phase z e) (rest_steps lines k) is
 
 module _ (story : Story) (caller : ℕ) (steps : List Step) (seat : Seat) (stands : Stands story caller steps seat) (legal : Legal story.opening story.events) (mid : List ℕ) (a : At) (k : ℕ)
-    (passed : HasPassed seat.at steps seat.line seat.said.items mid a k) (events places : ℕ) (many : events ≡ length story.events) where
+    (passed : HasPassed seat.at steps seat.line seat.said.items mid a k) (events places most : ℕ) (many : events ≡ length story.events) where
   -- with the places that were wanted
   room_is : events + places ≤ most_events → length story.events + places ≤ most_events
   room_is le = omega (arith, le, many)
@@ -132,11 +132,11 @@ module _ (story : Story) (caller : ℕ) (steps : List Step) (seat : Seat) (stand
   full_is less = omega (arith, less, many)
 
   pub over_result : EndsBy (version_at story.opening story.events) (phase_of a) (drop k steps) [] (Full places) → (o : Option (List ℕ))
-      → MatchOption o (events + places ≤ most_events) (λ text. (most_events < events + places) × (text ≡ mid)) → MatchOption o (EndsNever story caller steps) (Ends story caller steps)
-  over_result e None le = ends_not_full story caller steps seat stands legal mid a k passed [] places e (room_is le)
+      → MatchOption o (events + places ≤ most_events) (λ text. (most_events < events + places) × (text ≡ mid)) → MatchOption o (EndsNever story caller steps most) (Ends story caller steps)
+  over_result e None le = ends_not_full story caller steps seat stands legal mid a k passed most [] places e (room_is le)
   over_result e (Some text) x = subst (λ (z : List ℕ). Ends story caller steps z) (sym x.1) (ends_over story caller steps seat stands legal mid a k passed places e (full_is x.0))
 
   pub full_result : (said : List ℕ) → said ≡ mid ++ line (codes "log-full" ∷ []) → EndsBy (version_at story.opening story.events) (phase_of a) (drop k steps) (LogFull ∷ []) (Full places) → (o : Option (List ℕ))
-      → MatchOption o (events + places ≤ most_events) (λ text. (most_events < events + places) × (text ≡ said)) → MatchOption o (EndsNever story caller steps) (Ends story caller steps)
-  full_result said is e None le = ends_not_full story caller steps seat stands legal mid a k passed (LogFull ∷ []) places e (room_is le)
+      → MatchOption o (events + places ≤ most_events) (λ text. (most_events < events + places) × (text ≡ said)) → MatchOption o (EndsNever story caller steps most) (Ends story caller steps)
+  full_result said is e None le = ends_not_full story caller steps seat stands legal mid a k passed most (LogFull ∷ []) places e (room_is le)
   full_result said is e (Some text) x = subst (λ (z : List ℕ). Ends story caller steps z) (sym x.1) (ends_full story caller steps seat stands legal mid a k passed said places e (full_is x.0) is)

@@ -1,5 +1,5 @@
 -- What the ends of all scripts tell of the report.
-use Rattle.std.proofs.Common.{◌≡◌, ◌∙◌, ℕ, zero, suc, ◌+◌, ◌<◌, List, [], ◌∷◌, length, refl, ap, sym, subst, arith}
+use Rattle.std.proofs.Common.{◌≡◌, ◌∙◌, ℕ, zero, suc, ◌+◌, ◌≤◌, ◌<◌, List, [], ◌∷◌, length, refl, ap, sym, subst, arith}
 use Rattle.std.specs.Prelude.{slice_index_or}
 use Rattle.std.specs.List.{All, AllByRecursion}
 use Rattle.std.proofs.lemmas.List.Elements.{All-from_recursion}
@@ -13,7 +13,9 @@ use Rattle.script_spec.specs.Session.{Session}
 use Rattle.script_spec.specs.declared.script.Step.{Step}
 use Rattle.joint_spec.specs.Written.{written_report}
 use Rattle.joint_spec.proofs.Texts.{report_is, transcripts}
-use Rattle.history_check.specs.Follow.{AllEnd, PrintsNone, PrintsOnly, PrintsSome, SomeNever}
+use Rattle.history_check.proofs.Lengths.{printed_at}
+use Rattle.history_check.specs.Follow.{AllEnd, SomeNever}
+use Rattle.history_check.specs.Verdicts.{PrintsNone, PrintsOnly, PrintsSome}
 
 -- what all came to
 record AllCame (story : Story) (caller : ℕ) (scripts : List (List Step)) (texts : List (List ℕ)) : Type 0 where
@@ -51,9 +53,12 @@ written_prints story scripts texts legal callers all =
     }
 
 pub prints_some : (story : Story) (scripts : List (List Step)) (texts : List (List ℕ)) (report : List ℕ) → Legal story.opening story.events → All (λ (event : Event). event.caller < length scripts) story.events
-    → AllEnd story 0 scripts texts → report ≡ written_report (last_design story.opening story.events) story.events texts → PrintsSome story.opening scripts report
-prints_some story scripts texts report legal callers all is =
-    (story.events, subst (λ (z : List ℕ). Prints story.opening scripts z story.events) (sym is) (written_prints story scripts texts legal callers all))
+    → AllEnd story 0 scripts texts → PrintsOnly story.opening scripts report story.events → report ≡ written_report (last_design story.opening story.events) story.events texts → PrintsSome story.opening scripts report
+prints_some story scripts texts report legal callers all only is = record {
+  history = story.events;
+  prints = subst (λ (z : List ℕ). Prints story.opening scripts z story.events) (sym is) (written_prints story scripts texts legal callers all);
+  only = only;
+}
 
 pub prints_none : OneReport → (story : Story) (scripts : List (List Step)) (texts : List (List ℕ)) (report : List ℕ) → Legal story.opening story.events → All (λ (event : Event). event.caller < length scripts) story.events
     → AllEnd story 0 scripts texts → PrintsOnly story.opening scripts report story.events → ¬ (report ≡ written_report (last_design story.opening story.events) story.events texts) → PrintsNone story.opening scripts report
@@ -63,26 +68,8 @@ prints_none one story scripts texts report legal callers all only other history 
 
 -- ---- a script that does not end so
 
--- some session of a script, with the places that were wanting
-abbrev Filled : Design → List Event → ℕ → List Step → Type 0
-Filled d history caller steps = (came : Came) × Session d history caller steps came.said came.ending × HasFilled history came.ending
-
-filled_at : (d : Design) (history : List Event) (first : ℕ) (scripts : List (List Step)) (stories : List Came) → Sessions d history first scripts stories → All (λ (c : Came). HasFilled history c.ending) stories
-    → (k : ℕ) → k < length scripts → Filled d history (first + k) (slice_index_or scripts k [])
-filled_at d history first [] [] all filled k less = absurd (omega (arith, less))
-filled_at d history first [] (came ∷ stories) all filled k less = absurd all
-filled_at d history first (steps ∷ scripts) [] all filled k less = absurd all
-filled_at d history first (steps ∷ scripts) (came ∷ stories) all filled zero less =
-    let same : first ≡ first + 0 = omega arith in subst (λ (n : ℕ). Filled d history n steps) same (came, all.0, filled 0 came (omega arith))
-filled_at d history first (steps ∷ scripts) (came ∷ stories) all filled (suc k) less =
-    let same : first + 1 + k ≡ first + suc k = omega arith in
-    subst (λ (n : ℕ). Filled d history n (slice_index_or scripts k [])) same
-    (filled_at d history (first + 1) scripts stories all.1 (λ j c small. filled (suc j) c (omega (arith, small))) k (omega (arith, less)))
-
-pub never_prints : (story : Story) (scripts : List (List Step)) (report : List ℕ) → SomeNever story scripts → PrintsOnly story.opening scripts report story.events → PrintsNone story.opening scripts report
-never_prints story scripts report never only history prints =
+pub never_prints : (story : Story) (scripts : List (List Step)) (report : List ℕ) (most : ℕ) → length report ≤ most → SomeNever story scripts most → PrintsOnly story.opening scripts report story.events → PrintsNone story.opening scripts report
+never_prints story scripts report most few never only history prints =
     let here = subst (λ (z : List Event). Prints story.opening scripts report z) (only history prints) prints in
-    let same : 0 + never.caller ≡ never.caller = omega arith in
-    let f = subst (λ (n : ℕ). Filled story.opening story.events n (slice_index_or scripts never.caller [])) same
-    (filled_at story.opening story.events 0 scripts here.stories here.fit here.filled never.caller never.known) in
-    never.never f.0.said f.0.ending f.1 f.2
+    let f = printed_at story.opening story.events scripts report here most few never.caller never.known in
+    never.never f.0.said f.0.ending f.1 f.2 f.3

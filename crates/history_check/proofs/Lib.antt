@@ -1,11 +1,7 @@
-pub mod Again
-pub mod Blocking
-pub mod Calling
 pub mod Finishing
-pub mod Heading
 pub mod Judging
-pub mod Quieting
+pub mod Lengths
 pub mod Replaying
 pub mod Seating
-pub mod Turning
 pub mod WalkLemmas
+pub mod Wholes

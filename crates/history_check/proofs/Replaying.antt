@@ -1,23 +1,26 @@
 -- What a replayed event tells of the histories that print a report.
-use Rattle.std.proofs.Common.{◌≡◌, ◌∙◌, ℕ, ◌+◌, ◌≤◌, ◌<◌, ◌^◌, List, [], ◌∷◌, ◌++◌, length, ap, sym, subst, arith}
+use Rattle.std.proofs.Common.{◌≡◌, ◌∙◌, ℕ, ◌+◌, ◌≤◌, ◌<◌, ◌^◌, List, [], ◌∷◌, ◌++◌, length, ap, sym, subst, arith, append_assoc}
 use Rattle.std.specs.Prelude.{codes}
 use Rattle.std.proofs.lemmas.List.{append_cancel_left, length-append}
 use Rattle.netlist_schema.specs.Design.{Design}
 use Rattle.history_spec.specs.History.{Legal}
 use Rattle.history_spec.specs.declared.event.Event.{Event}
-use Rattle.db_core.specs.Calls.{event_of}
+use Rattle.db_core.specs.Calls.{Adds, event_of}
 use Rattle.db_core.specs.Story.{Story}
 use Rattle.db_core.proofs.Staying.{still_legal}
 use Rattle.script_spec.specs.Report.{Prints, last_design}
 use Rattle.script_spec.specs.Texts.{event_text, event_texts, line}
 use Rattle.script_spec.specs.declared.script.Step.{Step}
 use Rattle.history_check_spec.specs.Heads.{behind_events}
+use Rattle.history_check_spec.proofs.Events.{texts_one_more}
 use Rattle.history_check_spec.proofs.Meeting.{event_stays}
 use Rattle.history_check_spec.proofs.Rests.{begins_history, ends_with, goes_on, next, call_is, admitted, rest_of_all}
-use Rattle.history_check.specs.Follow.{Heads, HeadsNone, IsCalled, IsRestOf, IsStopped, PrintsNone, PrintsOnly}
-use Rattle.history_check.specs.declared.heads.Next.{Next}
-use Rattle.history_check.specs.declared.seats.Seat.{Seat}
-use Rattle.history_check.proofs.Turning.{story_is}
+use Rattle.report_parts.specs.Parts.{Heads, HeadsNone}
+use Rattle.history_check.specs.Follow.{IsBehind, IsCalled, IsRestOf, IsStopped}
+use Rattle.history_check.specs.Verdicts.{PrintsNone, PrintsOnly}
+use Rattle.report_parts.specs.declared.heads.Next.{Next}
+use Rattle.history_turns.specs.declared.seats.Seat.{Seat}
+use Rattle.history_turns.proofs.Turning.{story_is}
 
 -- ---- before the first event
 
@@ -26,6 +29,26 @@ begins d scripts report rest e = rest_of_all d scripts report rest e
 
 pub begins_not : (d : Design) (scripts : List (List Step)) (report : List ℕ) → ((rest : List ℕ) → ¬ (report ≡ line (codes "history" ∷ []) ++ rest)) → PrintsNone d scripts report
 begins_not d scripts report none history prints = let b = begins_history d scripts report history prints in none b.0 b.1
+
+-- ---- what is printed so far
+
+-- one event more is
+behind_here : (d : Design) (seen : List Event) (event : Event) (report rest more : List ℕ) → Legal d (seen ++ event ∷ []) → rest ≡ event_text (last_design d (seen ++ event ∷ [])) (length seen) event ++ more
+    → IsBehind (record { opening = d; events = seen }) report rest → IsBehind (record { opening = d; events = seen ++ event ∷ [] }) report more
+behind_here d seen event report rest more legal is behind =
+    let h = line (codes "history" ∷ []) in
+    let texts = event_texts (last_design d seen) 0 seen in
+    let one = event_text (last_design d (seen ++ event ∷ [])) (length seen) event in
+    behind ∙ ap (λ (z : List ℕ). h ++ (texts ++ z)) is ∙ ap (λ (z : List ℕ). h ++ z) (sym (append_assoc texts one more))
+    ∙ ap (λ (z : List ℕ). h ++ (z ++ more)) (sym (texts_one_more d seen event legal))
+
+pub behind_one : (old new : Story) (event : Event) (report rest more : List ℕ) → Legal old.opening old.events → Adds old new event
+    → rest ≡ event_text (last_design new.opening new.events) (length old.events) event ++ more → IsBehind old report rest → IsBehind new report more
+behind_one old new event report rest more legal adds is behind =
+    let story = story_is old new event adds in
+    let now = subst (λ (s : Story). Legal s.opening s.events) story (still_legal old new event legal adds) in
+    let text = subst (λ (s : Story). rest ≡ event_text (last_design s.opening s.events) (length old.events) event ++ more) story is in
+    subst (λ (s : Story). IsBehind s report more) (sym story) (behind_here old.opening old.events event report rest more now text behind)
 
 -- ---- no event is left
 

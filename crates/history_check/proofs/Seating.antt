@@ -1,6 +1,6 @@
 -- How all callers stand behind a call of one of them, and how their scripts end.
-use Rattle.std.proofs.Common.{Bor, ◌≡◌, ◌∙◌, ℕ, zero, suc, ◌+◌, ◌≤◌, ◌<◌, List, [], ◌∷◌, ◌++◌, inl, inr, length, drop, get_or, set, refl, ap, sym, subst, arith, length-append, append_assoc, append-nil}
-use Rattle.std.specs.Prelude.{◌↔◌, MatchOption, Option, Some, None, Bool, true, false, IfOk, IsTrue, MatchBool, Result, Ok, Err, codes, decimal, slice_index_or}
+use Rattle.std.proofs.Common.{Bor, ◌≡◌, ◌∙◌, ℕ, zero, suc, ◌+◌, ◌-◌, ◌≤◌, ◌<◌, List, [], ◌∷◌, ◌++◌, inl, inr, length, drop, take, get_or, set, refl, ap, sym, subst, arith, length-append, append_assoc, append-nil}
+use Rattle.std.specs.Prelude.{◌↔◌, ◌⊎◌, MatchOption, Option, Some, None, Bool, true, false, IfOk, IsTrue, MatchBool, Result, Ok, Err, codes, decimal, slice_index_or}
 use Rattle.std.specs.List.{All}
 use Rattle.std.specs.Option.{option_copied}
 use Rattle.std.proofs.lemmas.Bool.{cases_eq}
@@ -13,10 +13,6 @@ use Rattle.history_spec.specs.History.{Legal}
 use Rattle.history_spec.specs.declared.event.Event.{Event}
 use Rattle.db_core.specs.Calls.{event_of}
 use Rattle.db_core.specs.Story.{Story, shot, state}
-use Rattle.db_version.specs.Shot.{Shot}
-use Rattle.history_spec.specs.State.{head}
-use Rattle.netdb_outside.specs.MemSink.{SinkFacts}
-use Rattle.netdb_outside.specs.Outside.{Appends}
 use Rattle.script_spec.specs.Headline.{CanWalk, HasWalk, SomeWalks}
 use Rattle.script_spec.specs.ScriptText.{Parts, steps_of}
 use Rattle.script_spec.specs.Laws.{OneReport}
@@ -27,15 +23,17 @@ use Rattle.script_spec.specs.declared.script.Step.{Step}
 use Rattle.joint_spec.specs.Scripts.{all_steps}
 use Rattle.joint_spec.specs.Written.{written_report}
 use Rattle.history_check_spec.proofs.Heads.{event_head}
-use Rattle.history_check.specs.Follow.{AllEnd, AllStand, CallComes, Ends, EndsNever, Heads, HeadsNone, IsCalled, IsOpen, IsRestOf, IsStopped, PrintsNone, PrintsOnly, PrintsSome, Reached, SomeNever}
-use Rattle.history_check.specs.Moves.{IsStuck, Turned}
-use Rattle.history_check.specs.Seats.{HasPlace, HasTop, IsAt, Stands, phase_of}
-use Rattle.history_check.specs.Verdicts.{LacksTop}
-use Rattle.history_check.specs.declared.heads.Next.{Next}
-use Rattle.history_check.specs.declared.seats.Seat.{Seat}
+use Rattle.history_check.specs.Follow.{AllEnd, AllStand, CallComes, Ends, EndsNever, IsCalled, IsRestOf, IsStopped, IsTooLong, IsBehind, Reached, SomeNever, said_by}
+use Rattle.history_turns.specs.Moves.{IsHalted, IsStuck, SaysTooMuch, Turned}
+use Rattle.history_turns.specs.Seats.{HasPlace, HasTop, IsAt, IsOpen, Stands, phase_of}
+use Rattle.report_parts.specs.Parts.{Heads, HeadsNone}
+use Rattle.history_check.specs.Verdicts.{CannotWalk, PrintsNone, PrintsOnly, PrintsSome}
+use Rattle.report_parts.specs.declared.heads.Next.{Next}
+use Rattle.history_turns.specs.declared.seats.Seat.{Seat}
+use Rattle.history_check.proofs.Lengths.{too_long_prints}
 use Rattle.history_check.proofs.Judging.{never_prints, prints_none, prints_some}
 use Rattle.history_check.proofs.Replaying.{begins, begins_not, none_prints, only_these, other_prints, rest_behind}
-use Rattle.history_check.proofs.Turning.{has_top, stands_open, stands_others, stands_turned}
+use Rattle.history_turns.proofs.Turning.{has_top, stands_open, stands_others, stands_turned}
 
 -- ---- scripts and their steps
 
@@ -87,11 +85,25 @@ module _ (old : Story) (scripts : List (List Step)) (seats : List Seat) (n : Nex
   here : Stands old n.caller (slice_index_or scripts n.caller []) seat
   here = stands_at old scripts seats n.caller (slice_index_or scripts n.caller []) seat d all known refl at
 
-  pub is_stopped : IsStuck old n.release (phase_of seat.at) (drop seat.line steps) → IsStopped old scripts n
+  is_stopped : IsStuck old n.release (phase_of seat.at) (drop seat.line steps) → IsStopped old scripts n
   is_stopped stuck = record {
     reached = reached_at old n.caller (slice_index_or scripts n.caller []) seat here;
     stuck = subst (λ (z : List Step). IsStuck old n.release (phase_of seat.at) (drop seat.line z)) (sym is) stuck;
   }
+
+  pub is_halted : (most left : ℕ) (fresh : Seat) (mid : List Seat) → fresh.said.items ≡ [] → mid ≡ set seats n.caller fresh → left ≡ most - said_by mid
+      → IsHalted old n.release (phase_of seat.at) (drop seat.line steps) seat.said.items left → IsStopped old scripts n ⊎ IsTooLong old scripts seats most
+  is_halted most left fresh mid empty put is_left (inl stuck) = inl (is_stopped stuck)
+  is_halted most left fresh mid empty put is_left (inr much) = inr (record {
+    caller = n.caller;
+    known = known;
+    seat = seat;
+    stands = here;
+    fresh = fresh;
+    fresh_is = empty;
+    says = subst (λ (z : ℕ). SaysTooMuch old (phase_of seat.at) (drop seat.line (slice_index_or scripts n.caller [])) seat.said.items z) (is_left ∙ ap (λ (z : List Seat). most - said_by z) put)
+        (subst (λ (z : List Step). SaysTooMuch old (phase_of seat.at) (drop seat.line z) seat.said.items left) (sym is) much);
+  })
 
   module _ (new : Story) (next fresh : Seat) (legal : Legal old.opening old.events) (turned_so : Turned old new n.caller n.release steps seat next) where
     turned : Turned old new n.caller n.release (slice_index_or scripts n.caller []) seat next
@@ -212,12 +224,12 @@ ends_all story scripts seats texts events all many legal long each =
     let same : k ≡ 0 + k = omega arith in
     subst (λ (n : ℕ). Ends story n (slice_index_or scripts k []) (slice_index_or texts k t)) same (each k d t there story k (all.each k d low) many legal))
 
-pub some_never : (story : Story) (scripts : List (List Step)) (k : ℕ) (steps : List Step) → k < length scripts
-    → slice_index_or scripts k [] ≡ steps → EndsNever story k steps → SomeNever story scripts
-some_never story scripts k steps less is never = record {
+pub some_never : (story : Story) (scripts : List (List Step)) (most k : ℕ) (steps : List Step) → k < length scripts
+    → slice_index_or scripts k [] ≡ steps → EndsNever story k steps most → SomeNever story scripts most
+some_never story scripts most k steps less is never = record {
   caller = k;
   known = less;
-  never = subst (λ (z : List Step). EndsNever story k z) (sym is) never;
+  never = subst (λ (z : List Step). EndsNever story k z most) (sym is) never;
 }
 
 -- each seat has its place in its script
@@ -250,6 +262,28 @@ finish_one events scripts seats texts steps seat text many is last before k d t 
           (subst (λ (z : List ℕ). Finishes events (slice_index_or scripts k []) (slice_index_or seats k d) z) (sym (get_or_append_left texts (text ∷ []) t k there)) (before k d t low))
     ]
 
+-- ---- what callers have said
+
+said_next : (seats : List Seat) (k : ℕ) (seat : Seat) → k < length seats → seat ≡ get_or seats k seat → said_by (take (suc k) seats) ≡ said_by (take k seats) + length seat.said.items
+said_next [] k seat less is = absurd (omega (arith, less))
+said_next (one ∷ seats) zero seat less is =
+    let same : seat ≡ one = is in
+    let long = ap (λ (s : Seat). length s.said.items) same in
+    let first : said_by (take (suc zero) (one ∷ seats)) ≡ length one.said.items + 0 = refl in
+    let none : said_by (take zero (one ∷ seats)) ≡ 0 = refl in
+    omega (arith, long, first, none)
+said_next (one ∷ seats) (suc k) seat less is =
+    let rest = said_next seats k seat (omega (arith, less)) is in
+    let next : said_by (take (suc (suc k)) (one ∷ seats)) ≡ length one.said.items + said_by (take (suc k) seats) = refl in
+    let here : said_by (take (suc k) (one ∷ seats)) ≡ length one.said.items + said_by (take k seats) = refl in
+    omega (arith, rest, next, here)
+
+take_all : (seats : List Seat) (k : ℕ) → length seats ≤ k → take k seats ≡ seats
+take_all [] zero le = refl
+take_all [] (suc k) le = refl
+take_all (one ∷ seats) zero le = absurd (omega (arith, le))
+take_all (one ∷ seats) (suc k) le = ap (λ (z : List Seat). one ∷ z) (take_all seats k (omega (arith, le)))
+
 -- ---- the replay
 
 module _ (core : Story) (scripts : List Parts) (report rest : List ℕ) (few : length scripts ≤ 64) (of : IsRestOf core (all_steps scripts) report rest) (number callers : ℕ) (number_is : number ≡ length core.events)
@@ -267,8 +301,10 @@ module _ (core : Story) (scripts : List Parts) (report rest : List ℕ) (few : l
     heads : Heads rest (length core.events) (length (all_steps scripts)) n
     heads = subst (λ (m : ℕ). Heads rest m (length (all_steps scripts)) n) number_is (subst (λ (m : ℕ). Heads rest number m n) callers_here heads_so)
 
-    pub none_so : IsStopped core (all_steps scripts) n → PrintsNone core.opening (all_steps scripts) report
-    none_so s = none_prints core (all_steps scripts) report rest few_steps of n heads s
+    pub none_so : (seats : List Seat) (most : ℕ) → AllStand core (all_steps scripts) seats → length report ≤ most → IsStopped core (all_steps scripts) n ⊎ IsTooLong core (all_steps scripts) seats most
+        → PrintsNone core.opening (all_steps scripts) report
+    none_so seats most stand short (inl s) = none_prints core (all_steps scripts) report rest few_steps of n heads s
+    none_so seats most stand short (inr t) = too_long_prints core (all_steps scripts) seats report rest most of stand short t
 
     module _ (new : Story) (seats : List Seat) (called : IsCalled core new (all_steps scripts) n seats) (legal : Legal core.opening core.events) where
       abbrev event_here : Event
@@ -289,6 +325,9 @@ pub open_here : (core : Story) (scripts : List Parts) (seats : List Seat) → co
 open_here core scripts seats none many fresh =
     subst (λ (s : Story). AllStand s (all_steps scripts) seats) (at_start core none) (all_open core.opening (all_steps scripts) seats (many ∙ sym (steps_many scripts)) fresh)
 
+pub behind_here : (core : Story) (report rest : List ℕ) → core.events ≡ [] → report ≡ codes "history\n" ++ rest → IsBehind core report rest
+behind_here core report rest none is = subst (λ (s : Story). IsBehind s report rest) (at_start core none) is
+
 pub begins_here : (core : Story) (scripts : List (List Step)) (report rest : List ℕ) → core.events ≡ [] → report ≡ codes "history\n" ++ rest → IsRestOf core scripts report rest
 begins_here core scripts report rest none is = subst (λ (s : Story). IsRestOf s scripts report rest) (at_start core none) (begins core.opening scripts report rest is)
 
@@ -298,62 +337,42 @@ begins_here core scripts report rest none is = subst (λ (s : Story). IsRestOf s
 pub none_of : (d e : Design) (scripts : List (List Step)) (report : List ℕ) → e ≡ d → PrintsNone e scripts report → PrintsNone d scripts report
 none_of d e scripts report same none = subst (λ (z : Design). PrintsNone z scripts report) same none
 
-pub never_prints_so : (story : Story) (scripts : List (List Step)) (report : List ℕ) → SomeNever story scripts → PrintsOnly story.opening scripts report story.events → PrintsNone story.opening scripts report
-never_prints_so story scripts report never only = never_prints story scripts report never only
+pub never_prints_so : (story : Story) (scripts : List (List Step)) (report : List ℕ) (most : ℕ) → length report ≤ most → SomeNever story scripts most → PrintsOnly story.opening scripts report story.events → PrintsNone story.opening scripts report
+never_prints_so story scripts report most short never only = never_prints story scripts report most short never only
 
 -- the text is compared with the report of the only history that can print it
 pub compared : OneReport → (story : Story) (d : Design) (scripts : List (List Step)) (texts : List (List ℕ)) (report : List ℕ) → story.opening ≡ d → Legal story.opening story.events
     → All (λ (event : Event). event.caller < length scripts) story.events → AllEnd story 0 scripts texts → PrintsOnly story.opening scripts report story.events
     → (same : Bool) → (IsTrue same ↔ (report ≡ written_report (last_design story.opening story.events) story.events texts)) → MatchBool same (PrintsSome d scripts report) (PrintsNone d scripts report)
-compared one story d scripts texts report of legal callers all only true is = subst (λ (z : Design). PrintsSome z scripts report) of (prints_some story scripts texts report legal callers all (is.0 refl))
+compared one story d scripts texts report of legal callers all only true is = subst (λ (z : Design). PrintsSome z scripts report) of (prints_some story scripts texts report legal callers all only (is.0 refl))
 compared one story d scripts texts report of legal callers all only false is =
     none_of d story.opening scripts report of (prints_none one story scripts texts report legal callers all only (λ e. absurd (cc (is.1 e))))
 
 -- what was printed into memory
-pub printed_is : (old new : SinkFacts) (wanted : List ℕ) → old ≡ record { bytes = []; most = None; faults = 0 } → Appends (Some old.bytes) (Some new.bytes) wanted → new.bytes ≡ wanted
-printed_is old new wanted is e =
-    let none : old.bytes ≡ [] = ap (λ (f : SinkFacts). f.bytes) is in
-    let whole : new.bytes ≡ old.bytes ++ wanted = cc e in
-    whole ∙ ap (λ (z : List ℕ). z ++ wanted) none
+pub ends_of : {X : Type 0} (now : X → List (List ℕ)) (story : Story) (scripts : List (List Step)) (most : ℕ) (o : Option X) (x : X) → o ≡ Some x
+    → MatchOption o (SomeNever story scripts most) (λ t. AllEnd story 0 scripts (now t)) → AllEnd story 0 scripts (now x)
+ends_of now story scripts most None x is m = absurd (cc is)
+ends_of {X} now story scripts most (Some y) x is m = let same : y ≡ x = cc is in subst (λ (z : X). AllEnd story 0 scripts (now z)) same m
 
-pub printed_here : (core : Story) (texts : List (List ℕ)) (events : List Event) (last : Shot) (old new : SinkFacts) → old ≡ record { bytes = []; most = None; faults = 0 } → events ≡ core.events
-    → last ≡ shot (state core) (head (state core)) → Appends (Some old.bytes) (Some new.bytes) (written_report last.design events texts)
-    → new.bytes ≡ written_report (last_design core.opening core.events) core.events texts
-printed_here core texts events last old new is same at e =
-    printed_is old new (written_report last.design events texts) is e
-    ∙ ap (λ (s : Shot). written_report s.design events texts) at ∙ ap (λ (z : List Event). written_report (last_design core.opening core.events) z texts) same
-
-pub same_as : (report written wanted : List ℕ) (r : Bool) → written ≡ wanted → IsTrue r ↔ (report ≡ written) → IsTrue r ↔ (report ≡ wanted)
-same_as report written wanted r is iff = subst (λ (z : List ℕ). IsTrue r ↔ (report ≡ z)) is iff
-
-pub if_ok_on : {E : Type 0} (r : Result Bool E) (P Q : Bool → Type 0) → ((b : Bool) → P b → Q b) → IfOk r P → IfOk r Q
-if_ok_on (Ok b) P Q f p = f b p
-if_ok_on (Err e) P Q f p = tt
-
-pub ends_of : {X : Type 0} (now : X → List (List ℕ)) (story : Story) (scripts : List (List Step)) (o : Option X) (x : X) → o ≡ Some x
-    → MatchOption o (SomeNever story scripts) (λ t. AllEnd story 0 scripts (now t)) → AllEnd story 0 scripts (now x)
-ends_of now story scripts None x is m = absurd (cc is)
-ends_of {X} now story scripts (Some y) x is m = let same : y ≡ x = cc is in subst (λ (z : X). AllEnd story 0 scripts (now z)) same m
-
-pub never_of : {X : Type 0} (now : X → List (List ℕ)) (story : Story) (scripts : List (List Step)) (o : Option X) → o ≡ None
-    → MatchOption o (SomeNever story scripts) (λ t. AllEnd story 0 scripts (now t)) → SomeNever story scripts
-never_of now story scripts None is m = m
-never_of now story scripts (Some y) is m = absurd (cc is)
+pub never_of : {X : Type 0} (now : X → List (List ℕ)) (story : Story) (scripts : List (List Step)) (most : ℕ) (o : Option X) → o ≡ None
+    → MatchOption o (SomeNever story scripts most) (λ t. AllEnd story 0 scripts (now t)) → SomeNever story scripts most
+never_of now story scripts most None is m = m
+never_of now story scripts most (Some y) is m = absurd (cc is)
 
 pub at_place : (scripts : List Parts) (place : ℕ) (texts : List (List ℕ)) (script : Parts) → place ≡ length texts → script ≡ get_or scripts place script → script ≡ get_or scripts (length texts) script
 at_place scripts place texts script same is = subst (λ (k : ℕ). script ≡ get_or scripts k script) same is
 
 -- ---- the ends of all scripts, one after the other
 
-abbrev pub Finished : ℕ → List Step → Seat → Option (List ℕ) → Type 0
-Finished events steps seat o = (story : Story) (caller : ℕ) → Stands story caller steps seat → events ≡ length story.events → Legal story.opening story.events
-    → MatchOption o (EndsNever story caller steps) (Ends story caller steps)
+abbrev pub Finished : ℕ → ℕ → List Step → Seat → Option (List ℕ) → Type 0
+Finished most events steps seat o = (story : Story) (caller : ℕ) → Stands story caller steps seat → events ≡ length story.events → Legal story.opening story.events
+    → MatchOption o (EndsNever story caller steps most) (Ends story caller steps)
 
-finishes_so : (events : ℕ) (steps : List Step) (seat : Seat) (o : Option (List ℕ)) (text : List ℕ) → o ≡ Some text → Finished events steps seat o → Finishes events steps seat text
-finishes_so events steps seat o text is f = subst (λ (z : Option (List ℕ)). Finished events steps seat z) is f
+finishes_so : (most events : ℕ) (steps : List Step) (seat : Seat) (o : Option (List ℕ)) (text : List ℕ) → o ≡ Some text → Finished most events steps seat o → Finishes events steps seat text
+finishes_so most events steps seat o text is f = subst (λ (z : Option (List ℕ)). Finished most events steps seat z) is f
 
-never_so : (events : ℕ) (steps : List Step) (seat : Seat) (o : Option (List ℕ)) → o ≡ None → Finished events steps seat o → Finished events steps seat None
-never_so events steps seat o is f = subst (λ (z : Option (List ℕ)). Finished events steps seat z) is f
+never_so : (most events : ℕ) (steps : List Step) (seat : Seat) (o : Option (List ℕ)) → o ≡ None → Finished most events steps seat o → Finished most events steps seat None
+never_so most events steps seat o is f = subst (λ (z : Option (List ℕ)). Finished most events steps seat z) is f
 
 module _ (scripts : List Parts) (all before rest after : List Seat) (seat : Seat) (texts : List (List ℕ)) (whole : all ≡ before ++ rest) (first : rest ≡ seat ∷ after) (count : length texts ≡ length before) (many : length all ≡ length scripts) where
   all_is : all ≡ before ++ seat ∷ after
@@ -372,12 +391,12 @@ module _ (scripts : List Parts) (all before rest after : List Seat) (seat : Seat
     pub place_so : ((k : ℕ) (d : Seat) → k < length scripts → HasPlace (slice_index_or (all_steps scripts) k []) (slice_index_or all k d)) → HasPlace (steps_of lines) seat
     place_so each = subst (λ (z : List Step). HasPlace z seat) steps_here (subst (λ (s : Seat). HasPlace (slice_index_or (all_steps scripts) (length texts) []) s) (seat_here seat) (each (length texts) seat seat_known))
 
-    pub never_one : (events : ℕ) (o : Option (List ℕ)) → o ≡ None → Finished events (steps_of lines) seat o → (story : Story) → AllStand story (all_steps scripts) all → events ≡ length story.events
-        → Legal story.opening story.events → SomeNever story (all_steps scripts)
-    never_one events o is f story stand so_many legal =
+    pub never_one : (most events : ℕ) (o : Option (List ℕ)) → o ≡ None → Finished most events (steps_of lines) seat o → (story : Story) → AllStand story (all_steps scripts) all → events ≡ length story.events
+        → Legal story.opening story.events → SomeNever story (all_steps scripts) most
+    never_one most events o is f story stand so_many legal =
         let low = known_steps scripts (length texts) seat_known in
         let here = stands_at story (all_steps scripts) all (length texts) (steps_of lines) seat seat stand low steps_here (sym (seat_here seat)) in
-        some_never story (all_steps scripts) (length texts) (steps_of lines) low steps_here (never_so events (steps_of lines) seat o is f story (length texts) here so_many legal)
+        some_never story (all_steps scripts) most (length texts) (steps_of lines) low steps_here (never_so most events (steps_of lines) seat o is f story (length texts) here so_many legal)
 
     pub rest_next : all ≡ (before ++ seat ∷ []) ++ after
     rest_next = all_is ∙ sym (append_assoc before (seat ∷ []) after)
@@ -385,12 +404,12 @@ module _ (scripts : List Parts) (all before rest after : List Seat) (seat : Seat
     pub count_next : (text : List ℕ) (now : List (List ℕ)) → now ≡ texts ++ text ∷ [] → length now ≡ length (before ++ seat ∷ [])
     count_next text now is = ap length is ∙ length-append texts (text ∷ []) ∙ ap (λ (n : ℕ). n + 1) count ∙ sym (length-append before (seat ∷ []))
 
-    pub done_next : (events : ℕ) (o : Option (List ℕ)) (text : List ℕ) (now : List (List ℕ)) → now ≡ texts ++ text ∷ [] → o ≡ Some text → Finished events (steps_of lines) seat o
+    pub done_next : (most events : ℕ) (o : Option (List ℕ)) (text : List ℕ) (now : List (List ℕ)) → now ≡ texts ++ text ∷ [] → o ≡ Some text → Finished most events (steps_of lines) seat o
         → ((k : ℕ) (d : Seat) (t : List ℕ) → k < length before → Finishes events (slice_index_or (all_steps scripts) k []) (slice_index_or before k d) (slice_index_or texts k t))
         → (k : ℕ) (d : Seat) (t : List ℕ) → k < length (before ++ seat ∷ []) → Finishes events (slice_index_or (all_steps scripts) k []) (slice_index_or (before ++ seat ∷ []) k d) (slice_index_or now k t)
-    done_next events o text now is some f so_far k d t less =
+    done_next most events o text now is some f so_far k d t less =
         subst (λ (z : List (List ℕ)). Finishes events (slice_index_or (all_steps scripts) k []) (slice_index_or (before ++ seat ∷ []) k d) (slice_index_or z k t)) (sym is)
-        (finish_one events (all_steps scripts) before texts (steps_of lines) seat text count steps_here (finishes_so events (steps_of lines) seat o text some f) so_far k d t less)
+        (finish_one events (all_steps scripts) before texts (steps_of lines) seat text count steps_here (finishes_so most events (steps_of lines) seat o text some f) so_far k d t less)
 
 -- all have ended
 pub ends_so : (scripts : List Parts) (all before rest : List Seat) (texts : List (List ℕ)) (events : ℕ) → all ≡ before ++ rest → rest ≡ [] → length texts ≡ length before
@@ -402,16 +421,16 @@ ends_so scripts all before rest texts events whole none count each story stand m
 
 -- ---- tops
 
-pub has_a_top : (d : Design) (scripts : List (List Step)) → (d.top ≡ None → ⊥) → IsTrue false ↔ LacksTop d scripts
+pub has_a_top : (d : Design) (scripts : List (List Step)) → (d.top ≡ None → ⊥) → IsTrue false ↔ CannotWalk d scripts
 has_a_top d scripts some = (λ h. absurd (cc h), λ lacks. absurd (some lacks.1))
 
-pub has_no_top : (d : Design) (scripts : List (List Step)) (r : Bool) → d.top ≡ None → IsTrue r ↔ SomeWalks scripts → IsTrue r ↔ LacksTop d scripts
+pub has_no_top : (d : Design) (scripts : List (List Step)) (r : Bool) → d.top ≡ None → IsTrue r ↔ SomeWalks scripts → IsTrue r ↔ CannotWalk d scripts
 has_no_top d scripts r none walks = (λ h. (walks.0 h, none), λ lacks. walks.1 lacks.0)
 
-pub lacks_none : (d : Design) (scripts : List (List Step)) (r : Bool) → IsTrue r ↔ LacksTop d scripts → r ≡ false → ¬ LacksTop d scripts
+pub lacks_none : (d : Design) (scripts : List (List Step)) (r : Bool) → IsTrue r ↔ CannotWalk d scripts → r ≡ false → ¬ CannotWalk d scripts
 lacks_none d scripts r iff is lacks = absurd (let holds = iff.1 lacks in cc (holds, is))
 
-pub can_walk : (d : Design) (scripts : List (List Step)) (r : Bool) → IsTrue r ↔ LacksTop d scripts → r ≡ false → CanWalk d scripts
+pub can_walk : (d : Design) (scripts : List (List Step)) (r : Bool) → IsTrue r ↔ CannotWalk d scripts → r ≡ false → CanWalk d scripts
 can_walk d scripts r iff is walks none = lacks_none d scripts r iff is (walks, none)
 
 -- ---- the whole check
@@ -421,17 +440,6 @@ pub begins_none : {X : Type 0} (now : X → List ℕ) (d : Design) (scripts : Li
     → MatchOption o ((rest : List ℕ) → ¬ (report ≡ codes "history\n" ++ rest)) (λ x. report ≡ codes "history\n" ++ now x) → PrintsNone d scripts report
 begins_none now d scripts report None none is = begins_not d scripts report is
 begins_none now d scripts report (Some x) none is = absurd (none x refl)
-
--- some event is another one
-pub replay_none : (d e : Design) (scripts : List (List Step)) (report : List ℕ) (events : List Event) (ended : Bool) → e ≡ d → ended ≡ false
-    → MatchBool ended (PrintsOnly e scripts report events) (PrintsNone e scripts report) → PrintsNone d scripts report
-replay_none d e scripts report events true same is m = absurd (cc is)
-replay_none d e scripts report events false same is m = none_of d e scripts report same m
-
-pub replay_only : (e : Design) (scripts : List (List Step)) (report : List ℕ) (events : List Event) (ended : Bool) → ended ≡ true
-    → MatchBool ended (PrintsOnly e scripts report events) (PrintsNone e scripts report) → PrintsOnly e scripts report events
-replay_only e scripts report events true is m = m
-replay_only e scripts report events false is m = absurd (cc is)
 
 pub verdict_of : (d e : Design) (scripts : List (List Step)) (report : List ℕ) (r : Bool) → e ≡ d → MatchBool r (PrintsSome e scripts report) (PrintsNone e scripts report)
     → MatchBool r (PrintsSome d scripts report) (PrintsNone d scripts report)
@@ -446,13 +454,14 @@ pub heads_none : (text : List ℕ) (number several : ℕ) (o : Option Next) → 
 heads_none text number several None none m = m
 heads_none text number several (Some n) none m = absurd (none n refl)
 
-pub stopped_so : (old new : Story) (scripts : List (List Step)) (n : Next) (seats : List Seat) (made : Bool) → made ≡ false → CallComes old new scripts n seats made → IsStopped old scripts n
-stopped_so old new scripts n seats true is m = absurd (cc is)
-stopped_so old new scripts n seats false is m = m
+pub stopped_so : (old new : Story) (scripts : List (List Step)) (n : Next) (most : ℕ) (before seats : List Seat) (made : Bool) → made ≡ false → CallComes old new scripts n most before seats made
+    → IsStopped old scripts n ⊎ IsTooLong old scripts before most
+stopped_so old new scripts n most before seats true is m = absurd (cc is)
+stopped_so old new scripts n most before seats false is m = m
 
-pub called_so : (old new : Story) (scripts : List (List Step)) (n : Next) (seats : List Seat) (made : Bool) → made ≡ true → CallComes old new scripts n seats made → IsCalled old new scripts n seats
-called_so old new scripts n seats true is m = m
-called_so old new scripts n seats false is m = absurd (cc is)
+pub called_so : (old new : Story) (scripts : List (List Step)) (n : Next) (most : ℕ) (before seats : List Seat) (made : Bool) → made ≡ true → CallComes old new scripts n most before seats made → IsCalled old new scripts n seats
+called_so old new scripts n most before seats true is m = m
+called_so old new scripts n most before seats false is m = absurd (cc is)
 
 pub behind_none : {X : Type 0} (now : X → List ℕ) (old new : Story) (scripts : List (List Step)) (n : Next) (seats : List Seat) (called : IsCalled old new scripts n seats) (text : List ℕ) (o : Option X)
     → ((before : List Event) (event : Event) → new.events ≡ before ++ event ∷ [] → MatchOption o ((more : List ℕ) → ¬ (text ≡ event_text (last_design new.opening new.events) (length before) event ++ more))
@@ -482,11 +491,26 @@ no_more (seat ∷ seats) none = absurd (omega (arith, none))
 -- ---- the verdict on a design
 
 pub verdict_no : (d : Design) (core : Story) (scripts : List (List Step)) (report : List ℕ) (r lacks : Bool) → core ≡ record { opening = d; events = [] } → r ≡ false
-    → MatchBool r (PrintsSome core.opening scripts report) (PrintsNone core.opening scripts report) → IsTrue lacks ↔ LacksTop d scripts → lacks ≡ false → PrintsNone d scripts report × ¬ LacksTop d scripts
+    → MatchBool r (PrintsSome core.opening scripts report) (PrintsNone core.opening scripts report) → IsTrue lacks ↔ CannotWalk d scripts → lacks ≡ false → PrintsNone d scripts report × ¬ CannotWalk d scripts
 verdict_no d core scripts report true lacks at is m iff has = absurd (cc is)
 verdict_no d core scripts report false lacks at is m iff has = (subst (λ (s : Story). PrintsNone s.opening scripts report) at m, lacks_none d scripts lacks iff has)
 
 pub verdict_yes : (d : Design) (core : Story) (scripts : List (List Step)) (report : List ℕ) (r lacks : Bool) → core ≡ record { opening = d; events = [] } → r ≡ true
-    → MatchBool r (PrintsSome core.opening scripts report) (PrintsNone core.opening scripts report) → IsTrue lacks ↔ LacksTop d scripts → lacks ≡ false → PrintsSome d scripts report × ¬ LacksTop d scripts
+    → MatchBool r (PrintsSome core.opening scripts report) (PrintsNone core.opening scripts report) → IsTrue lacks ↔ CannotWalk d scripts → lacks ≡ false → PrintsSome d scripts report × ¬ CannotWalk d scripts
 verdict_yes d core scripts report true lacks at is m iff has = (subst (λ (s : Story). PrintsSome s.opening scripts report) at m, lacks_none d scripts lacks iff has)
 verdict_yes d core scripts report false lacks at is m iff has = absurd (cc is)
+
+-- ---- what callers leave
+
+pub spare_start : (seats : List Seat) (most : ℕ) → most ≡ most - said_by (take zero seats)
+spare_start seats most = let none : said_by (take zero seats) ≡ 0 = refl in omega (arith, none)
+
+pub spare_next : (seats : List Seat) (k left now most said : ℕ) (seat : Seat) → k < length seats → seat ≡ get_or seats k seat → left ≡ most - said_by (take k seats) → said ≡ length seat.said.items → now ≡ left - said
+    → now ≡ most - said_by (take (k + 1) seats)
+spare_next seats k left now most said seat less is is_left is_said is_now =
+    let one : suc k ≡ k + 1 = omega arith in
+    let next = subst (λ (m : ℕ). said_by (take m seats) ≡ said_by (take k seats) + length seat.said.items) one (said_next seats k seat less is) in
+    omega (arith, next, is_left, is_said, is_now)
+
+pub spare_all : (seats : List Seat) (k left most : ℕ) → length seats ≤ k → left ≡ most - said_by (take k seats) → left ≡ most - said_by seats
+spare_all seats k left most le is = is ∙ ap (λ (z : List Seat). most - said_by z) (take_all seats k le)

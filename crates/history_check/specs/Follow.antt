@@ -1,7 +1,8 @@
 -- How far a replay has come, and what a report that is printed so goes on with.
-use Rattle.std.specs.Prelude.{◌≡◌, ◌<◌, ◌+◌, ℕ, Bool, true, false, Some, List, [], ◌∷◌, ◌++◌, decimal, length, slice_index_or}
+use Rattle.std.specs.Prelude.{◌≡◌, ◌<◌, ◌≤◌, ◌⊎◌, ◌+◌, ◌-◌, ℕ, Bool, true, false, Some, List, [], ◌∷◌, ◌++◌, codes, decimal, drop, length, set, slice_index_or}
 use Rattle.std.specs.List.{All}
 use Rattle.netlist_schema.specs.Design.{Design}
+use Rattle.edif_spec.specs.Arranged.{canonical_text}
 use Rattle.history_spec.specs.History.{version_at}
 use Rattle.history_spec.specs.declared.event.Answer.{Answer}
 use Rattle.history_spec.specs.declared.event.Call.{Call}
@@ -10,37 +11,18 @@ use Rattle.db_core.specs.Calls.{Adds, event_of}
 use Rattle.db_core.specs.Story.{Story}
 use Rattle.script_spec.specs.Report.{HasFilled, Prints, Story as Came, last_design, transcript}
 use Rattle.script_spec.specs.Session.{Ending, Full, LogFull, Nothing, Session, Whole, Word, exchanges}
-use Rattle.script_spec.specs.Texts.{event_texts}
+use Rattle.script_spec.specs.Texts.{event_texts, line}
+use Rattle.joint_spec.specs.Written.{numbered_texts}
 use Rattle.script_spec.specs.declared.script.Step.{Step}
 use Rattle.history_check_spec.specs.Heads.{begins_with_r, behind_events, head_text}
 use Rattle.history_check_spec.specs.Left.{Between, EndsBy, Leads, NoEnd, Phase, next_call}
-use Rattle.history_check.specs.Moves.{IsStuck}
-use Rattle.history_check.specs.Seats.{Stands}
+use Rattle.history_turns.specs.Moves.{IsStuck, SaysTooMuch}
+use Rattle.history_turns.specs.Seats.{Stands, phase_of}
 use Rattle.history_check.specs.declared.ends.End.{End}
 use Rattle.history_check.specs.declared.ends.End.TheVariants as end
-use Rattle.history_check.specs.declared.heads.Next.{Next}
-use Rattle.history_check.specs.declared.seats.At.TheVariants as at
-use Rattle.history_check.specs.declared.seats.Seat.{Seat}
-
--- ---- who calls next
-
--- the text goes on with an event of this caller, which is a release or not
-pub record Heads (text : List ℕ) (number callers : ℕ) (next : Next) : Type 0 where
-  pub known : next.caller < callers
-  pub more : List ℕ
-  pub head : text ≡ head_text number next.caller more
-  pub release : next.release ≡ begins_with_r more
-
--- the text goes on with a call of this caller
-pub record CallOf (text : List ℕ) (caller : ℕ) (next : Next) : Type 0 where
-  pub caller_is : next.caller ≡ caller
-  pub more : List ℕ
-  pub call : text ≡ decimal caller ++ 32 ∷ more
-  pub release : next.release ≡ begins_with_r more
-
--- it goes on with no event of the callers
-abbrev pub HeadsNone : List ℕ → ℕ → ℕ → Type 0
-HeadsNone text number callers = (caller : ℕ) (more : List ℕ) → caller < callers → ¬ (text ≡ head_text number caller more)
+use Rattle.report_parts.specs.declared.heads.Next.{Next}
+use Rattle.history_turns.specs.declared.seats.At.TheVariants as at
+use Rattle.history_turns.specs.declared.seats.Seat.{Seat}
 
 -- ---- the replay
 
@@ -55,19 +37,9 @@ abbrev pub IsRestOf : Story → List (List Step) → List ℕ → List ℕ → T
 IsRestOf story scripts report rest = (history : List Event) (prints : Prints story.opening scripts report history)
     → (more : List Event) × (history ≡ story.events ++ more) × (rest ≡ event_texts (last_design story.opening history) (length story.events) more ++ behind_events story.opening history prints.stories)
 
--- no history prints the report
-abbrev pub PrintsNone : Design → List (List Step) → List ℕ → Type 0
-PrintsNone d scripts report = (history : List Event) → ¬ Prints d scripts report history
-
--- just these events do, if any
-abbrev pub PrintsOnly : Design → List (List Step) → List ℕ → List Event → Type 0
-PrintsOnly d scripts report events = (history : List Event) → Prints d scripts report history → history ≡ events
-
--- a caller before its first line
-pub record IsOpen (seat : Seat) : Type 0 where
-  pub at_is : seat.at ≡ at.Free
-  pub line_is : seat.line ≡ 0
-  pub said_is : seat.said.items ≡ []
+-- the report is `history`, these events, and the rest behind them
+abbrev pub IsBehind : Story → List ℕ → List ℕ → Type 0
+IsBehind story report rest = report ≡ line (codes "history" ∷ []) ++ (event_texts (last_design story.opening story.events) 0 story.events ++ rest)
 
 -- where a caller stands, by its script and the history so far
 pub record Reached (story : Story) (steps : List Step) (caller : ℕ) : Type 0 where
@@ -90,9 +62,26 @@ pub record IsStopped (old : Story) (scripts : List (List Step)) (next : Next) : 
   pub reached : Reached old (slice_index_or scripts next.caller []) next.caller
   pub stuck : IsStuck old next.release reached.phase reached.lines
 
-abbrev pub CallComes : Story → Story → List (List Step) → Next → List Seat → Bool → Type 0
-CallComes old new scripts next seats true = IsCalled old new scripts next seats
-CallComes old new scripts next seats false = IsStopped old scripts next
+-- how many bytes the callers have said
+abbrev pub said_by : List Seat → ℕ
+said_by [] = 0
+said_by (seat ∷ seats) = length seat.said.items + said_by seats
+
+-- Before its next call a caller says more bytes than the others leave of so many. A seat at which nothing was said stands in place of its own
+-- among them.
+pub record IsTooLong (old : Story) (scripts : List (List Step)) (seats : List Seat) (most : ℕ) : Type 0 where
+  pub caller : ℕ
+  pub known : caller < length scripts
+  pub seat : Seat
+  pub stands : Stands old caller (slice_index_or scripts caller []) seat
+  pub fresh : Seat
+  pub fresh_is : fresh.said.items ≡ []
+  pub says : SaysTooMuch old (phase_of seat.at) (drop seat.line (slice_index_or scripts caller [])) seat.said.items (most - said_by (set seats caller fresh))
+
+-- what a call came to, where the callers may say so many bytes together: it was made, or there is none, or no room for it, or too much is said
+abbrev pub CallComes : Story → Story → List (List Step) → Next → ℕ → List Seat → List Seat → Bool → Type 0
+CallComes old new scripts next most before seats true = IsCalled old new scripts next seats
+CallComes old new scripts next most before seats false = IsStopped old scripts next ⊎ IsTooLong old scripts before most
 
 -- ---- the ends of the scripts
 
@@ -110,9 +99,10 @@ pub record Ends (story : Story) (caller : ℕ) (steps : List Step) (text : List 
   pub filled : HasFilled story.events came.ending
   pub text_is : text ≡ transcript story.opening story.events came.said
 
--- it does not
-abbrev pub EndsNever : Story → ℕ → List Step → Type 0
-EndsNever story caller steps = (said : List Word) (ending : Ending) → Session story.opening story.events caller steps said ending → ¬ HasFilled story.events ending
+-- it does not, with a transcript of at most so many bytes
+abbrev pub EndsNever : Story → ℕ → List Step → ℕ → Type 0
+EndsNever story caller steps most = (said : List Word) (ending : Ending) → Session story.opening story.events caller steps said ending → HasFilled story.events ending
+    → ¬ (length (transcript story.opening story.events said) ≤ most)
 
 -- each script ends so, over the texts; or some does not
 abbrev pub AllEnd : Story → ℕ → List (List Step) → List (List ℕ) → Type 0
@@ -120,11 +110,7 @@ AllEnd story caller [] [] = Unit {0}
 AllEnd story caller (steps ∷ scripts) (text ∷ texts) = Ends story caller steps text × AllEnd story (caller + 1) scripts texts
 AllEnd story caller scripts texts = ⊥
 
-pub record SomeNever (story : Story) (scripts : List (List Step)) : Type 0 where
+pub record SomeNever (story : Story) (scripts : List (List Step)) (most : ℕ) : Type 0 where
   pub caller : ℕ
   pub known : caller < length scripts
-  pub never : EndsNever story caller (slice_index_or scripts caller [])
-
--- some history prints the report
-abbrev pub PrintsSome : Design → List (List Step) → List ℕ → Type 0
-PrintsSome d scripts report = (history : List Event) × Prints d scripts report history
+  pub never : EndsNever story caller (slice_index_or scripts caller []) most

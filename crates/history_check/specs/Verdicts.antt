@@ -11,13 +11,31 @@ use Rattle.history_check.specs.declared.check.Verdict.{Verdict}
 use Rattle.history_check.specs.declared.check.Verdict.TheVariants.{Yes, No}
 
 -- a script walks, and the design has no top
-abbrev pub LacksTop : Design → List (List Step) → Type 0
-LacksTop d scripts = SomeWalks scripts × (d.top ≡ None)
+abbrev pub CannotWalk : Design → List (List Step) → Type 0
+CannotWalk d scripts = SomeWalks scripts × (d.top ≡ None)
 
--- `Yes` where some history prints the report, which then is the only one, and `No` where none does; neither where a script walks that
--- can't. An error says that, or that memory was refused.
+-- ---- which histories print a report
+
+-- if any, this one does
+abbrev pub PrintsOnly : Design → List (List Step) → List ℕ → List Event → Type 0
+PrintsOnly d scripts report history = (other : List Event) → Prints d scripts report other → other ≡ history
+
+-- a history, which prints the report and is the only one that does; by what it is to print a report it is legal, and the text is its report
+pub record PrintsSome (d : Design) (scripts : List (List Step)) (report : List ℕ) : Type 0 where
+  pub history : List Event
+  pub prints : Prints d scripts report history
+  pub only : PrintsOnly d scripts report history
+
+-- no history does
+abbrev pub PrintsNone : Design → List (List Step) → List ℕ → Type 0
+PrintsNone d scripts report = (history : List Event) → ¬ Prints d scripts report history
+
+-- ---- the verdict
+
+-- `Yes` where some history prints the report, and `No` where none does; neither where a script walks that can't. An error says that, or
+-- that memory was refused.
 abbrev pub Checks : Design → List (List Step) → List ℕ → Result Verdict CheckError → Type 0
-Checks d scripts report (Ok Yes) = ((history : List Event) × Prints d scripts report history) × ¬ LacksTop d scripts
-Checks d scripts report (Ok No) = ((history : List Event) → ¬ Prints d scripts report history) × ¬ LacksTop d scripts
-Checks d scripts report (Err NoTop) = LacksTop d scripts
+Checks d scripts report (Ok Yes) = PrintsSome d scripts report × ¬ CannotWalk d scripts
+Checks d scripts report (Ok No) = PrintsNone d scripts report × ¬ CannotWalk d scripts
+Checks d scripts report (Err NoTop) = CannotWalk d scripts
 Checks d scripts report (Err NoMemory) = Unit {0}

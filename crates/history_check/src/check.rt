@@ -2,27 +2,23 @@
 ghost use Rattle.std.specs.Prelude.{◌≡◌, ◌≤◌, ◌↔◌, [], List, IfOk, IsTrue, MatchBool, MatchOption, length, vec_len};
 ghost use Rattle.history_spec.specs.Answers.{most_events};
 ghost use Rattle.script_spec.specs.Headline.{CanWalk};
-ghost use Rattle.script_spec.specs.Report.{last_design};
 ghost use Rattle.joint_spec.specs.Scripts.{all_steps};
-ghost use Rattle.joint_spec.specs.Written.{written_report};
 ghost use Rattle.std.specs.Prelude.{◌<◌, ℕ, slice_index_or};
 ghost use Rattle.history_spec.specs.History.{Legal};
 ghost use Rattle.db_core.specs.Story.{Story};
-ghost use Rattle.history_check.specs.Follow.{AllEnd, AllStand, PrintsNone, PrintsOnly, PrintsSome, SomeNever};
-ghost use Rattle.history_check.specs.Seats.{HasPlace};
-ghost use Rattle.history_check.specs.declared.seats.Seat.{Seat as SeatFacts};
+ghost use Rattle.history_check.specs.Follow.{AllEnd, AllStand, IsBehind, SomeNever};
+ghost use Rattle.history_turns.specs.Seats.{HasPlace};
+ghost use Rattle.history_turns.specs.declared.seats.Seat.{Seat as SeatFacts};
 ghost use Rattle.history_check.specs.declared.check.CheckError.TheVariants.{NoMemory as OutOfMemory};
-ghost use Rattle.history_check.specs.Verdicts.{Checks, LacksTop};
+ghost use Rattle.history_check.specs.Verdicts.{CannotWalk, Checks, PrintsNone, PrintsOnly, PrintsSome};
 
 use crate::ends::finish;
-use crate::heads::after;
 use crate::replay::{open_seats, replay};
-use crate::seats::Seat;
 use crate::walking::some_walks;
 use db_core::Core;
-use netdb_outside::MemSink;
+use history_turns::Seat;
 use netlist_schema::{Design, NoMemory, Row, Shown, Text};
-use script_report::write_report;
+use report_parts::{after, is_rest};
 use script_spec::Script;
 use script_spec::laws::one_report;
 use std::alloc::Global;
@@ -50,24 +46,26 @@ impl From<NoMemory> for CheckError {
     }
 }
 
-/// The transcripts of the scripts, whose callers make no more calls; nothing where some script does not end so.
+/// The transcripts of the scripts, whose callers make no more calls; nothing where some script does not end so, with at most so many
+/// bytes.
 fn finish_all(
     alloc: Global,
     events: usize,
     scripts: &[Script],
     seats: Vec<Seat>,
+    most: usize,
 ) -> Result<Option<Vec<Text>>, NoMemory>
     requires few { events ≤ most_events }
     requires many { vec_len seats ≡ length scripts.now }
     requires lines { (k : ℕ) (d : SeatFacts) → k < length scripts.now → HasPlace (slice_index_or (all_steps scripts.now) k []) (slice_index_or seats.items k d) }
     ensures { IfOk result (λ texts. (story : Story) → AllStand story (all_steps scripts.now) seats.items → events ≡ length story.events → Legal story.opening story.events
-        → MatchOption texts (SomeNever story (all_steps scripts.now)) (λ texts. AllEnd story 0 (all_steps scripts.now) texts.items)) }
+        → MatchOption texts (SomeNever story (all_steps scripts.now) most) (λ texts. AllEnd story 0 (all_steps scripts.now) texts.items)) }
 {
     let mut texts = Vec::new(alloc);
     for seat in seats {
         let place = texts.len();
         let lines = scripts[place].lines();
-        match finish(alloc, events, lines, seat)? {
+        match finish(alloc, events, lines, seat, most)? {
             Some(text) => texts.push(text)?,
             None => return Ok(None),
         }
@@ -75,41 +73,25 @@ fn finish_all(
     Ok(Some(texts))
 }
 
-/// Whether two texts are the same bytes.
-fn is_same(left: &[u8], right: &[u8]) -> bool
-    ensures { IsTrue result ↔ (left.now ≡ right.now) }
-{
-    left == right
-}
-
-/// Whether a text is the report of the history of a database over transcripts.
-fn is_report(alloc: Global, core: &Core, texts: &[Text], report: &[u8]) -> Result<bool, NoMemory>
-    ensures { IfOk result (λ same. IsTrue same ↔ (report.now ≡ written_report (last_design core.now.opening core.now.events) core.now.events texts.now)) }
-{
-    let mut sink = MemSink::new(alloc, None);
-    match write_report(alloc, core.head(), core.log(), texts, &mut sink) {
-        Ok(()) => Ok(is_same(report, sink.written())),
-        Err(_) => Err(NoMemory),
-    }
-}
-
-/// Whether a text is the report of the history of a database, where no other history can print it.
+/// Whether what stands behind the events of a report of at most so many bytes is the transcripts and the last version of a database, which
+/// has the only history that can print the report.
 fn judge(
     alloc: Global,
     core: &Core,
     scripts: &[Script],
     seats: Vec<Seat>,
-    report: &[u8],
+    rest: &[u8],
+    most: usize,
 ) -> Result<bool, NoMemory>
     requires stands { AllStand core.now (all_steps scripts.now) seats.items }
     requires top { CanWalk core.now.opening (all_steps scripts.now) }
-    ensures { IfOk result (λ yes. PrintsOnly core.now.opening (all_steps scripts.now) report.now core.now.events
-        → MatchBool yes (PrintsSome core.now.opening (all_steps scripts.now) report.now) (PrintsNone core.now.opening (all_steps scripts.now) report.now)) }
+    ensures { IfOk result (λ yes. (report : List ℕ) → length report ≤ most → IsBehind core.now report rest.now → PrintsOnly core.now.opening (all_steps scripts.now) report core.now.events
+        → MatchBool yes (PrintsSome core.now.opening (all_steps scripts.now) report) (PrintsNone core.now.opening (all_steps scripts.now) report)) }
 {
     one_report();
     let events = core.log().len();
-    match finish_all(alloc, events, scripts, seats)? {
-        Some(texts) => is_report(alloc, core, texts.as_slice(), report),
+    match finish_all(alloc, events, scripts, seats, most)? {
+        Some(texts) => is_rest(alloc, core.head(), texts.as_slice(), rest),
         None => Ok(false),
     }
 }
@@ -129,16 +111,17 @@ fn check(
     let Some(events) = after(report, b"history\n") else {
         return Ok(false);
     };
+    let most = report.len();
     let mut seats = open_seats(alloc, scripts.len())?;
-    if !replay(alloc, core, &mut seats, scripts, events)? {
-        return Ok(false);
+    match replay(alloc, core, &mut seats, scripts, events, most)? {
+        Some(rest) => judge(alloc, core, scripts, seats, rest, most),
+        None => Ok(false),
     }
-    judge(alloc, core, scripts, seats, report)
 }
 
 /// Whether a script walks, and the design has no top.
 fn lacks_top(design: &Design, scripts: &[Script]) -> bool
-    ensures { IsTrue result ↔ LacksTop design.now (all_steps scripts.now) }
+    ensures { IsTrue result ↔ CannotWalk design.now (all_steps scripts.now) }
 {
     match design.top() {
         Some(_) => false,
@@ -148,7 +131,10 @@ fn lacks_top(design: &Design, scripts: &[Script]) -> bool
 
 /// Whether a text is the report of a run of these scripts, at most 64, on this design: `Yes` exactly where it is the report of some
 /// history, which then is the only one, and legal; `No` exactly where there is none. `NoTop` comes exactly where a script walks and the
-/// design has no top. Of the report only the row of callers is believed; all else is made again and compared.
+/// design has no top.
+///
+/// Of the report only is taken who calls next and whether the call is a release; all else is made again and compared. A walk stops
+/// where its caller has said more than the report has bytes, so a small report of a large flattening is refused without that.
 pub fn check_report(
     alloc: Global,
     design: Design,

@@ -8,10 +8,9 @@ ghost use Rattle.script_spec.specs.ScriptText.{steps_of};
 ghost use Rattle.script_spec.specs.Session.{Nothing, OffPin};
 ghost use Rattle.history_check_spec.specs.Left.{AreLoud, Between};
 ghost use Rattle.history_check.specs.Follow.{Ends, EndsNever, IsEnd};
-ghost use Rattle.history_check.specs.Seats.{HasTop, Stands, phase_of};
+ghost use Rattle.history_turns.specs.Seats.{HasTop, Stands, phase_of};
 
-use crate::quiet::pass_quiet;
-use crate::seats::{At, Seat};
+use history_turns::{At, Seat, pass_quiet};
 use netlist_schema::limits::MOST_EVENTS;
 use netlist_schema::{NoMemory, Text};
 use script_say::say_log_full;
@@ -86,21 +85,24 @@ fn filled(events: usize, places: u32, said: Vec<u8>) -> Option<Text>
     None
 }
 
-/// The transcript of a script whose caller makes no more calls; nothing where it does not end so.
+/// The transcript of a script whose caller makes no more calls; nothing where it does not end so, with at most so many bytes.
 pub fn finish(
     alloc: Global,
     events: usize,
     lines: &[ScriptLine],
     seat: Seat,
+    most: usize,
 ) -> Result<Option<Text>, NoMemory>
     requires few { events ≤ most_events }
     requires line { seat.line ≤ length lines.now }
     requires top { HasWalk (steps_of lines.now) → HasTop seat.at }
     ensures { IfOk result (λ text. (story : Story) (caller : ℕ) → Stands story caller (steps_of lines.now) seat → events ≡ length story.events → Legal story.opening story.events
-        → MatchOption text (EndsNever story caller (steps_of lines.now)) (Ends story caller (steps_of lines.now))) }
+        → MatchOption text (EndsNever story caller (steps_of lines.now) most) (Ends story caller (steps_of lines.now))) }
 {
     let Seat { at, line, mut said } = seat;
-    let (at, line) = pass_quiet(alloc, at, lines, line, &mut said)?;
+    let Some((at, line)) = pass_quiet(alloc, at, lines, line, most, &mut said)? else {
+        return Ok(None);
+    };
     match end_of(&at, &lines[line..]) {
         End::Whole => Ok(Some(Text::of(said))),
         End::Full(places) => {

@@ -1,18 +1,19 @@
 //! The events of a report, made again on a database.
-ghost use Rattle.std.specs.Prelude.{◌≡◌, ◌++◌, ◌∷◌, ◌<◌, ◌≤◌, [], List, ℕ, IfOk, IsTrue, MatchBool, MatchOption, length, set, slice_index_or, vec_len};
+ghost use Rattle.std.specs.Prelude.{◌≡◌, ◌++◌, ◌∷◌, ◌<◌, ◌≤◌, ◌-◌, [], List, ℕ, IfOk, IfSome, MatchOption, OnSome, length, set, slice_index_or, vec_len};
 ghost use Rattle.std.specs.List.{All};
 ghost use Rattle.history_spec.specs.declared.event.Event.{Event};
 ghost use Rattle.script_spec.specs.Headline.{CanWalk};
 ghost use Rattle.script_spec.specs.Report.{last_design};
 ghost use Rattle.script_spec.specs.Texts.{event_text as text_of_event};
 ghost use Rattle.joint_spec.specs.Scripts.{all_steps};
-ghost use Rattle.history_check.specs.Follow.{AllStand, CallComes, IsOpen, IsRestOf, PrintsNone, PrintsOnly};
+ghost use Rattle.history_check.specs.Follow.{AllStand, CallComes, IsBehind, IsRestOf, said_by};
+ghost use Rattle.history_turns.specs.Seats.{IsOpen};
+ghost use Rattle.history_check.specs.Verdicts.{PrintsNone, PrintsOnly};
 
-use crate::heads::{Next, after, next_caller};
-use crate::places::take_turn;
-use crate::seats::{At, Seat};
 use db_core::Core;
+use history_turns::{At, Seat, take_turn};
 use netlist_schema::NoMemory;
+use report_parts::{Next, after, next_caller};
 use script_lang::event_text;
 use script_spec::Script;
 use std::alloc::Global;
@@ -50,24 +51,37 @@ fn swap_seat(seats: &mut Vec<Seat>, place: usize, seat: Seat) -> Seat
     mem::replace(&mut seats[place], seat)
 }
 
-/// Makes the next call of a caller: whether there was one, and room for it.
+/// How many bytes callers leave of so many.
+fn spare(seats: &[Seat], most: usize) -> usize
+    ensures { result ≡ most - said_by seats.now }
+{
+    let mut left = most;
+    for place in 0..seats.len() {
+        left = left.saturating_sub(seats[place].said.len());
+    }
+    left
+}
+
+/// Makes the next call of a caller: whether there was one, and room for it, and all callers together say at most so many bytes before it.
 fn call(
     alloc: Global,
     core: &mut Core,
     seats: &mut Vec<Seat>,
     scripts: &[Script],
     next: Next,
+    most: usize,
 ) -> Result<bool, NoMemory>
     requires stands { AllStand core.old (all_steps scripts.now) seats.old.items }
     requires known { next.caller < length scripts.now }
     requires top { CanWalk core.old.opening (all_steps scripts.now) }
-    ensures { IfOk result (CallComes core.old core.new (all_steps scripts.now) next seats.new.items) }
+    ensures { IfOk result (CallComes core.old core.new (all_steps scripts.now) next most seats.old.items seats.new.items) }
 {
     let _events = core.log().len();
     let place = next.caller as usize;
     let seat = swap_seat(seats, place, first_seat(alloc));
     let lines = scripts[place].lines();
-    match take_turn(alloc, core, next.caller, lines, seat, next.release)? {
+    let left = spare(seats.as_slice(), most);
+    match take_turn(alloc, core, next.caller, lines, seat, next.release, left)? {
         Some(turned) => {
             swap_seat(seats, place, turned);
             Ok(true)
@@ -101,34 +115,37 @@ fn behind_event<'a>(
     Ok(after(text, printed.as_slice()))
 }
 
-/// Makes the events again with which a text begins: whether each was the next one of its caller, and is printed so.
-pub fn replay(
+/// Makes the events again with which the rest of a report of at most so many bytes begins, and gives what stands behind them. Nothing comes
+/// where one of them is not the next one of its caller, or is printed otherwise, or the callers say more bytes than that together.
+pub fn replay<'a>(
     alloc: Global,
     core: &mut Core,
     seats: &mut Vec<Seat>,
     scripts: &[Script],
-    text: &[u8],
-) -> Result<bool, NoMemory>
+    text: &'a [u8],
+    most: usize,
+) -> Result<Option<&'a [u8]>, NoMemory>
     requires few { length scripts.now ≤ 64 }
     requires stands { AllStand core.old (all_steps scripts.now) seats.old.items }
     requires top { CanWalk core.old.opening (all_steps scripts.now) }
-    ensures opening { IfOk result (λ ended. IsTrue ended → core.new.opening ≡ core.old.opening) }
-    ensures stands { IfOk result (λ ended. IsTrue ended → AllStand core.new (all_steps scripts.now) seats.new.items) }
-    ensures only { IfOk result (λ ended. (report : List ℕ) → IsRestOf core.old (all_steps scripts.now) report text.now
-        → MatchBool ended (PrintsOnly core.old.opening (all_steps scripts.now) report core.new.events) (PrintsNone core.old.opening (all_steps scripts.now) report)) }
+    ensures opening { IfOk result (λ rest. OnSome rest (core.new.opening ≡ core.old.opening)) }
+    ensures stands { IfOk result (λ rest. OnSome rest (AllStand core.new (all_steps scripts.now) seats.new.items)) }
+    ensures only { IfOk result (λ rest. (report : List ℕ) → length report ≤ most → IsRestOf core.old (all_steps scripts.now) report text.now
+        → MatchOption rest (PrintsNone core.old.opening (all_steps scripts.now) report) (λ _. PrintsOnly core.old.opening (all_steps scripts.now) report core.new.events)) }
+    ensures behind { IfOk result (λ rest. IfSome rest (λ rest. (report : List ℕ) → IsBehind core.old report text.now → IsBehind core.new report rest.now)) }
 {
     let mut rest = text;
     'events: loop {
         let number = core.log().len() as u64;
         let Some(next) = next_caller(rest, number, scripts.len() as u32) else {
-            return Ok(true);
+            return Ok(Some(rest));
         };
-        if !call(alloc, core, seats, scripts, next)? {
-            return Ok(false);
+        if !call(alloc, core, seats, scripts, next, most)? {
+            return Ok(None);
         }
         match behind_event(alloc, core, rest)? {
             Some(more) => rest = more,
-            None => return Ok(false),
+            None => return Ok(None),
         }
     }
 }

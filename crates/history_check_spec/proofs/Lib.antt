@@ -1,6 +1,7 @@
 pub mod Advancing
 pub mod Committing
 pub mod Ending
+pub mod Events
 pub mod Heads
 pub mod Leading
 pub mod Lines

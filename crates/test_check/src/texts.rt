@@ -268,3 +268,84 @@ design
  (design stages (cellRef top (libraryRef work))
   (userData netdb_note (path s0 i) (property SIZE (integer 4)))))
 ";
+
+/// A block that commits a text with a byte that is spelled by its code. Its lines end as on some systems, in two bytes.
+pub const SPELLED: &str = "begin\r\nset-prop w A cell K str \"a%37%b\"\r\ncommit\r\n";
+
+/// Versions that are kept no longer, or are not there yet.
+pub const WANTING: &str = "collect\npin-at 0\nwalk\nrelease\npin-at 5\nwalk limit 2\nrelease\n";
+
+/// A block that is abandoned, and one in which the script ends.
+pub const UNFINISHED: &str = "begin\nadd-net w A n\nabandon\nbegin\nadd-net w B m\n";
+
+/// A pin that is held at the end.
+pub const GLANCE: &str = "pin\nwalk limit 1\n";
+
+/// The report of these scripts on the pair, the last one twice.
+pub const ENDS_REPORT: &str = "history
+0 caller 0 pin -> pin 0 version 0
+1 caller 0 commit pin 0 -> committed 1
+ set-prop w A cell K str \"a%37%b\" -> done
+2 caller 0 release pin 0 -> released
+3 caller 1 collect -> collected 1
+4 caller 1 pin-at 0 -> gone 1
+5 caller 1 pin-at 5 -> no-version 1
+6 caller 2 pin -> pin 1 version 1
+7 caller 2 release pin 1 -> released
+8 caller 4 pin -> pin 2 version 1
+9 caller 3 pin -> pin 3 version 1
+10 caller 2 pin -> pin 4 version 1
+11 caller 2 release pin 4 -> released
+12 caller 4 release pin 2 -> released
+13 caller 3 release pin 3 -> released
+script 0
+begin 0
+done
+committed 1
+script 1
+collected 1
+gone 1
+no-pin
+no-pin
+no-version 1
+no-pin
+no-pin
+script 2
+begin 1
+done
+abandoned
+begin 1
+done
+script 3
+pin 1
+inst / w T
+more
+script 4
+pin 1
+inst / w T
+more
+design
+(edif e
+ (edifVersion 2 0 0)
+ (edifLevel 0)
+ (keywordMap (keywordLevel 0))
+ (library w
+  (edifLevel 0)
+  (technology (numberDefinition))
+  (cell A (cellType GENERIC)
+   (property K (string \"a%37%b\"))
+   (view v (viewType NETLIST)
+    (interface)
+    (contents)))
+  (cell B (cellType GENERIC)
+   (view v (viewType NETLIST)
+    (interface)
+    (contents)))
+  (cell T (cellType GENERIC)
+   (view v (viewType NETLIST)
+    (interface)
+    (contents
+     (instance a (viewRef v (cellRef A (libraryRef w))))
+     (instance b (viewRef v (cellRef B (libraryRef w))))))))
+ (design T (cellRef T (libraryRef w))))
+";

@@ -13,4 +13,4 @@ pub returns-in-Ok-No-clause-gives : goal.returns-in-Ok-No-clause-gives
 returns-in-Ok-No-clause-gives g c =
     let said = rw c.in-Ok-No.field-0-is at c.in-Ok-No.ensures in
     told c.args.design (all_steps c.args.scripts.now) c.args.report.now (g.K.Sink.written c.args.out.now) (g.K.Sink.written c.put_bytes-in-Ok-No.new.out) c.put_bytes-in-Ok-No.result
-    (λ some none. said.1 (some, none)) (inr (λ h. said.0 h.0 h.1, c.put_bytes-in-Ok-No.ensures.gives))
+    (λ some none. said.1 (some, none)) (inr (λ history prints. said.0 history prints, c.put_bytes-in-Ok-No.ensures.gives))

@@ -39,7 +39,7 @@ loop-seat-preserved c = record {
       (at_place c.args.scripts.now c.len-place.result c.loop-seat.texts.items c.index-scripts-place.result (c.len-place.ensures ∙ c.loop-seat.texts.ok.0) c.index-scripts-place.is) c.lines-lines.ensures.value c.in-Some-2.text c.push.new.self.items c.in_ok-push-in-Some-2.ensures.items;
   done = done_next c.args.scripts.now c.args.seats.items c.loop-seat.yielded c.loop-seat.seat-iterator.rest.items c.next.new.self.rest.items c.in-Some.seat c.loop-seat.texts.items
       c.loop-seat.invariant.rest c.in-Some.ensures.steps.0 (sym c.loop-seat.texts.ok.0 ∙ c.loop-seat.invariant.count) (sym c.args.seats.ok.0 ∙ c.requires.many) c.index-scripts-place.result c.lines-lines.result.now
-      (at_place c.args.scripts.now c.len-place.result c.loop-seat.texts.items c.index-scripts-place.result (c.len-place.ensures ∙ c.loop-seat.texts.ok.0) c.index-scripts-place.is) c.lines-lines.ensures.value c.args.events c.in_ok-text.field-0 c.in-Some-2.text c.push.new.self.items c.in_ok-push-in-Some-2.ensures.items c.in-Some-2.is
+      (at_place c.args.scripts.now c.len-place.result c.loop-seat.texts.items c.index-scripts-place.result (c.len-place.ensures ∙ c.loop-seat.texts.ok.0) c.index-scripts-place.is) c.lines-lines.ensures.value c.args.most c.args.events c.in_ok-text.field-0 c.in-Some-2.text c.push.new.self.items c.in_ok-push-in-Some-2.ensures.items c.in-Some-2.is
       (λ story caller stands many legal. c.in_ok-text.ensures story caller stands many legal) c.loop-seat.invariant.done;
 }
 
@@ -47,7 +47,7 @@ pub returns-in-None-2 : goal.returns-in-None-2
 returns-in-None-2 c = λ story stand many legal.
     never_one c.args.scripts.now c.args.seats.items c.loop-seat.yielded c.loop-seat.seat-iterator.rest.items c.next.new.self.rest.items c.in-Some.seat c.loop-seat.texts.items
     c.loop-seat.invariant.rest c.in-Some.ensures.steps.0 (sym c.loop-seat.texts.ok.0 ∙ c.loop-seat.invariant.count) (sym c.args.seats.ok.0 ∙ c.requires.many) c.index-scripts-place.result c.lines-lines.result.now
-    (at_place c.args.scripts.now c.len-place.result c.loop-seat.texts.items c.index-scripts-place.result (c.len-place.ensures ∙ c.loop-seat.texts.ok.0) c.index-scripts-place.is) c.lines-lines.ensures.value c.args.events c.in_ok-text.field-0 c.in-None-2.is (λ s k stands so_many so_legal. c.in_ok-text.ensures s k stands so_many so_legal) story stand many legal
+    (at_place c.args.scripts.now c.len-place.result c.loop-seat.texts.items c.index-scripts-place.result (c.len-place.ensures ∙ c.loop-seat.texts.ok.0) c.index-scripts-place.is) c.lines-lines.ensures.value c.args.most c.args.events c.in_ok-text.field-0 c.in-None-2.is (λ s k stands so_many so_legal. c.in_ok-text.ensures s k stands so_many so_legal) story stand many legal
 
 pub returns : goal.returns
 returns c = λ story stand many legal.

@@ -1,7 +1,8 @@
-use Rattle.std.proofs.Common.{refl}
+use Rattle.std.proofs.Common.{refl, ap, ◌-◌, ◌∙◌}
 use Rattle.script_spec.specs.ScriptText.{steps_of}
 use Rattle.joint_spec.specs.Scripts.{all_steps}
-use Rattle.history_check.proofs.Seating.{is_called_so, is_stopped, known_steps, lines_at, stands_at, top_here, within_lines}
+use Rattle.history_check.specs.Follow.{said_by}
+use Rattle.history_check.proofs.Seating.{is_called_so, is_halted, known_steps, lines_at, stands_at, top_here, within_lines}
 use Rattle.history_check.proofs.replay.call.Goals as goal
 
 pub take_turn-requires-clause-at : goal.take_turn-requires-clause-at
@@ -31,5 +32,6 @@ returns-in-Some c =
 
 pub returns-in-None : goal.returns-in-None
 returns-in-None c =
-    is_stopped c.args.core.now (all_steps c.args.scripts.now) c.args.seats.now.items c.args.next (steps_of c.lines-lines.result.now) c.swap_seat-seat.result _ c.requires.stands (known_steps c.args.scripts.now c.args.next.caller c.requires.known)
-    (lines_at c.args.scripts.now c.args.next.caller c.index-scripts-place.result c.lines-lines.result.now c.requires.known c.index-scripts-place.is c.lines-lines.ensures.value) c.swap_seat-seat.ensures.left (rw c.in-None.is at c.in_ok-turned.ensures)
+    is_halted c.args.core.now (all_steps c.args.scripts.now) c.args.seats.now.items c.args.next (steps_of c.lines-lines.result.now) c.swap_seat-seat.result _ c.requires.stands (known_steps c.args.scripts.now c.args.next.caller c.requires.known)
+    (lines_at c.args.scripts.now c.args.next.caller c.index-scripts-place.result c.lines-lines.result.now c.requires.known c.index-scripts-place.is c.lines-lines.ensures.value) c.swap_seat-seat.ensures.left
+    c.args.most c.spare-left.result c.first_seat.result c.swap_seat-seat.new.seats.items c.first_seat.ensures.said_is c.swap_seat-seat.ensures.put (c.spare-left.ensures ∙ ap (λ z. c.args.most - said_by z) c.as_slice.ensures.value) (rw c.in-None.is at c.in_ok-turned.ensures)

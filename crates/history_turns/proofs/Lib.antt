@@ -1,0 +1,5 @@
+pub mod Again
+pub mod Blocking
+pub mod Calling
+pub mod Quieting
+pub mod Turning

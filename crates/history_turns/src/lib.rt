@@ -1,0 +1,13 @@
+//! A caller on its way through a script, on a database of one thread: where it stands between two of its calls, and what its next call comes to.
+#![tactic(auto)]
+
+mod blocks;
+mod lines;
+pub mod places;
+pub mod quiet;
+pub mod seats;
+mod within;
+
+pub use places::take_turn;
+pub use quiet::pass_quiet;
+pub use seats::{At, Block, Seat};
