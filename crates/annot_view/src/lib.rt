@@ -1,6 +1,6 @@
 //! The properties of the occurrences of a design.
 #![tactic(auto)]
 
-pub mod properties;
+mod properties;
 
 pub use properties::{effective, merged};

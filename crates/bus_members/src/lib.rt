@@ -1,9 +1,9 @@
 //! The bits of a cell's ports, and the nets that stand for the bits of a bus.
 #![tactic(auto)]
 
-pub mod members;
-pub mod runs;
-pub mod widths;
+mod members;
+mod runs;
+mod widths;
 
 pub use members::member_name;
 pub use runs::{run_at, run_from, stem};

@@ -66,7 +66,7 @@ fn after<'a>(text: &'a [u8], front: &[u8]) -> Option<&'a [u8]>
 }
 
 /// Whether a text is another, and behind it a number between two bytes. Takes no memory.
-pub fn is_numbered(text: &[u8], stem: &[u8], opening: u8, k: u32, closing: u8) -> bool
+pub(crate) fn is_numbered(text: &[u8], stem: &[u8], opening: u8, k: u32, closing: u8) -> bool
     ensures { Decides result (text.now ≡ stem.now ++ (opening ∷ (decimal k ++ closing ∷ []))) }
 {
     let mut buffer = Buffer::new();

@@ -11,8 +11,7 @@ ghost use Rattle.netlist_bus_spec.specs.Runs.{are_members, is_bit, is_member, ru
 ghost use Rattle.netlist_bus_spec.specs.Same.{same_name};
 
 use crate::members::is_numbered;
-use netlist_schema::limits::MOST_WIDTH;
-use netlist_schema::{CellBody, CellId, End, Inst, Net, Port, Shared, Shown, Text};
+use netlist_schema::{CellBody, CellId, End, Inst, MOST_WIDTH, Net, Port, Shared, Shown, Text};
 
 /// What the ends of the nets of a cell are judged by: the design, the cell's ports and its instances.
 #[derive(Clone, Copy)]

@@ -6,7 +6,7 @@ use Rattle.script_spec.specs.Headline.{CanWalk}
 use Rattle.script_spec.specs.declared.script.Step.{Step}
 use Rattle.netdb_spec.specs.declared.status.Status.{Status}
 use Rattle.netdb_spec.specs.declared.status.Status.TheVariants as status
-use Rattle.call_check.specs.Checked.{CheckGives, VerdictGives}
+use Rattle.netdb_spec.specs.Checked.{CheckGives, VerdictGives}
 
 pub told : (d : Design) (scripts : List (List Step)) (report : List ℕ) (old new : Option (List ℕ)) (result : Status) → CanWalk d scripts → VerdictGives d scripts report old new result → CheckGives d scripts report old new result
 told d scripts report old new status.Ok can h = (can, h)

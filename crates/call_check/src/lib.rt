@@ -1,6 +1,6 @@
 //! What a call writes of a report that is checked.
 #![tactic(auto)]
 
-pub mod verdict;
+mod verdict;
 
 pub use verdict::write_verdict;

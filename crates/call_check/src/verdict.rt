@@ -1,11 +1,11 @@
 //! Whether a report is true, as a line.
 ghost use Rattle.std.specs.Prelude.{◌≤◌, length};
-ghost use Rattle.joint_spec.specs.Scripts.{all_steps};
+ghost use Rattle.script_run_spec.specs.Scripts.{all_steps};
 ghost use Rattle.netdb_spec.specs.Counts.{CountsWriting};
-ghost use Rattle.call_check.specs.Checked.{CheckGives};
+ghost use Rattle.netdb_spec.specs.Checked.{CheckGives};
 
-use call_output::put_bytes;
 use history_check::{CheckError, Verdict, check_report};
+use netdb_commands::put_bytes;
 use netdb_outside::Sink;
 use netdb_spec::Status;
 use netlist_schema::{Design, Row};

@@ -6,8 +6,7 @@ ghost use Rattle.edit_cells.specs.Change.{CanAllBeMade, CanBeMade, edits_of};
 ghost use Rattle.edit_cells.specs.Patch.{cells_after, lib_after, place_of};
 ghost use Rattle.cell_puts.specs.Whole.{IsWhole};
 
-use edit_cells::patch::patched;
-use edit_cells::{CellChange, Change};
+use edit_cells::{CellChange, Change, patched};
 use netlist_schema::{
     CellBody, Contents, Copied, Design, Lib, Name, NoMemory, Note, Property, Row, Shared, Shown,
     TopHead,

@@ -1,6 +1,6 @@
 //! Changes put into a design, each cell in its place.
 #![tactic(auto)]
 
-pub mod in_place;
+mod in_place;
 
 pub use in_place::put_in_place;

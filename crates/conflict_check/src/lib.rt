@@ -1,6 +1,6 @@
 //! The last commit of each object, and the check of what was read against it.
 #![tactic(auto)]
 
-pub mod stamps;
+mod stamps;
 
 pub use stamps::{Later, Stamps};

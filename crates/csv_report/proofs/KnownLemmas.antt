@@ -5,8 +5,7 @@ use Rattle.std.specs.Option.{option_map_or}
 use Rattle.std.proofs.lemmas.Option.{none-some}
 use Rattle.netlist_schema.specs.Design.{Design, cell_at}
 use Rattle.netlist_schema.specs.Types.{CellBody, CellId, Net, Port, TopHead}
-use Rattle.flat_spec.specs.Paths.{at_path, cell_along, net_of, nets_at}
-use Rattle.path_texts.specs.Texts.{cell_below_top}
+use Rattle.flat_spec.specs.Paths.{at_path, cell_along, cell_below_top, net_of, nets_at}
 use Rattle.flat_lines_spec.specs.Lines.{net_text, port_text}
 
 pub port_text_at : (d : Design) (path : List ℕ) (port : ℕ) (c : CellId) → cell_below_top d path ≡ Some c

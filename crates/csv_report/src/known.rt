@@ -5,12 +5,12 @@ ghost use Rattle.netlist_schema.specs.Design.{cell_at};
 ghost use Rattle.flat_spec.specs.Paths.{nets_at};
 ghost use Rattle.flat_lines_spec.specs.Lines.{net_words, path_text, port_text};
 ghost use Rattle.flat_csv_spec.specs.PinTable.{net_fields};
-ghost use Rattle.walk_items.specs.Lent.{net_of};
+ghost use Rattle.flat_items.specs.Lent.{net_of};
 
+use flat_items::NetRef;
 use flat_lookup::net_at;
 use netlist_schema::{CellId, Shown};
 use path_texts::PathTexts;
-use walk_items::NetRef;
 
 /// The path of an occurrence, and the identifier of a port or net there.
 #[derive(Clone, Copy)]
@@ -43,7 +43,7 @@ fn net_in<S: Shown>(design: &S, cell: CellId, net: u32) -> &[u8]
 }
 
 /// A port of the occurrence at a path, where its text is kept.
-pub fn known_port<'a, S: Shown>(
+pub(crate) fn known_port<'a, S: Shown>(
     design: &'a S,
     texts: &'a PathTexts<'_, S>,
     path: &[u32],
@@ -77,7 +77,7 @@ fn known_net<'a, S: Shown>(
 }
 
 /// A representative, where the text of its path is kept; two empty texts where there is none.
-pub fn known_first<'a, S: Shown>(
+pub(crate) fn known_first<'a, S: Shown>(
     design: &'a S,
     texts: &'a PathTexts<'_, S>,
     first: Option<NetRef<'_>>,

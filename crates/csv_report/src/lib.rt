@@ -2,12 +2,13 @@
 #![tactic(auto)]
 
 mod known;
-pub mod pins;
-pub mod places;
-pub mod rows;
-pub mod sink;
+mod pins;
+mod places;
+mod rows;
+mod sink;
 mod written;
 
 pub use pins::put_item;
+pub use places::{net_name, path_bytes, port_name};
 pub use rows::{header, lent_row, pin_row};
 pub use sink::RowSink;

@@ -4,17 +4,17 @@ ghost use Rattle.std.specs.Option.{option_map};
 ghost use Rattle.flat_csv_spec.specs.Fields.{row};
 ghost use Rattle.flat_csv_spec.specs.PinTable.{pin_fields, pin_row as row_of_item};
 ghost use Rattle.netdb_outside.specs.Buffered.{Writes};
-ghost use Rattle.walk_items.specs.Lent.{item_of, net_of};
+ghost use Rattle.flat_items.specs.Lent.{item_of, net_of};
 
 use crate::known::{known_first, known_port};
 use crate::places::{first_name, first_path_bytes, path_bytes, port_name};
 use crate::sink::RowSink;
+use flat_items::{ItemRef, NetRef};
 use itoa::Buffer;
 use netdb_outside::Sink;
 use netlist_schema::Shown;
 use path_texts::PathTexts;
 use std::alloc::Global;
-use walk_items::{ItemRef, NetRef};
 
 /// Writes the row of a lent item, as `lent_row` appends it.
 pub fn put_item<S: Shown, K: Sink>(

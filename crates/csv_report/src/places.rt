@@ -5,12 +5,12 @@ ghost use Rattle.flat_spec.specs.Effective.{names_along};
 ghost use Rattle.flat_spec.specs.Paths.{cell_along};
 ghost use Rattle.flat_lines_spec.specs.Lines.{net_text, path_text, port_text};
 ghost use Rattle.csv_report.specs.Parts.{behind_slashes};
-ghost use Rattle.walk_items.specs.Lent.{net_of};
+ghost use Rattle.flat_items.specs.Lent.{net_of};
 
+use flat_items::NetRef;
 use flat_lookup::{cell_along, inst_at, net_at};
 use netlist_schema::{CellId, NoMemory, Shown};
 use std::alloc::Global;
-use walk_items::NetRef;
 
 /// The path of an occurrence: `/` before the identifier of each instance to which it leads from the top, and `/` alone for the top.
 pub fn path_bytes<S: Shown>(alloc: Global, design: &S, path: &[u32]) -> Result<Vec<u8>, NoMemory>
@@ -87,7 +87,7 @@ pub fn net_name<'a, S: Shown>(design: &'a S, net: NetRef<'_>) -> &'a [u8]
 }
 
 /// The path of a representative; no bytes where there is none.
-pub fn first_path_bytes<S: Shown>(
+pub(crate) fn first_path_bytes<S: Shown>(
     alloc: Global,
     design: &S,
     first: Option<NetRef<'_>>,
@@ -101,7 +101,7 @@ pub fn first_path_bytes<S: Shown>(
 }
 
 /// The identifier of a representative; nothing where there is none.
-pub fn first_name<'a, S: Shown>(design: &'a S, first: Option<NetRef<'_>>) -> &'a [u8]
+pub(crate) fn first_name<'a, S: Shown>(design: &'a S, first: Option<NetRef<'_>>) -> &'a [u8]
     ensures { result.now ≡ option_map_or (net_text (S.design design.now)) (option_map net_of first.entry) [] }
 {
     match first {

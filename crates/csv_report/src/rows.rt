@@ -3,15 +3,15 @@ ghost use Rattle.std.specs.Prelude.{◌≡◌, ◌++◌, IfOk, OnErr, OnOk};
 ghost use Rattle.flat_csv_spec.specs.PinTable.{header as names_of_columns, pin_fields, pin_row as row_of_item};
 ghost use Rattle.std.specs.Option.{option_map};
 ghost use Rattle.flat_csv_spec.specs.Fields.{row};
-ghost use Rattle.walk_items.specs.Lent.{item_of, net_of};
+ghost use Rattle.flat_items.specs.Lent.{item_of, net_of};
 
 use crate::places::{first_name, first_path_bytes, path_bytes, port_name};
 use crate::written::row_bytes;
+use flat_items::{ItemRef, NetRef};
 use flat_spec::Item;
 use itoa::Buffer;
 use netlist_schema::{NoMemory, Shown};
 use std::alloc::Global;
-use walk_items::{ItemRef, NetRef};
 
 /// The row of the names of the columns, with a line feed at its end: `path,port,bit,net_path,net`.
 pub fn header() -> &'static [u8]

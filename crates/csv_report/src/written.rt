@@ -7,7 +7,7 @@ use netlist_schema::NoMemory;
 use std::alloc::Global;
 
 /// The row of fields, of which there are two at least, with a line feed at its end.
-pub fn row_bytes(alloc: Global, fields: &[&[u8]]) -> Result<Vec<u8>, NoMemory>
+pub(crate) fn row_bytes(alloc: Global, fields: &[&[u8]]) -> Result<Vec<u8>, NoMemory>
     requires { 1 < length fields.now }
     ensures { IfOk result (λ text. text.items ≡ row (map (λ field. field.now) fields.now)) }
 {

@@ -15,12 +15,12 @@ use Rattle.edit_rules_spec.proofs.Values.{agree_is_same_value}
 use Rattle.conflict_check.specs.Commits.{Commits, IsMarked, HasNoLater, IsFirstLater, last_commit, later_of}
 use Rattle.conflict_check.specs.declared.stamps.Later.{Later}
 use Rattle.db_version.specs.Shot.{Shot}
-use Rattle.history_spec.specs.declared.event.Event.{Event}
-use Rattle.history_spec.specs.State.{State, Version, IsWritten, committed, design, first_version, head, opening, version}
-use Rattle.history_spec.specs.Answers.{HasNoConflict, IsConflict, Clashes}
-use Rattle.history_spec.specs.History.{state_after}
-use Rattle.history_spec.proofs.Histories.{goes_on_from}
-use Rattle.history_spec.proofs.Versions.{follows_after, grown_on, head_new, same_value, version_new, version_old}
+use Rattle.db_spec.specs.declared.event.Event.{Event}
+use Rattle.db_spec.specs.State.{State, Version, IsWritten, committed, design, first_version, head, opening, version}
+use Rattle.db_spec.specs.Answers.{HasNoConflict, IsConflict, Clashes}
+use Rattle.db_spec.specs.History.{state_after}
+use Rattle.db_spec.proofs.Histories.{goes_on_from}
+use Rattle.db_spec.proofs.Versions.{follows_after, grown_on, head_new, same_value, version_new, version_old}
 use Rattle.db_core.specs.declared.database.Core.TheInside.{Inside}
 use Rattle.db_core.specs.Inside.{IsLastWrite, IsStamped, Stands}
 use Rattle.db_core.specs.Story.{shot}

@@ -7,8 +7,8 @@ use Rattle.netlist_schema.specs.Types.{Object}
 use Rattle.netlist_schema.specs.Valid.{IsValid}
 use Rattle.conflict_check.specs.Commits.{Commits, last_commit}
 use Rattle.db_version.specs.Shot.{Shot}
-use Rattle.history_spec.specs.declared.event.Event.{Event}
-use Rattle.history_spec.specs.State.{IsWritten, opening}
+use Rattle.db_spec.specs.declared.event.Event.{Event}
+use Rattle.db_spec.specs.State.{IsWritten, opening}
 use Rattle.db_core.specs.declared.database.Core.TheInside.{Inside}
 use Rattle.db_core.specs.Inside.{IsCore, IsLastWrite, Stands}
 use Rattle.db_core.specs.Story.{Story, IsHistory, shot, state}

@@ -3,7 +3,7 @@ use Rattle.std.proofs.Common.{◌≡◌, ℕ, ◌==◌, ◌||◌, not, cond, Boo
 use Rattle.std.specs.List.{list_any}
 use Rattle.std.proofs.lemmas.List.{length-map}
 use Rattle.pin_registry.specs.Registry.{LivePin as HeldPin}
-use Rattle.history_spec.specs.State.{LivePin}
+use Rattle.db_spec.specs.State.{LivePin}
 use Rattle.db_core.specs.Inside.{held}
 
 pub few_held : (pins : List LivePin) → length (map held pins) ≡ length pins

@@ -10,10 +10,10 @@ use Rattle.std.proofs.lemmas.Bool.Decides.{nat_tests}
 use Rattle.std.proofs.lemmas.Cmp.{ranked}
 use Rattle.std.proofs.lemmas.List.{length-map, get_or-map}
 use Rattle.db_version.specs.Shot.{Shot}
-use Rattle.history_spec.specs.State.{State}
+use Rattle.db_spec.specs.State.{State}
 use Rattle.std.specs.Option.{MatchOption}
-use Rattle.history_spec.specs.Answers.{IsKept}
-use Rattle.history_spec.proofs.Lists.{in_cases, in_head, in_tail}
+use Rattle.db_spec.specs.Answers.{IsKept}
+use Rattle.db_spec.proofs.Lists.{in_cases, in_head, in_tail}
 use Rattle.db_core.specs.Story.{shot}
 
 -- ---- members of a mapped list

@@ -2,14 +2,14 @@
 use Rattle.std.proofs.Common.{◌≡◌, ◌≤◌, List, [], ◌∷◌, ◌++◌, zero, suc, sym, ◌∙◌, subst, arith}
 use Rattle.std.specs.List.{All}
 use Rattle.edit_tx.specs.Facts.{PinFacts}
-use Rattle.history_spec.specs.declared.event.Event.{Event}
-use Rattle.history_spec.specs.History.{Legal}
-use Rattle.history_spec.specs.Laws.{IsReleaseOf}
-use Rattle.history_spec.specs.State.{head, live_pin}
-use Rattle.history_spec.proofs.Histories.{legal-left, legal-push, version_stays}
-use Rattle.history_spec.proofs.Sound.{kept_up_after}
-use Rattle.history_spec.proofs.Staying as staying
-use Rattle.history_spec.specs.State.{opening}
+use Rattle.db_spec.specs.declared.event.Event.{Event}
+use Rattle.db_spec.specs.History.{Legal}
+use Rattle.db_spec.specs.Laws.{IsReleaseOf}
+use Rattle.db_spec.specs.State.{head, live_pin}
+use Rattle.db_spec.proofs.Histories.{legal-left, legal-push, version_stays}
+use Rattle.db_spec.proofs.Sound.{kept_up_after}
+use Rattle.db_spec.proofs.Staying as staying
+use Rattle.db_spec.specs.State.{opening}
 use Rattle.db_core.specs.Calls.{Adds}
 use Rattle.db_core.specs.Story.{Story, IsPinOf, state}
 

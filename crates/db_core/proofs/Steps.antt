@@ -6,15 +6,15 @@ use Rattle.std.proofs.lemmas.List.Elements.{All-push, Contains-push}
 use Rattle.db_version.specs.Shot.{Shot}
 use Rattle.pin_registry.specs.Registry.{Registry, with_pin, without_pin, live_pin as held_pin}
 use Rattle.pin_registry.specs.Registry.{LivePin as HeldPin}
-use Rattle.history_spec.specs.declared.event.Event.{Event}
-use Rattle.history_spec.specs.State.{State, after, changed, pinned, released, collected, stays, live_pin, IsLive, design}
-use Rattle.history_spec.specs.declared.event.Call.{Call}
-use Rattle.history_spec.specs.declared.event.Answer.TheVariants.{Pinned}
+use Rattle.db_spec.specs.declared.event.Event.{Event}
+use Rattle.db_spec.specs.State.{State, after, changed, pinned, released, collected, stays, live_pin, IsLive, design}
+use Rattle.db_spec.specs.declared.event.Call.{Call}
+use Rattle.db_spec.specs.declared.event.Answer.TheVariants.{Pinned}
 use Rattle.edit_tx.specs.Facts.{PinFacts}
-use Rattle.history_spec.specs.Answers.{Admits}
-use Rattle.history_spec.specs.History.{state_after}
-use Rattle.history_spec.specs.Laws.{IsTypedCall}
-use Rattle.history_spec.proofs.Histories.{state_after-push, legal-push}
+use Rattle.db_spec.specs.Answers.{Admits}
+use Rattle.db_spec.specs.History.{state_after}
+use Rattle.db_spec.specs.Laws.{IsTypedCall}
+use Rattle.db_spec.proofs.Histories.{state_after-push, legal-push}
 use Rattle.db_core.specs.declared.database.Core.TheInside.{Inside}
 use Rattle.db_core.specs.Calls.{Pins, event_of}
 use Rattle.db_core.specs.Inside.{Stands, IsCore, held, story_of}

@@ -1,12 +1,12 @@
 -- What each call leaves of the history, by its result.
 use Rattle.std.specs.Prelude.{◌≡◌, ℕ, [], ◌∷◌, ◌++◌, Result, Ok, Err}
 use Rattle.edit_tx.specs.Facts.{PinFacts, TxFacts}
-use Rattle.history_spec.specs.Answers.{Admits, HasRoom}
-use Rattle.history_spec.specs.declared.event.Answer.{Answer}
-use Rattle.history_spec.specs.declared.event.Answer.TheVariants.{Pinned, NoVersion as NoSuchVersion, Gone as IsGone, Released, Collected, Committed, Conflict as Conflicted}
-use Rattle.history_spec.specs.declared.event.Call.{Call}
-use Rattle.history_spec.specs.declared.event.Call.TheVariants.{Pin, PinAt, Release, Collect, Commit}
-use Rattle.history_spec.specs.declared.event.Event.{Event}
+use Rattle.db_spec.specs.Answers.{Admits, HasRoom}
+use Rattle.db_spec.specs.declared.event.Answer.{Answer}
+use Rattle.db_spec.specs.declared.event.Answer.TheVariants.{Pinned, NoVersion as NoSuchVersion, Gone as IsGone, Released, Collected, Committed, Conflict as Conflicted}
+use Rattle.db_spec.specs.declared.event.Call.{Call}
+use Rattle.db_spec.specs.declared.event.Call.TheVariants.{Pin, PinAt, Release, Collect, Commit}
+use Rattle.db_spec.specs.declared.event.Event.{Event}
 use Rattle.db_core.specs.Story.{Story, IsPinOf, state}
 use Rattle.db_core.specs.declared.errors.PinError.{PinError}
 use Rattle.db_core.specs.declared.errors.PinError.TheVariants.{LogFull as PinFull, NoMemory as PinNoMemory}

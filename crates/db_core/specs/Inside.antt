@@ -3,7 +3,7 @@ use Rattle.std.specs.Prelude.{◌≡◌, ℕ, ◌+◌, ◌≤◌, Option, Some, 
 use Rattle.netlist_schema.specs.Types.{Object}
 use Rattle.pin_registry.specs.Registry.{LivePin as HeldPin, live_pin as held_pin}
 use Rattle.conflict_check.specs.Commits.{Commits, last_commit}
-use Rattle.history_spec.specs.State.{State, LivePin, head, IsWritten}
+use Rattle.db_spec.specs.State.{State, LivePin, head, IsWritten}
 use Rattle.db_core.specs.Story.{Story, IsHistory, shot, state}
 use Rattle.db_core.specs.declared.database.Core.TheInside.{Inside}
 

@@ -5,10 +5,10 @@ use Rattle.netlist_schema.specs.Design.{Design}
 use Rattle.netlist_schema.specs.Valid.{IsValid}
 use Rattle.edit_tx.specs.Facts.{PinFacts}
 use Rattle.db_version.specs.Shot.{Shot}
-use Rattle.history_spec.specs.declared.event.Event.{Event}
-use Rattle.history_spec.specs.State.{State, IsLive, design}
-use Rattle.history_spec.specs.History.{Legal, state_after}
-use Rattle.history_spec.specs.Laws.{IsTypedCall}
+use Rattle.db_spec.specs.declared.event.Event.{Event}
+use Rattle.db_spec.specs.State.{State, IsLive, design}
+use Rattle.db_spec.specs.History.{Legal, state_after}
+use Rattle.db_spec.specs.Laws.{IsTypedCall}
 
 pub record Story : Type 0 where
   -- version 0

@@ -1,20 +1,20 @@
 //! `Core`: the database of one thread.
 ghost use Rattle.std.specs.Prelude.{◌≡◌, ℕ, [], ◌+◌, ◌<◌, ◌≤◌, ◌↔◌, length, IfErr, IfOk, IfSome, IsNone, IsTrue, MatchOption, OnErr, OnOk};
 ghost use Rattle.netlist_schema.specs.Valid.{IsValid};
-ghost use Rattle.history_spec.specs.State.{IsLive, changed, head};
-ghost use Rattle.history_spec.specs.Answers.{Admits, HasPlaces, HasNoConflict, IsConflict, IsKept, IsLeastKept, most_events};
-ghost use Rattle.history_spec.specs.Laws.{IsTypedCall};
+ghost use Rattle.db_spec.specs.State.{IsLive, changed, head};
+ghost use Rattle.db_spec.specs.Answers.{Admits, HasPlaces, HasNoConflict, IsConflict, IsKept, IsLeastKept, most_events};
+ghost use Rattle.db_spec.specs.Laws.{IsTypedCall};
 ghost use Rattle.db_core.specs.Story.{IsHistory, IsPinOf, shot, state};
 ghost use Rattle.db_core.specs.Calls.{Accepts, Adds, Collects, Commits, IsRefused, Pins, PinsAt, PinsLast, Releases, event_of};
 
 use crate::errors::{CollectError, CommitError, PinAtError, PinError};
-use crate::kept::{find, first_of, keep_held};
+use crate::kept::{find, first_of, keep_held, share_dropped};
+use crate::next::next_version;
 use crate::vecs::{make_room, push_within};
 use conflict_check::{Later, Stamps};
-use edit_tx::{Pin, Snapshot, Tx, Version};
-use history_spec::{Answer, Call, Event};
-use netlist_schema::limits::MOST_EVENTS;
-use netlist_schema::{Copied, Design, NoMemory, Shown};
+use db_spec::{Answer, Call, Event};
+use edit_tx::{Left, Pin, Snapshot, Tx, Version};
+use netlist_schema::{Copied, Design, MOST_EVENTS, NoMemory, Shown};
 use pin_registry::Pins as Registry;
 use std::alloc::Global;
 use std::marker::Model;
@@ -296,9 +296,25 @@ impl Core {
     pub fn collect(&mut self, caller: u32) -> Result<u32, CollectError>
         ensures { Collects self.old self.new caller result }
     {
+        let mut gone = Vec::new(self.alloc);
+        self.collect_into(caller, &mut gone)
+    }
+
+    /// The same, and puts a share of each dropped version on a list, so that what the versions hold is let go with the list and not
+    /// within the call.
+    pub fn collect_into(
+        &mut self,
+        caller: u32,
+        gone: &mut Vec<Snapshot>,
+    ) -> Result<u32, CollectError>
+        ensures { Collects self.old self.new caller result }
+    {
         if !self.has_places(1) {
             return Err(CollectError::LogFull);
         }
+        let Ok(()) = self.share_gone(gone) else {
+            return Err(CollectError::NoMemory);
+        };
         let taken = self.pins.live() as usize + 1;
         let Ok(()) = make_room(&mut self.log, taken) else {
             return Err(CollectError::NoMemory);
@@ -317,11 +333,35 @@ impl Core {
         Ok(dropped)
     }
 
+    /// Shares the versions that a collect drops.
+    fn share_gone(&self, gone: &mut Vec<Snapshot>) -> Result<(), NoMemory> {
+        share_dropped(
+            self.versions.as_slice(),
+            self.newest.version(),
+            &self.pins,
+            gone,
+        )
+    }
+
     /// Runs the operations of a transaction on the last version, which makes the next one, and gives its number and the pin.
     /// It costs what they touch, and their replies are those that the transaction has. First `LogFull` comes exactly where the
     /// history has no room for the event, then `Conflict` exactly where a commit after the pinned version wrote what they
     /// read; that is an event. At the other errors nothing was changed. At each error the transaction comes back as it was.
     pub fn commit(&mut self, tx: Tx) -> Result<(u64, Pin), (CommitError, Tx)>
+        requires { IsPinOf self.old tx.pin }
+        ensures { Commits self.old self.new tx result }
+    {
+        let mut left = None;
+        self.commit_into(tx, &mut left)
+    }
+
+    /// The same, and puts what is left of an accepted transaction in a place, so that it is let go with the place and not within the
+    /// call.
+    pub fn commit_into(
+        &mut self,
+        tx: Tx,
+        left: &mut Option<Left>,
+    ) -> Result<(u64, Pin), (CommitError, Tx)>
         requires { IsPinOf self.old tx.pin }
         ensures { Commits self.old self.new tx result }
     {
@@ -333,7 +373,7 @@ impl Core {
                 let error = self.refuse(&tx, later);
                 Err((error, tx))
             }
-            None => match self.accept(tx) {
+            None => match self.accept(tx, left) {
                 Ok(done) => Ok(done),
                 Err(back) => Err((CommitError::NoMemory, back)),
             },
@@ -351,7 +391,7 @@ impl Core {
 
     /// Makes the version of a commit that clashes with none. All memory is taken before anything is changed: where it is
     /// refused, the transaction comes back.
-    fn accept(&mut self, tx: Tx) -> Result<(u64, Pin), Tx>
+    fn accept(&mut self, tx: Tx, left: &mut Option<Left>) -> Result<(u64, Pin), Tx>
         requires places { HasPlaces (state self.old) 1 }
         requires pin { IsPinOf self.old tx.pin }
         requires free { HasNoConflict (state self.old) tx.pin.version tx.ops }
@@ -359,7 +399,7 @@ impl Core {
         ensures err { IfErr result (λ back. (back ≡ tx) × (self.new ≡ self.old)) }
     {
         let version = self.newest.version() + 1;
-        let Ok(next) = tx.merged(self.alloc, &self.newest, version) else {
+        let Ok(next) = next_version(self.alloc, &tx, &self.newest, version) else {
             return Err(tx);
         };
         let Ok(kept) = next.share() else {
@@ -377,7 +417,8 @@ impl Core {
         };
         push_within(&mut self.versions, kept);
         self.newest = next;
-        let (pin, ops, replies) = tx.into_parts();
+        let (pin, ops, replies, rest) = tx.split();
+        *left = Some(rest);
         push_within(
             &mut self.log,
             Event {

@@ -4,6 +4,7 @@ ghost use Rattle.std.specs.List.{AllPairs, Contains, list_any};
 ghost use Rattle.db_version.specs.Shot.{Shot};
 
 use edit_tx::Snapshot;
+use netlist_schema::NoMemory;
 use pin_registry::Pins;
 
 /// The version of this number, which a binary search finds where it is there.
@@ -23,6 +24,21 @@ pub(crate) fn keep_held(versions: &mut Vec<Snapshot>, head: u64, pins: &Pins)
     ensures fewer { vec_len versions.new ≤ vec_len versions.old }
 {
     versions.retain(|kept| kept.version() == head || pins.holds(kept.version()));
+}
+
+/// Adds shares of the versions that are neither the last one nor held by a pin to a list.
+pub(crate) fn share_dropped(
+    versions: &[Snapshot],
+    head: u64,
+    pins: &Pins,
+    gone: &mut Vec<Snapshot>,
+) -> Result<(), NoMemory> {
+    for kept in versions {
+        if kept.version() != head && !pins.holds(kept.version()) {
+            gone.push(kept.share()?)?;
+        }
+    }
+    Ok(())
 }
 
 /// The number of the first of some versions.

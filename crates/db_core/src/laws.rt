@@ -2,9 +2,9 @@
 ghost use Rattle.std.specs.Prelude.{List, ◌++◌};
 ghost use Rattle.std.specs.List.{All};
 ghost use Rattle.edit_tx.specs.Facts.{PinFacts};
-ghost use Rattle.history_spec.specs.History.{Legal};
-ghost use Rattle.history_spec.specs.Laws.{IsReleaseOf};
-ghost use Rattle.history_spec.specs.declared.event.Event.{Event};
+ghost use Rattle.db_spec.specs.History.{Legal};
+ghost use Rattle.db_spec.specs.Laws.{IsReleaseOf};
+ghost use Rattle.db_spec.specs.declared.event.Event.{Event};
 ghost use Rattle.db_core.specs.Story.{Story, IsPinOf};
 
 /// A pin of a database stays one, with the design of its version, until its caller releases it, whatever else comes.

@@ -1,12 +1,14 @@
 //! The database of one thread: versions of a design, pins, transactions, and the history of all calls.
 #![tactic(auto)]
 
-pub mod database;
-pub mod errors;
-pub mod kept;
-pub mod laws;
-pub mod vecs;
+mod database;
+mod errors;
+mod kept;
+mod laws;
+mod next;
+mod vecs;
 
 pub use database::Core;
-pub use edit_tx::{Pin, Snapshot, Tx};
+pub use edit_tx::{Left, Pin, Snapshot, Tx};
 pub use errors::{CollectError, CommitError, PinAtError, PinError};
+pub use laws::pin_stays;

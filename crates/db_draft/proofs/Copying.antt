@@ -1,18 +1,13 @@
 -- Layers that are copied.
-use Rattle.std.proofs.Common.{◌≡◌, ℕ, suc, arith, ◌+◌, true, false, List, [], ◌∷◌, ◌++◌, map, take, Option, Some, None, refl, sym, ap, subst, ◌∙◌, slice_get, nat_eq, Global}
+use Rattle.std.proofs.Common.{◌≡◌, ℕ, suc, arith, ◌+◌, List, [], ◌∷◌, ◌++◌, map, take, Option, Some, None, refl, sym, ap, subst, ◌∙◌, slice_get, Global}
 use Rattle.std.specs.Prelude.{MatchOption, IsSomeAnd, option_map}
 use Rattle.std.specs.Arc.{arc_value}
 use Rattle.std.specs.BTreeMap.{BTreeMap, IsClone, get, is_at}
-use Rattle.std.specs.Cmp.Lexicographic.{pointwise}
-use Rattle.std.specs.List.{AllByRecursion, IsDistinct}
 use Rattle.std.specs.Ordering.{nat_cmp}
 use Rattle.std.specs.declared.sync.Arc.{Arc}
 use Rattle.std.proofs.lemmas.Map.Entries.{lookup_clone}
-use Rattle.netlist_schema.specs.Names.{AreDistinct}
 use Rattle.netlist_schema.specs.Types.{CellBody, Lib}
 use Rattle.netlist_schema.proofs.Lists.{take_next}
-use Rattle.edit_rules_spec.proofs.Lists.{Apart, distinct_of}
-use Rattle.edit_rules_spec.proofs.Refusals.{is_name-refl}
 use Rattle.db_draft.specs.Drafts.{AllSuit, AreSameLayers}
 use Rattle.db_draft.specs.Layers.{over_of, IsSameLayer}
 use Rattle.db_draft.specs.declared.layer.Layer.{Layer}
@@ -28,24 +23,6 @@ same_value (Some v) (Some w) is = ap (λ b. Some b) is
 
 pub same_bodies : (m n : BTreeMap ℕ Shared) → IsClone (λ x y. y ≡ x) (λ v w. arc_value w ≡ arc_value v) m n → (slot : ℕ) → option_map arc_value (get nat_cmp n slot) ≡ option_map arc_value (get nat_cmp m slot)
 same_bodies m n is slot = same_value (get nat_cmp m slot) (get nat_cmp n slot) (lookup_clone (λ x y. y ≡ x) (λ v w. arc_value w ≡ arc_value v) (is_at (nat_cmp slot)) (λ x y same. ap (is_at (nat_cmp slot)) same) m.entries n.entries is)
-
-pub distinct_from : (names : List (List ℕ)) → IsDistinct (pointwise nat_eq) names → AreDistinct names
-unfolding IsDistinct
-distinct_from names is = distinct_of names (apart names is)
-  where
-    differs : (x y : List ℕ) → pointwise nat_eq x y ≡ false → x ≡ y → ⊥
-    differs x y off same =
-        let on : pointwise nat_eq x y ≡ true = ap (pointwise nat_eq x) (sym same) ∙ is_name-refl x in
-        let never : true ≡ false = sym on ∙ off in
-        cc
-
-    each : (x : List ℕ) (ys : List (List ℕ)) → AllByRecursion (λ y. pointwise nat_eq x y ≡ false) ys → AllByRecursion (λ y. x ≡ y → ⊥) ys
-    each x [] all = tt
-    each x (y ∷ ys) all = (differs x y all.0, each x ys all.1)
-
-    apart : (xs : List (List ℕ)) → IsDistinct (pointwise nat_eq) xs → Apart xs
-    apart [] all = tt
-    apart (x ∷ xs) all = (each x xs all.0, apart xs all.1)
 
 same_more : (olds news : List Layer) (old new : Layer) → AreSameLayers olds news → IsSameLayer old new → AreSameLayers (olds ++ old ∷ []) (news ++ new ∷ [])
 same_more [] [] old new all is = (is, tt)

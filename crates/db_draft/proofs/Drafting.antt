@@ -73,17 +73,17 @@ module _ (b : Design) (layers new : List Layer) (notes : Option (List Note)) (al
   -- ---- one more cell
 
   module _ (lib : LibId) (old : Lib) (body : CellBody) (there : lib_at b lib ≡ Some old) where
-    pub can_push : AreDistinct (cell_names (cells_in (laid b (map over_of layers) notes) lib ++ body ∷ [])) → IsSomeAnd (slice_get layers lib.0) (λ layer. list_any (is_name body.name.id) layer.names.keys ≡ false)
+    pub can_push : AreDistinct (cell_names (cells_in (laid b (map over_of layers) notes) lib ++ body ∷ [])) → IsSomeAnd (slice_get layers lib.0) (λ layer. list_any (is_name body.name.id) layer.names ≡ false)
     can_push distinct =
         let found = layer_there b.libs layers lib.0 old all there in
         let apart = subst (λ (cs : List CellBody). AreDistinct (cell_names (cs ++ body ∷ []))) (cells_are lib old found.0 there found.1) distinct in
         let free = is_free_name old found.0 body (suits_at b.libs layers lib.0 old found.0 all there found.1) apart in
-        subst (λ (o : Option Layer). IsSomeAnd o (λ layer. list_any (is_name body.name.id) layer.names.keys ≡ false)) (sym found.1) free
+        subst (λ (o : Option Layer). IsSomeAnd o (λ layer. list_any (is_name body.name.id) layer.names ≡ false)) (sym found.1) free
 
-    pub push_suits : HasNewLayer layers new lib.0 (λ o n. HasAdded o n ((over_of o).added ++ body ∷ []) (o.names.keys ++ body.name.id ∷ [])) → AllSuit b.libs new
+    pub push_suits : HasNewLayer layers new lib.0 (λ o n. HasAdded o n ((over_of o).added ++ body ∷ []) (o.names ++ body.name.id ∷ [])) → AllSuit b.libs new
     push_suits has = subst (λ (ls : List Layer). AllSuit b.libs ls) (sym has.set) (suits_set b.libs layers lib.0 old has.before has.after all there has.found (suits_pushed old has.before has.after body has.changed))
 
-    pub push_laid : HasNewLayer layers new lib.0 (λ o n. HasAdded o n ((over_of o).added ++ body ∷ []) (o.names.keys ++ body.name.id ∷ [])) → laid b (map over_of new) notes ≡ with_more_cell (laid b (map over_of layers) notes) lib body
+    pub push_laid : HasNewLayer layers new lib.0 (λ o n. HasAdded o n ((over_of o).added ++ body ∷ []) (o.names ++ body.name.id ∷ [])) → laid b (map over_of new) notes ≡ with_more_cell (laid b (map over_of layers) notes) lib body
     push_laid has =
         ap (λ (ls : List Layer). laid b (map over_of ls) notes) has.set
         ∙ ap (λ (libs : List Lib). record (laid b (map over_of layers) notes) { libs = libs }) (libs_set b.libs layers lib.0 old has.before has.after (λ cs. cs ++ body ∷ []) there has.found (pushed_is has.before has.after old.cells body _ has.changed))

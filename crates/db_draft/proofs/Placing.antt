@@ -79,7 +79,7 @@ module _ (old new : BTreeMap ℕ Shared) (slot : ℕ) (x y : Shared) (change : C
 
 -- ---- in a layer
 
-pub tried_added : (old new : Layer) (count slot place : ℕ) (change : CellChange) (r : Tried) → slot ≡ count + place → ((s : ℕ) → (over_of new).changed s ≡ (over_of old).changed s) → new.names.keys ≡ old.names.keys
+pub tried_added : (old new : Layer) (count slot place : ℕ) (change : CellChange) (r : Tried) → slot ≡ count + place → ((s : ℕ) → (over_of new).changed s ≡ (over_of old).changed s) → new.names ≡ old.names
     → IsTriedAt (over_of old).added (over_of new).added place change r → IsTriedIn old new count slot change r
 tried_added old new count slot place change Made at same names tried = (
   tried.0,
@@ -99,7 +99,7 @@ tried_added old new count slot place change Made at same names tried = (
 tried_added old new count slot place change Refused at same names tried = record { changed = same; added = tried; names = names }
 tried_added old new count slot place change (NotHere back) at same names tried = (record { changed = same; added = tried.0; names = names }, tried.1)
 
-pub tried_changed : (old new : Layer) (count slot : ℕ) (change : CellChange) (r : Tried) → slot < count → (over_of new).added ≡ (over_of old).added → new.names.keys ≡ old.names.keys
+pub tried_changed : (old new : Layer) (count slot : ℕ) (change : CellChange) (r : Tried) → slot < count → (over_of new).added ≡ (over_of old).added → new.names ≡ old.names
     → IsTriedSlot old.changed new.changed slot change r → IsTriedIn old new count slot change r
 tried_changed old new count slot change Made less same names tried = (
   tried.0,

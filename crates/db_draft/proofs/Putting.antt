@@ -144,14 +144,14 @@ suits_put lib old new count slot body long there put suits = elim (cases_lt slot
     fit has here at other is (inr differ) =
         suits.fits at other (sym (has.changed at ∙ ap (λ b. cond b (Some body) ((over_of old).changed at)) (other_eq slot at differ)) ∙ is)
 
-pub suits_pushed : (lib : Lib) (old new : Layer) (body : CellBody) → HasAdded old new ((over_of old).added ++ body ∷ []) (old.names.keys ++ body.name.id ∷ []) → Suits lib old → Suits lib new
+pub suits_pushed : (lib : Lib) (old new : Layer) (body : CellBody) → HasAdded old new ((over_of old).added ++ body ∷ []) (old.names ++ body.name.id ∷ []) → Suits lib old → Suits lib new
 suits_pushed lib old new body has suits = record {
   named = has.names_are ∙ (ap (λ ns. ns ++ body.name.id ∷ []) suits.named ∙ (sym (map-append (λ (c : CellBody). c.name.id) (over_of old).added (body ∷ [])) ∙ ap cell_names (sym has.added_are)));
   fits = λ at other is. suits.fits at other (sym (has.changed at) ∙ is);
 }
 
 -- a name that is none of those there is none of those added
-pub is_free_name : (lib : Lib) (layer : Layer) (body : CellBody) → Suits lib layer → AreDistinct (cell_names (cells_laid (over_of layer) lib.cells ++ body ∷ [])) → list_any (is_name body.name.id) layer.names.keys ≡ false
+pub is_free_name : (lib : Lib) (layer : Layer) (body : CellBody) → Suits lib layer → AreDistinct (cell_names (cells_laid (over_of layer) lib.cells ++ body ∷ [])) → list_any (is_name body.name.id) layer.names ≡ false
 is_free_name lib layer body suits distinct =
     let names = cell_names (cells_laid (over_of layer) lib.cells) in
     let all : cell_names (cells_laid (over_of layer) lib.cells ++ body ∷ []) ≡ names ++ body.name.id ∷ [] = map-append (λ (c : CellBody). c.name.id) (cells_laid (over_of layer) lib.cells) (body ∷ []) in

@@ -17,7 +17,7 @@ over_of layer = record {
 
 -- the names are those of the cells added
 abbrev pub IsNamed : Layer → Type 0
-IsNamed layer = layer.names.keys ≡ cell_names (map arc_value layer.cells.items)
+IsNamed layer = layer.names ≡ cell_names (map arc_value layer.cells.items)
 
 -- the layer changes and adds nothing
 pub record IsEmpty (layer : Layer) : Type 0 where
@@ -29,24 +29,24 @@ pub record IsEmpty (layer : Layer) : Type 0 where
 pub record IsSameLayer (old new : Layer) : Type 0 where
   pub changed : (slot : ℕ) → (over_of new).changed slot ≡ (over_of old).changed slot
   pub added : (over_of new).added ≡ (over_of old).added
-  pub names : new.names.keys ≡ old.names.keys
+  pub names : new.names ≡ old.names
 
 -- a cell of the library has another body
 pub record HasChanged (old new : Layer) (slot : ℕ) (body : CellBody) : Type 0 where
   pub changed : (at : ℕ) → (over_of new).changed at ≡ cond (nat_eq slot at) (Some body) ((over_of old).changed at)
   pub added : (over_of new).added ≡ (over_of old).added
-  pub names : new.names.keys ≡ old.names.keys
+  pub names : new.names ≡ old.names
 
 -- these are the cells added, and their names
 pub record HasAdded (old new : Layer) (added : List CellBody) (names : List (List ℕ)) : Type 0 where
   pub changed : (slot : ℕ) → (over_of new).changed slot ≡ (over_of old).changed slot
   pub added_are : (over_of new).added ≡ added
-  pub names_are : new.names.keys ≡ names
+  pub names_are : new.names ≡ names
 
 -- a cell of a library of this many cells, or one added, has another body
 pub record IsPut (old new : Layer) (count slot : ℕ) (body : CellBody) : Type 0 where
   pub before : slot < count → HasChanged old new slot body
-  pub behind : (place : ℕ) → slot ≡ count + place → HasAdded old new (slice_set (over_of old).added place body) old.names.keys
+  pub behind : (place : ℕ) → slot ≡ count + place → HasAdded old new (slice_set (over_of old).added place body) old.names
 
 -- the layer has no other body and no cell
 pub record IsBlank (layer : Layer) : Type 0 where

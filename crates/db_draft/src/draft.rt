@@ -267,8 +267,8 @@ fn push_in(
     lib: LibId,
     body: Arc<CellBody>,
 ) -> Result<(), NoMemory>
-    requires { IsSomeAnd (slice_get layers.old.items lib.0) (λ layer. list_any (is_name (arc_value body).name.id) layer.names.keys ≡ false) }
-    ensures ok { OnOk result (HasNewLayer layers.old.items layers.new.items lib.0 (λ old new. HasAdded old new ((over_of old).added ++ arc_value body ∷ []) (old.names.keys ++ (arc_value body).name.id ∷ []))) }
+    requires { IsSomeAnd (slice_get layers.old.items lib.0) (λ layer. list_any (is_name (arc_value body).name.id) layer.names ≡ false) }
+    ensures ok { OnOk result (HasNewLayer layers.old.items layers.new.items lib.0 (λ old new. HasAdded old new ((over_of old).added ++ arc_value body ∷ []) (old.names ++ (arc_value body).name.id ∷ []))) }
     ensures err { OnErr result (HasNewLayer layers.old.items layers.new.items lib.0 IsSameLayer) }
 {
     layers[lib.0 as usize].push(alloc, body)

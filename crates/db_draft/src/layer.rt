@@ -16,10 +16,8 @@ ghost use Rattle.db_draft.specs.Place.{HasBody, IsTriedIn};
 ghost use Rattle.db_draft.specs.Layers.{changes_of, over_of, HasAdded, HasChanged, IsBlank, IsEmpty, IsNamed, IsPut, IsSameLayer};
 
 use crate::place::{Tried, try_added, try_changed};
-use db_version::Shelf;
-use db_version::directory::{any_same, copied};
+use db_version::{NameList, Shelf};
 use edit_cells::CellChange;
-use indexmap::IndexSet;
 use netlist_schema::{CellBody, Copied, Ident, NoMemory};
 use std::alloc::Global;
 use std::collections::BTreeMap;
@@ -31,7 +29,7 @@ pub struct Layer {
     /// The other body of a cell, by its place.
     changed: BTreeMap<u32, Arc<CellBody>>,
     /// The names of the cells added, for look-ups.
-    names: IndexSet<Ident>,
+    names: NameList,
     cells: Vec<Arc<CellBody>>,
 }
 
@@ -52,7 +50,7 @@ impl Layer {
     {
         Layer {
             changed: BTreeMap::new(alloc),
-            names: IndexSet::new(alloc),
+            names: NameList::new(alloc),
             cells: Vec::new(alloc),
         }
     }
@@ -83,10 +81,7 @@ impl Layer {
         ensures value { result ≡ place_of name.now (cell_names (over_of self.now).added) }
         ensures within { IfSome result (λ place. place < length (over_of self.now).added) }
     {
-        match self.names.get_index_of(name) {
-            Some(place) => Some(place),
-            None => None,
-        }
+        self.names.place(name)
     }
 
     /// The cell at a place of a library with this layer over it.
@@ -163,7 +158,7 @@ impl Layer {
         ensures { IfOk result (IsSameLayer self.now) }
     {
         let changed = self.changed.clone()?;
-        let names = copied_names(alloc, &self.names)?;
+        let names = self.names.copy(alloc)?;
         let cells = shared(alloc, self.cells.as_slice())?;
         Ok(Layer {
             changed,
@@ -184,7 +179,7 @@ impl Layer {
     /// Puts another body in the place of a cell added.
     fn put_added(&mut self, place: usize, body: Arc<CellBody>)
         requires { place < length (over_of self.old).added }
-        ensures { HasAdded self.old self.new (slice_set (over_of self.old).added place (arc_value body)) self.old.names.keys }
+        ensures { HasAdded self.old self.new (slice_set (over_of self.old).added place (arc_value body)) self.old.names }
     {
         self.cells[place] = body;
     }
@@ -215,25 +210,24 @@ impl Layer {
 
     /// Adds a cell behind the last, of a name that none of the cells added has.
     pub fn push(&mut self, alloc: Global, body: Arc<CellBody>) -> Result<(), NoMemory>
-        requires { list_any (is_name (arc_value body).name.id) self.old.names.keys ≡ false }
-        ensures ok { OnOk result (HasAdded self.old self.new ((over_of self.old).added ++ arc_value body ∷ []) (self.old.names.keys ++ (arc_value body).name.id ∷ [])) }
+        requires { list_any (is_name (arc_value body).name.id) self.old.names ≡ false }
+        ensures ok { OnOk result (HasAdded self.old self.new ((over_of self.old).added ++ arc_value body ∷ []) (self.old.names ++ (arc_value body).name.id ∷ [])) }
         ensures err { OnErr result (IsSameLayer self.old self.new) }
     {
-        let name = body.name.id.copy(alloc)?;
         self.cells.reserve(1)?;
-        self.names.insert(name)?;
+        self.names.add(alloc, &body.name.id)?;
         push_within(&mut self.cells, body);
         Ok(())
     }
 
     /// Whether a name in the directory of a library with this layer over it is the same as this one when the case of ASCII
-    /// letters is ignored. Takes no memory.
+    /// letters is ignored.
     pub fn has_same(&self, shelf: &Shelf, name: &Ident) -> bool
         requires named { IsNamed self.now }
         requires fits { Fits shelf.now.cells (over_of self.now) }
         ensures { result ≡ list_any (λ other. is_same other name.now) (cell_names (cells_laid (over_of self.now) shelf.now.cells)) }
     {
-        shelf.directory().has_same(name) || any_same(self.names.as_slice(), name)
+        shelf.directory().has_same(name) || self.names.has_same(name)
     }
 
     /// Whether nothing is changed and nothing added.
@@ -290,13 +284,6 @@ fn push_within<T: Drop>(items: &mut Vec<T>, item: T)
     }
 }
 
-/// A set of the same names.
-fn copied_names(alloc: Global, names: &IndexSet<Ident>) -> Result<IndexSet<Ident>, NoMemory>
-    ensures { IfOk result (λ made. made.keys ≡ names.now.keys) }
-{
-    copied(alloc, names.as_slice())
-}
-
 /// The same bodies, shared.
 fn shared(alloc: Global, bodies: &[Arc<CellBody>]) -> Result<Vec<Arc<CellBody>>, NoMemory>
     ensures { IfOk result (λ made. map arc_value made.items ≡ map arc_value bodies.now) }
@@ -309,7 +296,7 @@ fn shared(alloc: Global, bodies: &[Arc<CellBody>]) -> Result<Vec<Arc<CellBody>>,
 }
 
 /// Layers of nothing.
-pub fn empty_layers(alloc: Global, count: u32) -> Result<Vec<Layer>, NoMemory>
+pub(crate) fn empty_layers(alloc: Global, count: u32) -> Result<Vec<Layer>, NoMemory>
     ensures { IfOk result (λ layers. (vec_len layers ≡ count) × All IsEmpty layers.items) }
 {
     let mut layers = Vec::with_capacity(alloc, count as usize)?;

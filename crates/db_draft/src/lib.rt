@@ -1,9 +1,10 @@
 //! A version of a design with changes over it.
 #![tactic(auto)]
 
-pub mod draft;
-pub mod layer;
-pub mod make;
-pub mod place;
+mod draft;
+mod layer;
+mod make;
+mod place;
 
 pub use draft::Draft;
+pub use place::Tried;

@@ -18,7 +18,7 @@ use std::alloc::Global;
 use std::sync::Arc;
 
 /// Changes a body. Where memory is refused, it stays.
-pub fn change_body(body: &mut CellBody, change: CellChange) -> Result<(), NoMemory>
+pub(crate) fn change_body(body: &mut CellBody, change: CellChange) -> Result<(), NoMemory>
     requires { CanFit change body.old }
     ensures ok { OnOk result (body.new ≡ body_after change body.old) }
     ensures err { OnErr result (body.new ≡ body.old) }

@@ -38,7 +38,7 @@ fn try_body(body: &mut Arc<CellBody>, change: CellChange) -> Tried
 }
 
 /// Changes the body at a place.
-pub fn try_added(bodies: &mut Vec<Arc<CellBody>>, place: usize, change: CellChange) -> Tried
+pub(crate) fn try_added(bodies: &mut Vec<Arc<CellBody>>, place: usize, change: CellChange) -> Tried
     requires { (body : CellBody') → slice_get (map arc_value bodies.old.items) place ≡ Some body → CanFit change body }
     ensures { IsTriedAt (map arc_value bodies.old.items) (map arc_value bodies.new.items) place change result }
 {
@@ -49,7 +49,7 @@ pub fn try_added(bodies: &mut Vec<Arc<CellBody>>, place: usize, change: CellChan
 }
 
 /// Changes the body of a slot.
-pub fn try_changed(
+pub(crate) fn try_changed(
     bodies: &mut BTreeMap<u32, Arc<CellBody>>,
     slot: u32,
     change: CellChange,
@@ -64,7 +64,7 @@ pub fn try_changed(
 }
 
 /// Changes a cell of a library in its layer.
-pub fn try_in(
+pub(crate) fn try_in(
     layers: &mut Vec<Layer>,
     lib: LibId,
     count: u32,

@@ -5,18 +5,18 @@ use Rattle.std.proofs.lemmas.List.Elements.{All-cons, All-contains, All-nil, Con
 use mathlib.Core.List.{IsPrefix}
 use Rattle.netlist_schema.specs.Design.{Design}
 use Rattle.edit_tx.specs.Facts.{PinFacts}
-use Rattle.history_spec.specs.declared.event.Answer.{Answer}
-use Rattle.history_spec.specs.declared.event.Answer.TheVariants.{Pinned}
-use Rattle.history_spec.specs.declared.event.Call.{Call}
-use Rattle.history_spec.specs.declared.event.Call.TheVariants.{Pin, PinAt, Release, Collect, Commit}
-use Rattle.history_spec.specs.declared.event.Event.{Event}
-use Rattle.history_spec.specs.Answers.{Admits, Answers}
-use Rattle.history_spec.specs.History.{Legal, state_after}
-use Rattle.history_spec.specs.Laws.{IsReleaseOf}
-use Rattle.history_spec.specs.State.{State, IsLive, after, live_pin, opening}
-use Rattle.history_spec.proofs.Histories.{legal-left, one_more_is_legal, state_after-push}
-use Rattle.history_spec.proofs.Lists.{All-from_in, from_filter, in_cases}
-use Rattle.history_spec.proofs.Staying.{pin_stays_live}
+use Rattle.db_spec.specs.declared.event.Answer.{Answer}
+use Rattle.db_spec.specs.declared.event.Answer.TheVariants.{Pinned}
+use Rattle.db_spec.specs.declared.event.Call.{Call}
+use Rattle.db_spec.specs.declared.event.Call.TheVariants.{Pin, PinAt, Release, Collect, Commit}
+use Rattle.db_spec.specs.declared.event.Event.{Event}
+use Rattle.db_spec.specs.Answers.{Admits, Answers}
+use Rattle.db_spec.specs.History.{Legal, state_after}
+use Rattle.db_spec.specs.Laws.{IsReleaseOf}
+use Rattle.db_spec.specs.State.{State, IsLive, after, live_pin, opening}
+use Rattle.db_spec.proofs.Histories.{legal-left, one_more_is_legal, state_after-push}
+use Rattle.db_spec.proofs.Lists.{All-from_in, from_filter, in_cases}
+use Rattle.db_spec.proofs.Staying.{pin_stays_live}
 use Rattle.turn_cell.specs.Seats.{entries_of}
 use Rattle.db_core.specs.Story.{IsPinOf}
 use Rattle.db_core.specs.Calls.{event_of}

@@ -1,9 +1,9 @@
 -- The pins of a pass over each call.
 use Rattle.std.proofs.Common.{◌≡◌, ◌≢◌, ℕ, Result, Ok, Err, sym}
 use Rattle.edit_tx.specs.Facts.{PinFacts, TxFacts}
-use Rattle.history_spec.specs.declared.event.Answer.{Answer}
-use Rattle.history_spec.specs.declared.event.Call.{Call}
-use Rattle.history_spec.specs.declared.event.Call.TheVariants.{Pin, PinAt, Release, Collect}
+use Rattle.db_spec.specs.declared.event.Answer.{Answer}
+use Rattle.db_spec.specs.declared.event.Call.{Call}
+use Rattle.db_spec.specs.declared.event.Call.TheVariants.{Pin, PinAt, Release, Collect}
 use Rattle.db_core.specs.declared.errors.PinError.{PinError}
 use Rattle.db_core.specs.declared.errors.PinError.TheVariants.{LogFull as PinFull, NoMemory as PinNoMemory}
 use Rattle.db_core.specs.declared.errors.PinAtError.{PinAtError}

@@ -4,3 +4,4 @@ pub mod Turns
 pub mod Answered
 pub mod Opened
 pub mod Keeping
+pub mod AllPasses

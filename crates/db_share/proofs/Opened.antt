@@ -4,8 +4,8 @@ use Rattle.std.proofs.lemmas.List.Elements.{All-nil}
 use mathlib.Core.List.{IsPrefix}
 use Rattle.netlist_schema.specs.Design.{Design}
 use Rattle.netlist_schema.specs.Valid.{IsValid}
-use Rattle.history_spec.specs.declared.event.Event.{Event}
-use Rattle.history_spec.specs.Laws.{IsTypedCall}
+use Rattle.db_spec.specs.declared.event.Event.{Event}
+use Rattle.db_spec.specs.Laws.{IsTypedCall}
 use Rattle.turn_cell.specs.Seats.{new_seat}
 use Rattle.turn_cell.proofs.Rows.{got_at, has_each}
 use Rattle.db_share.specs.Passes.{Shared, Pass, IsReady, new_pass}

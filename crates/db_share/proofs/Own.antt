@@ -3,10 +3,10 @@ use Rattle.std.proofs.Common.{◌≡◌, ℕ, ◌==◌, true, cond, List, [], �
 use Rattle.std.proofs.lemmas.Bool.Decides.{nat_tests}
 use Rattle.std.proofs.lemmas.List.{append_cancel_left}
 use Rattle.std.proofs.lemmas.List.Elements.{filter-append, All-contains}
-use Rattle.history_spec.specs.declared.event.Call.TheVariants.{Release}
-use Rattle.history_spec.specs.declared.event.Event.{Event}
-use Rattle.history_spec.specs.Laws.{IsReleaseOf}
-use Rattle.history_spec.proofs.Lists.{All-from_in, to_filter}
+use Rattle.db_spec.specs.declared.event.Call.TheVariants.{Release}
+use Rattle.db_spec.specs.declared.event.Event.{Event}
+use Rattle.db_spec.specs.Laws.{IsReleaseOf}
+use Rattle.db_spec.proofs.Lists.{All-from_in, to_filter}
 use Rattle.turn_cell.specs.Seats.{entries_of}
 use Rattle.db_share.specs.Passes.{maker}
 

@@ -4,12 +4,12 @@ use Rattle.std.specs.List.{All}
 use mathlib.Core.List.{IsPrefix}
 use Rattle.netlist_schema.specs.Design.{Design}
 use Rattle.edit_tx.specs.Facts.{PinFacts, TxFacts}
-use Rattle.history_spec.specs.declared.event.Call.{Call}
-use Rattle.history_spec.specs.declared.event.Call.TheVariants.{Pin, PinAt, Release, Collect}
-use Rattle.history_spec.specs.declared.event.Answer.{Answer}
-use Rattle.history_spec.specs.declared.event.Answer.TheVariants.{Pinned, NoVersion, Gone, Released, Collected, Committed, Conflict}
-use Rattle.history_spec.specs.declared.event.Event.{Event}
-use Rattle.history_spec.specs.Answers.{Admits, HasRoom}
+use Rattle.db_spec.specs.declared.event.Call.{Call}
+use Rattle.db_spec.specs.declared.event.Call.TheVariants.{Pin, PinAt, Release, Collect}
+use Rattle.db_spec.specs.declared.event.Answer.{Answer}
+use Rattle.db_spec.specs.declared.event.Answer.TheVariants.{Pinned, NoVersion, Gone, Released, Collected, Committed, Conflict}
+use Rattle.db_spec.specs.declared.event.Event.{Event}
+use Rattle.db_spec.specs.Answers.{Admits, HasRoom}
 use Rattle.turn_cell.specs.Seats.{AgreeWith, HasEachSeat}
 use Rattle.db_core.specs.declared.errors.PinError.{PinError}
 use Rattle.db_core.specs.declared.errors.PinError.TheVariants.{LogFull as PinFull, NoMemory as PinNoMemory}
@@ -28,6 +28,10 @@ pub record GoesOn (db : Shared) (old new : Pass) : Type 0 where
   pub ready : IsReady db new
   pub number : new.number ≡ old.number
   pub seen : IsPrefix old.seen new.seen
+
+-- after some calls the pass is ready for the next one, and has its number
+abbrev pub Stays : Shared → Pass → Pass → Type 0
+Stays db old new = IsReady db new × (new.number ≡ old.number)
 
 -- the call is no event: at its turn the pass saw the log, and left it as it was
 pub record Looks (db : Shared) (old new : Pass) : Type 0 where

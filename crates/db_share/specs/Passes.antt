@@ -2,8 +2,8 @@
 use Rattle.std.specs.Prelude.{◌≡◌, ℕ, List, Some}
 use Rattle.netlist_schema.specs.Design.{Design}
 use Rattle.edit_tx.specs.Facts.{PinFacts}
-use Rattle.history_spec.specs.declared.event.Event.{Event}
-use Rattle.history_spec.specs.State.{State}
+use Rattle.db_spec.specs.declared.event.Event.{Event}
+use Rattle.db_spec.specs.State.{State}
 use Rattle.turn_cell.specs.Seats.{SeatFacts, TurnFacts, IsAtRest, entries_of, new_seat}
 use Rattle.db_core.specs.Story.{Story, IsHistory, IsPinOf, state}
 

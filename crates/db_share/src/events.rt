@@ -5,7 +5,7 @@ ghost use Rattle.db_share.specs.Inside.{is_commit_event, is_pin_at_event};
 use db_core::{CommitError, Pin, PinAtError, Tx};
 
 /// Whether the pin of a version is an event: it is one, or the version is not there or no longer.
-pub fn pin_at_adds(pinned: &Result<Pin, PinAtError>) -> bool
+pub(crate) fn pin_at_adds(pinned: &Result<Pin, PinAtError>) -> bool
     ensures { result ≡ is_pin_at_event pinned.now }
 {
     match pinned {
@@ -16,7 +16,7 @@ pub fn pin_at_adds(pinned: &Result<Pin, PinAtError>) -> bool
 }
 
 /// Whether a commit is an event: it made a version, or it conflicts.
-pub fn commit_adds(committed: &Result<(u64, Pin), (CommitError, Tx)>) -> bool
+pub(crate) fn commit_adds(committed: &Result<(u64, Pin), (CommitError, Tx)>) -> bool
     ensures { result ≡ is_commit_event committed.now }
 {
     match committed {

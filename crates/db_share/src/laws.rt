@@ -3,11 +3,11 @@ ghost use Rattle.std.specs.Prelude.{◌≡◌, ◌≢◌, ℕ, Contains, Result}
 ghost use Rattle.std.specs.List.{All};
 ghost use Rattle.netlist_schema.specs.Valid.{IsValid};
 ghost use Rattle.edit_tx.specs.Facts.{PinFacts, TxFacts};
-ghost use Rattle.history_spec.specs.declared.event.Call.{Call};
-ghost use Rattle.history_spec.specs.declared.event.Call.TheVariants.{Release};
-ghost use Rattle.history_spec.specs.declared.event.Answer.{Answer};
-ghost use Rattle.history_spec.specs.declared.event.Answer.TheVariants.{Pinned};
-ghost use Rattle.history_spec.specs.State.{IsLive};
+ghost use Rattle.db_spec.specs.declared.event.Call.{Call};
+ghost use Rattle.db_spec.specs.declared.event.Call.TheVariants.{Release};
+ghost use Rattle.db_spec.specs.declared.event.Answer.{Answer};
+ghost use Rattle.db_spec.specs.declared.event.Answer.TheVariants.{Pinned};
+ghost use Rattle.db_spec.specs.State.{IsLive};
 ghost use Rattle.db_core.specs.declared.errors.CollectError.{CollectError};
 ghost use Rattle.db_core.specs.declared.errors.CommitError.{CommitError};
 ghost use Rattle.db_core.specs.declared.errors.PinAtError.{PinAtError};

@@ -7,7 +7,7 @@ ghost use Rattle.db_share.specs.Inside.{Enters, HasTurn, Leaves, Steps};
 
 use crate::events::{commit_adds, pin_at_adds};
 use db_core::{CollectError, CommitError, Core, Pin, PinAtError, PinError, Tx};
-use history_spec::Event;
+use db_spec::Event;
 use netlist_schema::{Design, NoMemory};
 use std::alloc::Global;
 use std::marker::Model;
@@ -46,9 +46,10 @@ pub type Pass = TurnSeat<SharedCore>;
 
 /// A design that up to 64 callers share, in versions. It is shared by `&`; each caller has a `Pass`.
 ///
-/// A call with a pass waits for its turn. What the pass has seen is then the whole log, which is legal from the opening design,
+/// A call with a pass waits for its turn. What the pass has seen is then a front of the log, which is legal from the opening design,
 /// and goes on from what it had seen before; its own events there are those of its calls, each once. A call that is an event
-/// adds it to the log as its last one. After each call the pass is at rest: no other caller waits for it.
+/// adds it to the log as its last one, and the pass has seen the whole log up to it. After each call the pass is at rest: no other
+/// caller waits for it.
 pub struct Db {
     turn: Turn<SharedCore>,
 }
@@ -152,15 +153,16 @@ impl Db {
     pub fn collect(
         &self,
         rt: &impl Wait,
-        _alloc: Global,
+        alloc: Global,
         pass: &mut Pass,
     ) -> Result<u32, CollectError>
         requires { IsReady self.now pass.old }
         ensures on { GoesOn self.now pass.old pass.new }
         ensures answer { HasCollected self.now pass.old pass.new result }
     {
+        let mut gone = Vec::new(alloc);
         let mut shared = self.enter(rt, pass);
-        let collected = shared.core.collect(pass.number());
+        let collected = shared.core.collect_into(pass.number(), &mut gone);
         self.leave(pass, shared, collected.is_ok());
         collected
     }
@@ -182,8 +184,9 @@ impl Db {
         ensures on { GoesOn self.now pass.old pass.new }
         ensures answer { HasCommitted self.now pass.old pass.new tx result }
     {
+        let mut left = None;
         let mut shared = self.enter(rt, pass);
-        let committed = shared.core.commit(tx);
+        let committed = shared.core.commit_into(tx, &mut left);
         let added = commit_adds(&committed);
         self.leave(pass, shared, added);
         committed

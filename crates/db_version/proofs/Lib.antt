@@ -1,2 +1,4 @@
 pub mod Places
 pub mod Setting
+pub mod Lowering
+pub mod Parts

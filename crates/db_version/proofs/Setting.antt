@@ -97,6 +97,14 @@ take_right : {X : Type 0} (old xs : List X) (k : ℕ) → take (length old + k) 
 take_right [] xs k = let none : 0 + k ≡ k = omega arith in ap (λ n. take n xs) none
 take_right (x ∷ old) xs k = let one : suc (length old) + k ≡ suc (length old + k) = omega arith in ap (λ n. take n ((x ∷ old) ++ xs)) one ∙ ap (λ rest. x ∷ rest) (take_right old xs k)
 
+-- one more of the names behind others
+pub more_known : (old list : List (List ℕ)) (k : ℕ) (name id : List ℕ) (keys new : List (List ℕ)) → AreDistinct (old ++ list) → slice_get list k ≡ Some name → id ≡ name
+    → keys ≡ old ++ take k list → new ≡ insert_key (pointwise nat_eq) keys id → new ≡ old ++ take (k + 1) list
+more_known old list k name id keys new distinct found same before is =
+    let next : length old + k + 1 ≡ length old + (k + 1) = omega arith in
+    name_next (old ++ list) (length old + k) name id keys new distinct (get_behind old list k ∙ found) same (before ∙ sym (take_right old list k)) is
+    ∙ ap (λ n. take n (old ++ list)) next ∙ take_right old list (k + 1)
+
 abbrev Shared : Type 0
 Shared = Arc CellBody Global
 

@@ -1,3 +1,5 @@
+pub mod Lowered
+pub mod Directories
 pub mod Inside
 pub mod Shot
 pub mod Shelves

@@ -1,38 +1,44 @@
 //! `Directory`: the names of a library's cells.
-ghost use Rattle.std.specs.Prelude.{◌≡◌, ◌≤◌, ◌++◌, length, map, IfOk, OnOk};
+ghost use Rattle.std.specs.Prelude.{◌≡◌, ◌≤◌, ◌+◌, ◌++◌, ◌∷◌, [], length, map, IfOk, OnOk};
 ghost use Rattle.std.specs.Arc.{arc_value};
-ghost use Rattle.std.specs.List.{list_any};
+ghost use Rattle.std.specs.List.{flat_map, list_any};
 ghost use Rattle.edit_rules_spec.specs.Find.{is_same, place_of};
 ghost use Rattle.netlist_schema.specs.Names.{AreDistinct, cell_names};
 ghost use Rattle.netlist_schema.specs.declared.limits.TheConstants.{MOST_CELLS};
 
-use indexmap::IndexSet;
+use crate::names::NameList;
 use netlist_schema::{CellBody, Ident, NoMemory};
 use std::alloc::Global;
 use std::marker::Model;
 use std::sync::Arc;
 
 /// The names of a library's cells, in order, no two of them equal byte for byte, and at most 65,536. Contracts see the list.
-/// A name is found by a hash.
+///
+/// They stand in parts, one after another, which directories share. Each part is longer than all behind it together, so there are
+/// few: a look goes through their hashes, and in the long run a name that is added is hashed once for each doubling of its library.
 pub struct Directory {
-    names: IndexSet<Ident>,
+    parts: Vec<Arc<NameList>>,
+    count: u32,
 }
 
 impl Drop for Directory {
     fn drop(self) {
-        let Directory { names: _ } = self;
+        let Directory { parts: _, count: _ } = self;
     }
 }
 
 impl Model for Directory {
-    ghost use Rattle.std.specs.Prelude.{◌≤◌, List, ℕ, length};
-    ghost use Rattle.netlist_schema.specs.declared.limits.TheConstants.{MOST_CELLS};
+    ghost use Rattle.std.specs.Prelude.{List, ℕ};
+    ghost use Rattle.std.specs.Arc.{arc_value};
+    ghost use Rattle.std.specs.List.{flat_map};
 
     ghost Value = { List (List ℕ) };
 
-    ghost view = { λ d. d.names.keys };
+    ghost use Rattle.db_version.specs.Directories.{IsDirectory};
 
-    ghost invariant = { λ d. length d.names.keys ≤ MOST_CELLS };
+    ghost view = { λ d. flat_map arc_value d.parts.items };
+
+    ghost invariant = { IsDirectory };
 }
 
 impl Directory {
@@ -42,11 +48,10 @@ impl Directory {
         requires distinct { AreDistinct (cell_names cells.now) }
         ensures { IfOk result (λ d. d ≡ cell_names cells.now) }
     {
-        let mut names: IndexSet<Ident> = IndexSet::new(alloc);
-        for cell in cells {
-            names.insert(cell.name.id.copy(alloc)?)?;
-        }
-        Ok(Directory { names })
+        let count = cells.len() as u32;
+        let names = NameList::of(alloc, cells)?;
+        let parts = with_part(alloc, &[], names)?;
+        Ok(Directory { parts, count })
     }
 
     /// This directory with the names of more cells behind its last, which differ from each other and from those here.
@@ -55,9 +60,13 @@ impl Directory {
         requires distinct { AreDistinct (self.now ++ cell_names (map arc_value more.now)) }
         ensures { IfOk result (λ made. made ≡ self.now ++ cell_names (map arc_value more.now)) }
     {
-        let mut names = copied(alloc, self.names.as_slice())?;
-        add_names(alloc, &mut names, more)?;
-        Ok(Directory { names })
+        let count = self.count + more.len() as u32;
+        let parts = self.parts.as_slice();
+        let kept = kept_parts(parts, more.len());
+        let (front, back) = parts.split_at(kept);
+        let names = joined(alloc, back, more)?;
+        let parts = with_part(alloc, front, names)?;
+        Ok(Directory { parts, count })
     }
 
     /// The number of names.
@@ -65,63 +74,103 @@ impl Directory {
         ensures value { result ≡ length self.now }
         ensures limit { result ≤ MOST_CELLS }
     {
-        self.names.len() as u32
+        self.count
     }
 
-    /// Whether a name is the same as this one when the case of ASCII letters is ignored. Takes no memory.
+    /// Whether a name is the same as this one when the case of ASCII letters is ignored. It takes memory only for a name of more
+    /// than 16 bytes, and can do without.
     pub fn has_same(&self, name: &Ident) -> bool
         ensures { result ≡ list_any (λ other. is_same other name.now) self.now }
     {
-        any_same(self.names.as_slice(), name)
+        has_same(self.parts.as_slice(), name)
     }
 
     /// The place of a name. Takes no memory.
     pub fn place(&self, name: &Ident) -> Option<u32>
         ensures { result ≡ place_of name.now self.now }
     {
-        match self.names.get_index_of(name) {
-            Some(place) => Some(place as u32),
-            None => None,
-        }
+        place(self.parts.as_slice(), name)
     }
 }
 
-/// A set of these names, which differ.
-pub fn copied(alloc: Global, names: &[Ident]) -> Result<IndexSet<Ident>, NoMemory>
-    requires { AreDistinct names.now }
-    ensures { IfOk result (λ made. made.keys ≡ names.now) }
+/// How many of the parts stay as they are where so many names are added: those that are longer than all behind them together.
+fn kept_parts(parts: &[Arc<NameList>], more: usize) -> usize
+    ensures { result ≤ length parts.now }
 {
-    let mut made: IndexSet<Ident> = IndexSet::with_capacity(alloc, names.len())?;
-    for name in names {
-        made.insert(name.copy(alloc)?)?;
+    let mut kept = parts.len();
+    let mut behind = more;
+    while kept > 0 && parts[kept - 1].len() <= behind {
+        kept -= 1;
+        behind = behind.saturating_add(parts[kept].len());
     }
-    Ok(made)
+    kept
 }
 
-/// Adds the names of cells to a set, which differ from each other and from those in it.
-fn add_names(
+/// The names of parts, and behind them those of cells, in one part.
+fn joined(
     alloc: Global,
-    names: &mut IndexSet<Ident>,
+    parts: &[Arc<NameList>],
     cells: &[Arc<CellBody>],
-) -> Result<(), NoMemory>
-    requires { AreDistinct (names.old.keys ++ cell_names (map arc_value cells.now)) }
-    ensures { OnOk result (names.new.keys ≡ names.old.keys ++ cell_names (map arc_value cells.now)) }
+) -> Result<NameList, NoMemory>
+    requires { AreDistinct (flat_map arc_value parts.now ++ cell_names (map arc_value cells.now)) }
+    ensures { IfOk result (λ made. made ≡ flat_map arc_value parts.now ++ cell_names (map arc_value cells.now)) }
 {
-    for cell in cells {
-        names.insert(cell.name.id.copy(alloc)?)?;
+    let mut names = NameList::new(alloc);
+    add_parts(alloc, &mut names, parts)?;
+    names.add_cells(alloc, cells)?;
+    Ok(names)
+}
+
+/// Adds the names of parts behind the last, which differ from each other and from those there.
+fn add_parts(alloc: Global, names: &mut NameList, parts: &[Arc<NameList>]) -> Result<(), NoMemory>
+    requires { AreDistinct (names.old ++ flat_map arc_value parts.now) }
+    ensures { OnOk result (names.new ≡ names.old ++ flat_map arc_value parts.now) }
+{
+    for part in parts {
+        names.add_names(alloc, part.as_slice())?;
     }
     Ok(())
 }
 
-/// Whether one of the names is the same as this one when the case of ASCII letters is ignored.
-pub fn any_same(names: &[Ident], name: &Ident) -> bool
-    ensures { result ≡ list_any (λ other. is_same other name.now) names.now }
+/// These parts, shared, with one more behind the last.
+fn with_part(
+    alloc: Global,
+    parts: &[Arc<NameList>],
+    names: NameList,
+) -> Result<Vec<Arc<NameList>>, NoMemory>
+    ensures { IfOk result (λ made. map arc_value made.items ≡ map arc_value parts.now ++ names ∷ []) }
 {
-    names.iter().any(|other| same(other, name))
+    let mut made = Vec::with_capacity(alloc, parts.len().saturating_add(1))?;
+    for part in parts {
+        made.push(Arc::try_clone(part)?)?;
+    }
+    made.push(Arc::new(alloc, names)?)?;
+    Ok(made)
 }
 
-fn same(a: &Ident, b: &Ident) -> bool
-    ensures { result ≡ is_same a.now b.now }
+/// Whether a name of one of the parts is the same as this one when the case of ASCII letters is ignored.
+fn has_same(parts: &[Arc<NameList>], name: &Ident) -> bool
+    ensures { result ≡ list_any (λ other. is_same other name.now) (flat_map arc_value parts.now) }
 {
-    a.same(b)
+    for part in parts {
+        if part.has_same(name) {
+            return true;
+        }
+    }
+    false
+}
+
+/// The place of a name in the parts, one after another.
+fn place(parts: &[Arc<NameList>], name: &Ident) -> Option<u32>
+    requires { length (flat_map arc_value parts.now) ≤ MOST_CELLS }
+    ensures { result ≡ place_of name.now (flat_map arc_value parts.now) }
+{
+    let mut before = 0;
+    for part in parts {
+        match part.place(name) {
+            Some(at) => return Some(before + at as u32),
+            None => before += part.len() as u32,
+        }
+    }
+    None
 }

@@ -1,12 +1,15 @@
 //! One version of a design: its libraries in shared tables, each with a directory of its cells' names.
 #![tactic(auto)]
 
-pub mod directory;
-pub mod shelf;
-pub mod snapshot;
-pub mod version;
+mod directory;
+mod lower;
+mod names;
+mod shelf;
+mod snapshot;
+mod version;
 
 pub use directory::Directory;
+pub use names::NameList;
 pub use shelf::Shelf;
 pub use snapshot::Snapshot;
 pub use version::{Heads, Version};

@@ -20,7 +20,7 @@ use Rattle.edit_rules_spec.proofs.Edits.{IsNext, cell_at-changed_other, cell_at-
 use Rattle.edit_rules_spec.proofs.Overlaid.{design_by_objects}
 use Rattle.edit_rules_spec.proofs.Same.{names_of_directory}
 use Rattle.edit_cells.specs.State.{State}
-use Rattle.db_work.specs.Becomes.{CanBecome, IsBehind, IsFull, IsFuller, IsNear, IsNearer, Meets, joined, put_together, shell_of}
+use Rattle.db_work.specs.Becomes.{AreNewMet, AreOldOrNew, CanBecome, IsBehind, IsFull, IsFuller, IsNear, IsNearer, Meets, joined, put_together, shell_of}
 use Rattle.db_draft.proofs.Making.{each_distinct, more_cells, prefix_distinct}
 
 -- ---- options and lists
@@ -237,6 +237,10 @@ module _ (work : State) (t m : Design) (behind : IsBehind work t m) (id : CellId
         others = λ o no. meets_after o (behind.others o no);
       };
       full = full_after;
+      cells = λ at. ⊎_elim
+          (λ (same : at ≡ id). inr (subst (λ (c : CellId). cell_at after c ≡ cell_at t c) (sym same) (cell_after ∙ sym there)))
+          (λ (apart : at ≢ id). inl (other_cell_at m id body at next apart))
+          (cases_cell at id);
     }
 
     pub one_more : length (cells_in after id.lib) ≡ id.slot + 1
@@ -254,10 +258,20 @@ next_there work t m behind id within none =
     cc
 
 pub fuller_none : (work : State) (t m : Design) → IsBehind work t m → IsFuller work t m m
-fuller_none work t m behind = record { behind = behind; full = λ lib full. full }
+fuller_none work t m behind = record { behind = behind; full = λ lib full. full; cells = λ id. inl refl }
 
 pub fuller_twice : (work : State) (t d m e : Design) → IsFuller work t d m → IsFuller work t m e → IsFuller work t d e
-fuller_twice work t d m e first second = record { behind = second.behind; full = λ lib full. second.full lib (first.full lib full) }
+fuller_twice work t d m e first second = record {
+  behind = second.behind;
+  full = λ lib full. second.full lib (first.full lib full);
+  cells = λ id. ⊎_elim
+      (λ (still : cell_at e id ≡ cell_at m id). ⊎_elim
+      (λ (old : cell_at m id ≡ cell_at d id). inl (still ∙ old))
+      (λ (new : cell_at m id ≡ cell_at t id). inr (still ∙ new))
+      (first.cells id))
+      (λ (new : cell_at e id ≡ cell_at t id). inr new)
+      (second.cells id);
+}
 
 -- a directory that was written is no shorter in the work
 pub no_longer : (work : State) (t m : Design) → IsBehind work t m → (lib : LibId) → Contains work.written (Directory lib) → length (cells_in m lib) ≤ length (cells_in work.design lib)
@@ -418,6 +432,24 @@ is_near work t m behind written = record {
   full = λ lib. ⊎_elim (λ (is : Contains work.written (Directory lib)). written lib is) (λ (no : ¬ Contains work.written (Directory lib)). behind.rest lib no) (is_listed work.written (Directory lib));
   others = behind.others;
 }
+
+-- ---- cells that were added
+
+-- once all directories are full they are as in the target
+pub new_met : (head t m : Design) → AreOldOrNew t head m → ((lib : LibId) → IsFull t m lib) → AreNewMet head t m
+new_met head t m cells full id past = ⊎_elim
+    (λ (old : cell_at m id ≡ cell_at head id).
+    let none : cell_at m id ≡ None = old ∙ slice_get_past (cells_in head id.lib) id.slot past in
+    let names : option_map (λ (c : CellBody). c.name.id) (cell_at m id) ≡ option_map (λ (c : CellBody). c.name.id) (cell_at t id) =
+    sym (names_at (cells_in m id.lib) id.slot) ∙ ap (λ ns. slice_get ns id.slot) (full id.lib) ∙ names_at (cells_in t id.lib) id.slot in
+    none ∙ sym (no_name (cell_at t id) (ap (option_map (λ (c : CellBody). c.name.id)) (sym none) ∙ names)))
+    (λ (new : cell_at m id ≡ cell_at t id). new)
+    (cells id)
+
+-- and stay so
+pub new_kept : (head t m e : Design) → ((o : Object) → Meets m t o → Meets e t o) → AreNewMet head t m → AreNewMet head t e
+new_kept head t m e kept met id past =
+    cell_by_parts (cell_at e id) (cell_at t id) (kept (Interface id) (ap (option_map shell_of) (met id past))) (kept (Inside id) (ap (option_map inside_of) (met id past)))
 
 -- ---- at the end
 

@@ -1,9 +1,9 @@
 -- Work that is brought to another version.
-use Rattle.std.specs.Prelude.{◌≡◌, Option, None, Contains, option_and_then}
+use Rattle.std.specs.Prelude.{◌≡◌, ◌≤◌, ◌⊎◌, Option, None, Contains, length, option_and_then}
 use Rattle.std.specs.Option.{option_map}
 use Rattle.netlist_schema.specs.Design.{Design, cell_at, cells_in}
 use Rattle.netlist_schema.specs.Names.{cell_names}
-use Rattle.netlist_schema.specs.Types.{CellBody, LibId, Object}
+use Rattle.netlist_schema.specs.Types.{CellBody, CellId, LibId, Object}
 use Rattle.netlist_schema.specs.Valid.{IsValid}
 use Rattle.netlist_schema.specs.declared.ids.Object.TheVariants.{Directory, Interface, Contents as Inside, Notes}
 use Rattle.edit_rules_spec.specs.Objects.{AgreesOn, Grown, IsPrefix, inside_at}
@@ -48,10 +48,19 @@ pub record IsBehind (work : State) (target now : Design) : Type 0 where
   pub rest : (lib : LibId) → ¬ Contains work.written (Directory lib) → IsFull target now lib
   pub others : (o : Object) → ¬ Contains work.written o → Meets now target o
 
+-- each cell is as it was, or as in the target
+abbrev pub AreOldOrNew : Design → Design → Design → Type 0
+AreOldOrNew target old new = (id : CellId) → (cell_at new id ≡ cell_at old id) ⊎ (cell_at new id ≡ cell_at target id)
+
 -- cells were added on the way to the target, and directories that were full still are
 pub record IsFuller (work : State) (target old new : Design) : Type 0 where
   pub behind : IsBehind work target new
   pub full : (lib : LibId) → IsFull target old lib → IsFull target new lib
+  pub cells : AreOldOrNew target old new
+
+-- the cells that come behind those of the head are as in the target
+abbrev pub AreNewMet : Design → Design → Design → Type 0
+AreNewMet head target now = (id : CellId) → length (cells_in head id.lib) ≤ id.slot → cell_at now id ≡ cell_at target id
 
 -- all directories are those of the target, and what was not written is as in it
 pub record IsNear (work : State) (target now : Design) : Type 0 where

@@ -2,7 +2,8 @@
 //! later version.
 #![tactic(auto)]
 
-pub mod merge;
-pub mod work;
+mod merge;
+mod outside;
+mod work;
 
 pub use work::Work;

@@ -1,15 +1,16 @@
 //! Work that is brought to a later version.
-ghost use Rattle.std.specs.Prelude.{◌≡◌, ◌+◌, ◌<◌, IfOk, IsTrue, OnOk, length, option_map, Contains};
+ghost use Rattle.std.specs.Prelude.{◌≡◌, ◌+◌, ◌<◌, ◌≤◌, IfOk, IsTrue, OnOk, length, option_map, Contains};
 ghost use Rattle.std.specs.Arc.{arc_value};
 ghost use Rattle.netlist_schema.specs.Design.{Design, cell_at, cells_in};
 ghost use Rattle.netlist_schema.specs.Types.{LibId as LibId'};
 ghost use Rattle.netlist_schema.specs.declared.ids.Object.TheVariants.{Directory, Interface, Contents as Inside, Notes};
-ghost use Rattle.db_work.specs.Becomes.{CanBecome, IsBehind, IsFull, IsFuller, IsNear, IsNearer, joined, put_together};
+ghost use Rattle.db_work.specs.Becomes.{AreNewMet, AreOldOrNew, CanBecome, IsBehind, IsFull, IsFuller, IsNear, IsNearer, Meets, joined, put_together};
 
+use crate::outside::has_same_outside;
 use crate::work::Work;
 use db_draft::Draft;
 use db_version::{Snapshot, Version};
-use netlist_schema::{CellBody, CellId, Copied, LibId, NoMemory, Object};
+use netlist_schema::{CellBody, CellId, Copied, LibId, NoMemory, Object, Shown};
 use std::alloc::Global;
 use std::sync::Arc;
 
@@ -22,14 +23,14 @@ impl Work {
     {
         let mut moved = Draft::new(alloc, head.share()?)?;
         self.add_all(alloc, &mut moved)?;
-        self.bring_all(alloc, &mut moved)?;
+        self.bring_all(alloc, head, &mut moved)?;
         moved.version(alloc)
     }
 
     /// Adds all cells that the work adds.
     fn add_all(&self, alloc: Global, moved: &mut Draft) -> Result<(), NoMemory>
         requires { (target : Design) × IsBehind self.now target moved.old.design }
-        ensures { OnOk result ((target : Design) → IsBehind self.now target moved.old.design → IsNear self.now target moved.new.design) }
+        ensures { OnOk result ((target : Design) → IsBehind self.now target moved.old.design → IsNear self.now target moved.new.design × AreOldOrNew target moved.old.design moved.new.design) }
     {
         for object in self.written().as_slice() {
             self.add_for(alloc, moved, *object)?;
@@ -79,18 +80,36 @@ impl Work {
     }
 
     /// Brings over all parts of cells that were written, and the notes.
-    fn bring_all(&self, alloc: Global, moved: &mut Draft) -> Result<(), NoMemory>
-        requires { (target : Design) × IsNear self.now target moved.old.design }
-        ensures { OnOk result ((target : Design) → IsNear self.now target moved.old.design → moved.new.design ≡ target) }
+    fn bring_all(&self, alloc: Global, head: &Snapshot, moved: &mut Draft) -> Result<(), NoMemory>
+        requires { (target : Design) × IsNear self.now target moved.old.design × AreNewMet head.now.design target moved.old.design }
+        ensures { OnOk result ((target : Design) → IsNear self.now target moved.old.design → AreNewMet head.now.design target moved.old.design → moved.new.design ≡ target) }
     {
         for object in self.written().as_slice() {
-            self.bring(alloc, moved, *object)?;
+            self.bring(alloc, head, moved, *object)?;
         }
         Ok(())
     }
 
-    /// Brings over a part of a cell, or the notes.
-    fn bring(&self, alloc: Global, moved: &mut Draft, object: Object) -> Result<(), NoMemory>
+    /// Brings over a part of a cell, or the notes. Cells that the work adds are there already, inside and out.
+    fn bring(
+        &self,
+        alloc: Global,
+        head: &Snapshot,
+        moved: &mut Draft,
+        object: Object,
+    ) -> Result<(), NoMemory>
+        requires written { Contains self.now.written object }
+        requires near { (target : Design) × IsNear self.now target moved.old.design × AreNewMet head.now.design target moved.old.design }
+        ensures { OnOk result ((target : Design) → IsNear self.now target moved.old.design → AreNewMet head.now.design target moved.old.design → IsNearer self.now target moved.old.design moved.new.design object) }
+    {
+        if is_part_of_new(head, object) {
+            return Ok(());
+        }
+        self.bring_old(alloc, moved, object)
+    }
+
+    /// Brings over a part of a cell that is there, or the notes.
+    fn bring_old(&self, alloc: Global, moved: &mut Draft, object: Object) -> Result<(), NoMemory>
         requires written { Contains self.now.written object }
         requires near { (target : Design) × IsNear self.now target moved.old.design }
         ensures { OnOk result ((target : Design) → IsNear self.now target moved.old.design → IsNearer self.now target moved.old.design moved.new.design object) }
@@ -138,7 +157,26 @@ impl Work {
     }
 }
 
-/// A cell with the outside that it has in the one and the inside that it has in the other, where both have it.
+/// Whether an object is a part of a cell that comes behind those of a version.
+fn is_part_of_new(head: &Snapshot, object: Object) -> bool
+    ensures { IsTrue result → (target now : Design) → AreNewMet head.now.design target now → Meets now target object }
+{
+    match object {
+        Object::Interface(id) => is_new(head, id),
+        Object::Contents(id) => is_new(head, id),
+        _ => false,
+    }
+}
+
+/// Whether a cell comes behind those of a version.
+fn is_new(head: &Snapshot, id: CellId) -> bool
+    ensures { IsTrue result → length (cells_in head.now.design id.lib) ≤ id.slot }
+{
+    head.cell_count(id.lib) <= id.slot
+}
+
+/// A cell with the outside that it has in the one and the inside that it has in the other, where both have it. Where the two
+/// outsides are the same, it is the other's cell, which is shared.
 fn both(
     alloc: Global,
     outer: &Draft,
@@ -150,10 +188,13 @@ fn both(
     let Some(a) = outer.body(id) else {
         return Ok(None);
     };
-    match inner.body(id) {
-        Some(b) => Ok(Some(Arc::new(alloc, body_of(alloc, a, b)?)?)),
-        None => Ok(None),
+    let Some(b) = inner.body(id) else {
+        return Ok(None);
+    };
+    if has_same_outside(a, b) {
+        return inner.share(alloc, id);
     }
+    Ok(Some(Arc::new(alloc, body_of(alloc, a, b)?)?))
 }
 
 /// A body with the outside of the one and the inside of the other, in memory of its own.

@@ -11,9 +11,10 @@ ghost use Rattle.edit_cells.specs.Parts.{HasLimits, seen_at, shown_by};
 ghost use Rattle.edit_rules_spec.specs.Find.{cell_in, is_same};
 
 use db_draft::Draft;
-use db_version::Snapshot;
-use edit_cells::look::{inside, object_for, seen};
-use edit_cells::{Cells, Change, Face, Marks, contents_object, face_object};
+use db_version::{Snapshot, Version};
+use edit_cells::{
+    Cells, Change, Face, Marks, contents_object, face_object, inside, object_for, seen,
+};
 use netlist_schema::{
     CellBody, CellId, Contents, Ident, LibHead, LibId, NoMemory, Note, Object, Row, Shown,
 };
@@ -72,6 +73,14 @@ impl Work {
         ensures { result.now.design ≡ self.now.design }
     {
         &self.draft
+    }
+
+    /// The version that the work makes of the one that it began with, where nothing else is to be brought in: it takes the cells
+    /// that were written as they are here, without a copy, and shares all others.
+    pub fn version(&self, alloc: Global) -> Result<Version, NoMemory>
+        ensures { IfOk result (λ made. made ≡ self.now.design) }
+    {
+        self.draft.version(alloc)
     }
 
     /// The objects that were read, each once.

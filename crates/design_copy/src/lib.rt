@@ -1,6 +1,6 @@
 //! A design that is shown, in memory of its own.
 #![tactic(auto)]
 
-pub mod copies;
+mod copies;
 
 pub use copies::{copy_of, top_of};

@@ -12,7 +12,7 @@ use Rattle.netlist_schema.specs.Ident.{IsIdentifier, is_identifier_byte}
 use Rattle.netlist_schema.specs.Names.{AreDistinct}
 use Rattle.edit_rules_spec.proofs.Lists.{Apart, distinct_of}
 use Rattle.edit_rules_spec.proofs.Numbers.{digits_pass}
-use Rattle.design_gen.specs.Generated.{numbered}
+use Rattle.gen_spec.specs.Generated.{numbered}
 use Rattle.design_gen.specs.Letters.{are_letters}
 
 -- ---- identifiers

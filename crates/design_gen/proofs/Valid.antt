@@ -15,7 +15,7 @@ use Rattle.netlist_schema.specs.Types.{CellBody, CellId, Contents, End, Inst, Li
 use Rattle.netlist_schema.specs.Valid.{HasBit, IsEndOf, IsValid, IsValidCell}
 use Rattle.netlist_schema.proofs.Cells.{cell_of_inst, ranked_has_no_cycle}
 use Rattle.flat_spec.specs.ExampleParts.{named, own_port, on_port}
-use Rattle.design_gen.specs.Generated.{cell, generated, inverter_at, inverters, left_end, right_end, net_at, numbered, pair, ports, row, row_nets}
+use Rattle.gen_spec.specs.Generated.{cell, generated, inverter_at, inverters, left_end, right_end, net_at, numbered, pair, ports, row, row_nets}
 use Rattle.design_gen.specs.Letters.{are_letters}
 use Rattle.design_gen.proofs.Numbers.{letters_are_identifier, numbered_is_identifier, numbered_injective, all_in_row, apart_in_row, map_in_row, distinct_by, row_is_distinct, passes_by}
 

@@ -1,6 +1,6 @@
 //! Edits of the design.
 ghost use Rattle.std.specs.Prelude.{◌≡◌, ◌≤◌, IfOk};
-ghost use Rattle.design_gen.specs.Generated.{edit_at};
+ghost use Rattle.gen_spec.specs.Generated.{edit_at};
 
 use crate::parts::{letters, name, numbered};
 use edit_spec::{CellName, Op, Target};

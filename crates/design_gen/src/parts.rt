@@ -1,7 +1,7 @@
 //! Parts of the generated design.
 ghost use Rattle.std.specs.Prelude.{◌≡◌, ◌<◌, [], ◌∷◌, IfOk, true};
 ghost use Rattle.flat_spec.specs.ExampleParts.{id_of, named, scalar, inst, net};
-ghost use Rattle.design_gen.specs.Generated.{cell, numbered, ports};
+ghost use Rattle.gen_spec.specs.Generated.{cell, numbered, ports};
 ghost use Rattle.netlist_schema.specs.Ident.{IsIdentifier, is_identifier_byte};
 ghost use Rattle.design_gen.specs.Letters.{are_letters};
 
@@ -13,7 +13,7 @@ use netlist_schema::{
 use std::alloc::Global;
 
 /// The letter and the number in decimal digits.
-pub fn numbered(alloc: Global, letter: u8, number: u32) -> Result<Ident, NoMemory>
+pub(crate) fn numbered(alloc: Global, letter: u8, number: u32) -> Result<Ident, NoMemory>
     requires { is_identifier_byte letter ≡ true }
     ensures { IfOk result (λ id. id ≡ numbered letter number) }
 {
@@ -36,7 +36,7 @@ fn word(alloc: Global, bytes: &[u8]) -> Result<Ident, NoMemory>
 }
 
 /// The identifier of some letters.
-pub fn letters(alloc: Global, bytes: &[u8]) -> Result<Ident, NoMemory>
+pub(crate) fn letters(alloc: Global, bytes: &[u8]) -> Result<Ident, NoMemory>
     requires { are_letters bytes.now ≡ true }
     ensures { IfOk result (λ id. id ≡ bytes.now) }
 {
@@ -44,7 +44,7 @@ pub fn letters(alloc: Global, bytes: &[u8]) -> Result<Ident, NoMemory>
 }
 
 /// A name of some letters.
-pub fn name(alloc: Global, bytes: &[u8]) -> Result<Name, NoMemory>
+pub(crate) fn name(alloc: Global, bytes: &[u8]) -> Result<Name, NoMemory>
     requires { are_letters bytes.now ≡ true }
     ensures { IfOk result (λ name. name ≡ named bytes.now) }
 {
@@ -80,7 +80,11 @@ fn ports(alloc: Global) -> Result<Row<Port>, NoMemory>
 }
 
 /// A cell.
-pub fn cell(alloc: Global, bytes: &[u8], contents: Option<Contents>) -> Result<CellBody, NoMemory>
+pub(crate) fn cell(
+    alloc: Global,
+    bytes: &[u8],
+    contents: Option<Contents>,
+) -> Result<CellBody, NoMemory>
     requires { are_letters bytes.now ≡ true }
     ensures { IfOk result (λ body. body ≡ cell bytes.now contents) }
 {
@@ -100,7 +104,7 @@ pub fn cell(alloc: Global, bytes: &[u8], contents: Option<Contents>) -> Result<C
 }
 
 /// An instance of the cell at slot 0 of a library.
-pub fn inst(alloc: Global, id: Ident, lib: u32) -> Inst
+pub(crate) fn inst(alloc: Global, id: Ident, lib: u32) -> Inst
     ensures { result ≡ inst id (id_of lib 0) [] }
 {
     Inst {
@@ -115,7 +119,7 @@ pub fn inst(alloc: Global, id: Ident, lib: u32) -> Inst
 }
 
 /// A net with two ends.
-pub fn net(alloc: Global, id: Ident, left: End, right: End) -> Result<Net, NoMemory>
+pub(crate) fn net(alloc: Global, id: Ident, left: End, right: End) -> Result<Net, NoMemory>
     ensures { IfOk result (λ made. made ≡ net id (left ∷ right ∷ [])) }
 {
     let mut ends = Vec::new(alloc);

@@ -18,7 +18,7 @@ fn net_of<'a, S: Shown>(design: &'a S, root: CellId, net: &NetAt) -> Option<&'a 
 }
 
 /// The ends that a net joins in its own contents: none where there is no such net below the root.
-pub fn ends_at<'a, S: Shown>(design: &'a S, root: CellId, net: &NetAt) -> &'a [End]
+pub(crate) fn ends_at<'a, S: Shown>(design: &'a S, root: CellId, net: &NetAt) -> &'a [End]
     ensures { result.now ≡ ends_at (S.design design.now) root net.now }
 {
     match net_of(design, root, net) {

@@ -11,7 +11,7 @@ use std::alloc::Global;
 
 /// For each net of the root's tree, listed in order, the place of its representative in the list. The one error is that an
 /// allocation was refused.
-pub fn list_firsts<S: Shown>(
+pub(crate) fn list_firsts<S: Shown>(
     alloc: Global,
     design: &S,
     root: CellId,

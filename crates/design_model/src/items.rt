@@ -159,7 +159,7 @@ fn add_pins<S: Shown>(
 }
 
 /// Adds the items of the occurrence: itself, its nets, and the pins that it shows.
-pub fn add_items<S: Shown>(
+pub(crate) fn add_items<S: Shown>(
     alloc: Global,
     design: &S,
     nets: &TreeNets,

@@ -59,7 +59,7 @@ fn lower_labels<S: Shown>(design: &S, root: CellId, nets: &[NetAt], labels: &mut
 }
 
 /// A label for each net, where nets that meet have one label.
-pub fn label_nets<S: Shown>(
+pub(crate) fn label_nets<S: Shown>(
     alloc: Global,
     design: &S,
     root: CellId,

@@ -2,12 +2,12 @@
 #![tactic(auto)]
 
 mod ends;
-pub mod firsts;
+mod firsts;
 mod items;
 mod labels;
 mod meets;
 mod pins;
-pub mod plain;
+mod plain;
 mod tree_nets;
 mod walk;
 

@@ -8,7 +8,7 @@ use flat_spec::NetAt;
 use netlist_schema::{CellId, End, Shown};
 
 /// Whether the end is among those that are joined.
-pub fn has_end(ends: &[End], end: End) -> bool
+pub(crate) fn has_end(ends: &[End], end: End) -> bool
     ensures { result ≡ has_end ends.now end }
 {
     ends.iter().any(|other| end == *other)
@@ -57,7 +57,12 @@ fn meets<S: Shown>(design: &S, root: CellId, upper: &NetAt, lower: &NetAt) -> bo
 
 /// Whether one of two nets below the root meets the other: the upper one joins a bit of an instance, and the lower one, in the
 /// contents of that instance, joins the same bit as its cell's own.
-pub fn are_neighbours<S: Shown>(design: &S, root: CellId, first: &NetAt, second: &NetAt) -> bool
+pub(crate) fn are_neighbours<S: Shown>(
+    design: &S,
+    root: CellId,
+    first: &NetAt,
+    second: &NetAt,
+) -> bool
     ensures { result ≡ are_neighbours (S.design design.now) root first.now second.now }
 {
     meets(design, root, first, second) || meets(design, root, second, first)

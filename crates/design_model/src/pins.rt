@@ -30,7 +30,7 @@ fn ports_in<'a>(path: &[u32], body: &'a CellBody) -> &'a [Port]
 }
 
 /// The ports whose pins the occurrence shows: those of its cell, where it is the root or a leaf.
-pub fn shown_ports<'a, S: Shown>(design: &'a S, occurrence: &Occurrence) -> &'a [Port]
+pub(crate) fn shown_ports<'a, S: Shown>(design: &'a S, occurrence: &Occurrence) -> &'a [Port]
     ensures bits { bits_from 0 result.now ≡ option_map_or (shown_bits occurrence.now.path) (cell_at (S.design design.now) occurrence.now.cell) [] }
     ensures few { length result.now ≤ MOST_PORTS }
 {
@@ -75,7 +75,7 @@ fn net_joining<S: Shown>(
 
 /// The net that joins a bit of a port of the occurrence at the path: the root's bit in its own contents, that of another in
 /// the contents of its parent.
-pub fn net_at_pin<S: Shown>(
+pub(crate) fn net_at_pin<S: Shown>(
     alloc: Global,
     design: &S,
     root: CellId,

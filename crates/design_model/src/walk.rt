@@ -80,7 +80,7 @@ fn list_below<S: Shown>(
 }
 
 /// The occurrences of the root's tree, in path order.
-pub fn list_occurrences<S: Shown>(
+pub(crate) fn list_occurrences<S: Shown>(
     alloc: Global,
     design: &S,
     root: CellId,
@@ -114,7 +114,7 @@ fn list_own<S: Shown>(
 }
 
 /// The nets of these occurrences, one after the other.
-pub fn list_nets<S: Shown>(
+pub(crate) fn list_nets<S: Shown>(
     alloc: Global,
     design: &S,
     occurrences: &[Occurrence],

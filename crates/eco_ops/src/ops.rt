@@ -4,15 +4,13 @@ ghost use Rattle.edit_spec.specs.Typed.{IsTypedOp};
 ghost use Rattle.eco_reads.specs.Done.{IsDone, IsDoneOrFails};
 ghost use Rattle.eco_ops.specs.Single.{IsSingle};
 
-use cell_ops::add::add_cell;
-use cell_ops::ends::{cut, join};
-use cell_ops::nets::{add_net, drop_net};
-use cell_ops::notes::{drop_note, set_note};
-use cell_ops::props::set_prop;
-use cell_ops::show::{show_cell, show_inst, show_net};
+use crate::ends::{cut, join};
+use crate::insts::{add_inst, drop_inst};
+use eco_plans::{
+    add_cell, add_net, drop_net, drop_note, set_note, set_prop, show_cell, show_inst, show_net,
+};
 use edit_cells::Cells;
 use edit_spec::{Op, Reply, told};
-use inst_ops::insts::{add_inst, drop_inst};
 use netlist_schema::NoMemory;
 use std::alloc::Global;
 

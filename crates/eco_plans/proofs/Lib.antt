@@ -1,4 +1,13 @@
+pub mod AddOps
+pub mod Missing
+pub mod NetOps
 pub mod NetsPlanned
+pub mod NoteOps
 pub mod NotesPlanned
+pub mod Planned
+pub mod PropOps
 pub mod Properties
+pub mod ShowInst
+pub mod ShowNet
+pub mod Showing
 pub mod Twice

@@ -6,7 +6,7 @@ use Rattle.netlist_schema.specs.Types.{CellId, Contents, End, Inst, Object}
 use Rattle.edit_rules_spec.specs.Objects.{face_at, face_object}
 use Rattle.edit_rules_spec.specs.Seen.{ports_seen}
 use Rattle.edit_rules_spec.specs.declared.reply.EndName.{EndName}
-use Rattle.eco_plans.specs.declared.show.EndAt.{EndAt}
+use Rattle.eco_plans.specs.declared.show_plans.EndAt.{EndAt}
 
 -- an end with the name of its instance, where it is at one, and the cell whose port it is at
 pub record EndSeen : Type 0 where

@@ -1,4 +1,4 @@
-//! Nets that are planned, and contents without one.
+//! Operations on nets.
 ghost use Rattle.std.specs.Prelude.{◌≡◌, IfOk, [], ◌∷◌};
 ghost use Rattle.std.specs.Option.{option_copied};
 ghost use Rattle.netlist_schema.specs.Design.{insts_in, nets_in};
@@ -10,77 +10,44 @@ ghost use Rattle.edit_spec.specs.Typed.{IsTypedOp};
 ghost use Rattle.eco_reads.specs.Done.{IsDoneOrFails};
 ghost use Rattle.eco_reads.specs.Plan.{IsPlanned};
 
-use eco_reads::Plan;
-use eco_reads::find::{is_net_taken, net_place};
-use edit_spec::Reply;
-use netlist_schema::limits::MOST_NETS;
-use netlist_schema::{Contents, Copied, Ident, Name, Net, NoMemory, Row};
+use crate::net_plans::{plan_net, without_net};
+use eco_reads::{put_planned, read_named};
+use edit_cells::Cells;
+use edit_spec::{CellName, Op, Reply};
+use netlist_schema::{Ident, NoMemory};
 use std::alloc::Global;
 
-/// A net without ends.
-pub fn new_net(alloc: Global, name: &Ident) -> Result<Net, NoMemory>
-    ensures { IfOk result (λ made. made ≡ new_net name.now) }
+/// Adds a net without ends.
+pub fn add_net<C: Cells>(
+    alloc: Global,
+    cells: &mut C,
+    name: &CellName,
+    net: &Ident,
+) -> Result<Reply, NoMemory>
+    requires { IsTypedOp (Op.AddNet name.now net.now) }
+    ensures { IsDoneOrFails result (C.state cells.old) (C.state cells.new) (Op.AddNet name.now net.now) }
 {
-    Ok(Net {
-        name: Name {
-            id: name.copy(alloc)?,
-            shown: None,
-        },
-        ends: Row::of(Vec::new(alloc)),
-        properties: Row::of(Vec::new(alloc)),
-    })
+    let id = match read_named(cells, name)? {
+        Ok(id) => id,
+        Err(refusal) => return Ok(refusal),
+    };
+    let planned = plan_net(alloc, cells.contents(id)?, net)?;
+    put_planned(alloc, cells, id, planned, None)
 }
 
-/// One more net in these contents, or why there is none.
-#[tactic(auto, using(crate::proofs::NetsPlanned::too_many_nets, crate::proofs::NetsPlanned::net_planned))]
-pub fn plan_net(
+/// Removes a net.
+pub fn drop_net<C: Cells>(
     alloc: Global,
-    contents: Option<&Contents>,
+    cells: &mut C,
+    name: &CellName,
     net: &Ident,
-) -> Result<Result<Plan, Reply>, NoMemory>
-    ensures { let old = option_copied contents.entry in
-        IfOk result (IsPlanned old (first (no_new_net old net.now)) (record { insts = insts_in old; nets = with_net net.now (nets_in old) })) }
+) -> Result<Reply, NoMemory>
+    ensures { IsDoneOrFails result (C.state cells.old) (C.state cells.new) (Op.DropNet name.now net.now) }
 {
-    let Some(contents) = contents else {
-        return Ok(Err(Reply::IsLeaf));
+    let id = match read_named(cells, name)? {
+        Ok(id) => id,
+        Err(refusal) => return Ok(refusal),
     };
-    if is_net_taken(&contents.nets, net) {
-        return Ok(Err(Reply::Taken));
-    }
-    let place = contents.nets.as_slice().len();
-    if place >= MOST_NETS {
-        return Ok(Err(Reply::TooMany {
-            limit: MOST_NETS as u64,
-        }));
-    }
-    let net = new_net(alloc, net)?;
-    Ok(Ok(Plan::Net {
-        place: place as u32,
-        net,
-    }))
-}
-
-/// The contents without a net, or why there are none.
-#[tactic(auto, using(crate::proofs::NetsPlanned::no_net_found, crate::proofs::NetsPlanned::net_found))]
-pub fn without_net(
-    alloc: Global,
-    contents: Option<&Contents>,
-    net: &Ident,
-) -> Result<Result<Plan, Reply>, NoMemory>
-    ensures { let old = option_copied contents.entry in
-        IfOk result (IsPlanned old (first (no_net old net.now ∷ [])) (record { insts = insts_in old; nets = without_net net.now (nets_in old) })) }
-{
-    let Some(contents) = contents else {
-        return Ok(Err(Reply::NoNet));
-    };
-    let Some(place) = net_place(&contents.nets, net) else {
-        return Ok(Err(Reply::NoNet));
-    };
-    let mut nets = contents.nets.copy(alloc)?.into_vec();
-    let _gone = nets.remove(place);
-    let insts = contents.insts.copy(alloc)?;
-    Ok(Ok(Plan::Whole(Contents {
-        insts,
-        nets: Row::of(nets),
-    })))
+    let planned = without_net(alloc, cells.contents(id)?, net)?;
+    put_planned(alloc, cells, id, planned, None)
 }

@@ -1,4 +1,4 @@
-//! Notes that are planned.
+//! Operations on notes.
 ghost use Rattle.std.specs.Prelude.{◌≡◌, ◌<◌, ◌&&◌, IfOk, IfSome, length, nat_eq, position};
 ghost use Rattle.std.specs.Cmp.Lexicographic.{pointwise};
 ghost use Rattle.edit_rules_spec.specs.Find.{is_name};
@@ -9,93 +9,43 @@ ghost use Rattle.eco_reads.specs.Done.{IsDoneOrFails};
 ghost use Rattle.eco_reads.specs.Plan.{AreNotesPlanned};
 ghost use Rattle.eco_plans.specs.Notes.{no_note_dropped, no_note_set, note_dropped, note_set};
 
-use edit_spec::Reply;
-use netlist_schema::limits::MOST_NOTES;
-use netlist_schema::{Copied, Ident, NoMemory, Note, Property, Row};
+use crate::note_plans::{with_note, without_note};
+use eco_reads::{leads, put_notes};
+use edit_cells::Cells;
+use edit_spec::{Op, Reply};
+use netlist_schema::{Ident, NoMemory, Property, Row};
 use std::alloc::Global;
 
-/// Whether two paths are equal.
-pub fn is_same_path(a: &Row<Ident>, b: &Row<Ident>) -> bool
-    ensures { result ≡ pointwise (pointwise nat_eq) a.now b.now }
-{
-    *a == *b
-}
-
-/// Whether a note has this path and key.
-pub fn is_note(note: &Note, path: &Row<Ident>, key: &Ident) -> bool
-    ensures { result ≡ (pointwise (pointwise nat_eq) note.now.path path.now && is_name note.now.property.key.id key.now) }
-{
-    is_same_path(&note.path, path) && note.property.key.id == *key
-}
-
-/// The place of the note of this path and key.
-pub fn note_place(notes: &Row<Note>, path: &Row<Ident>, key: &Ident) -> Option<usize>
-    ensures value { result ≡ note_place path.now key.now notes.now }
-    ensures within { IfSome result (λ place. place < length notes.now) }
-{
-    note_position(notes, path, key)
-}
-
-pub fn note_position(notes: &Row<Note>, path: &Row<Ident>, key: &Ident) -> Option<usize>
-    ensures { result ≡ position (λ note. pointwise (pointwise nat_eq) note.path path.now && is_name note.property.key.id key.now) notes.now }
-{
-    notes
-        .as_slice()
-        .iter()
-        .position(|note| is_note(note, path, key))
-}
-
-/// The notes with one set, in place of that of equal path and key, else at the end; or why there are none.
-#[tactic(auto, using(crate::proofs::NotesPlanned::no_path, crate::proofs::NotesPlanned::full_notes, crate::proofs::NotesPlanned::replaced_note, crate::proofs::NotesPlanned::added_note))]
-pub fn with_note(
+/// Sets a note.
+pub fn set_note<C: Cells>(
     alloc: Global,
-    notes: &Row<Note>,
+    cells: &mut C,
     path: &Row<Ident>,
     property: &Property,
-    leads: bool,
-) -> Result<Result<Row<Note>, Reply>, NoMemory>
-    ensures { IfOk result (AreNotesPlanned (first (no_note_set leads notes.now path.now property.now)) (note_set notes.now path.now property.now)) }
+) -> Result<Reply, NoMemory>
+    requires { IsTypedOp (Op.SetNote path.now property.now) }
+    ensures { IsDoneOrFails result (C.state cells.old) (C.state cells.new) (Op.SetNote path.now property.now) }
 {
-    if path.as_slice().is_empty() || !leads {
-        return Ok(Err(Reply::NoPath));
-    }
-    let note = Note {
-        path: path.copy(alloc)?,
-        property: property.copy(alloc)?,
+    let Some(top) = cells.top_cell() else {
+        return Ok(Reply::NoTop);
     };
-    match note_place(notes, path, &property.key.id) {
-        Some(place) => {
-            let mut made = notes.copy(alloc)?;
-            made.set(place, note);
-            Ok(Ok(made))
-        }
-        None => {
-            if notes.as_slice().len() >= MOST_NOTES {
-                return Ok(Err(Reply::TooMany {
-                    limit: MOST_NOTES as u64,
-                }));
-            }
-            let mut made = notes.copy(alloc)?;
-            made.push(note)?;
-            Ok(Ok(made))
-        }
-    }
+    let leads = leads(cells, top, path)?;
+    let planned = with_note(alloc, cells.notes()?, path, property, leads)?;
+    put_notes(alloc, cells, planned)
 }
 
-/// The notes without that of a path and a key; or why there are none.
-#[tactic(auto, using(crate::proofs::NotesPlanned::no_such_note, crate::proofs::NotesPlanned::dropped_note))]
-pub fn without_note(
+/// Removes a note.
+pub fn drop_note<C: Cells>(
     alloc: Global,
-    notes: &Row<Note>,
+    cells: &mut C,
     path: &Row<Ident>,
     key: &Ident,
-) -> Result<Result<Row<Note>, Reply>, NoMemory>
-    ensures { IfOk result (AreNotesPlanned (first (no_note_dropped notes.now path.now key.now)) (note_dropped notes.now path.now key.now)) }
+) -> Result<Reply, NoMemory>
+    ensures { IsDoneOrFails result (C.state cells.old) (C.state cells.new) (Op.DropNote path.now key.now) }
 {
-    let Some(place) = note_place(notes, path, key) else {
-        return Ok(Err(Reply::NoNote));
+    let Some(_top) = cells.top_cell() else {
+        return Ok(Reply::NoTop);
     };
-    let mut made = notes.copy(alloc)?.into_vec();
-    let _gone = made.remove(place);
-    Ok(Ok(Row::of(made)))
+    let planned = without_note(alloc, cells.notes()?, path, key)?;
+    put_notes(alloc, cells, planned)
 }

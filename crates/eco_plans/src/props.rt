@@ -1,4 +1,4 @@
-//! Properties that are planned.
+//! Setting properties.
 ghost use Rattle.std.specs.Prelude.{◌≡◌, [], ◌∷◌, IfOk, IfSome};
 ghost use Rattle.std.specs.Option.{option_copied, option_map_or};
 ghost use Rattle.edit_rules_spec.specs.Rule.{first, no_inst};
@@ -10,112 +10,88 @@ ghost use Rattle.eco_reads.specs.Done.{IsDoneOrFails};
 ghost use Rattle.eco_reads.specs.Plan.{IsPlanned};
 ghost use Rattle.eco_plans.specs.Props.{insts_set, nets_set};
 
-use eco_reads::Plan;
-use eco_reads::find::{inst_place, net_place, property_place};
-use edit_cells::Face;
-use edit_spec::Reply;
-use netlist_schema::{Contents, Copied, Ident, Inst, Net, NoMemory, Property, Row};
+use crate::property_plans::{plan_inst_property, plan_net_property, with_own_property};
+use eco_reads::{put_planned, read_named, write_one};
+use edit_cells::{CellChange, Cells};
+use edit_spec::{CellName, Op, Reply, Target};
+use netlist_schema::{Ident, NoMemory, Property};
 use std::alloc::Global;
 
-/// The properties with one set: in place of that of equal key, else at the end.
-pub fn with_property(
+/// Sets a property of a cell.
+fn set_own<C: Cells>(
     alloc: Global,
-    properties: &Row<Property>,
+    cells: &mut C,
+    name: &CellName,
     property: &Property,
-) -> Result<Row<Property>, NoMemory>
-    ensures { IfOk result (λ made. made ≡ set_property property.now properties.now) }
+) -> Result<Reply, NoMemory>
+    requires { IsTypedOp (Op.SetProp name.now Target.Whole property.now) }
+    ensures { IsDoneOrFails result (C.state cells.old) (C.state cells.new) (Op.SetProp name.now Target.Whole property.now) }
 {
-    let mut made = properties.copy(alloc)?;
-    match property_place(properties, &property.key.id) {
-        Some(place) => made.set(place, property.copy(alloc)?),
-        None => made.push(property.copy(alloc)?)?,
-    }
-    Ok(made)
+    let id = match read_named(cells, name)? {
+        Ok(id) => id,
+        Err(refusal) => return Ok(refusal),
+    };
+    let made = with_own_property(alloc, cells.face(id)?, property)?;
+    let change = CellChange::Face {
+        id,
+        properties: made,
+    };
+    write_one(alloc, cells, change, None)?;
+    Ok(Reply::Done)
 }
 
-/// An instance with a property set.
-pub fn inst_with(alloc: Global, inst: &Inst, property: &Property) -> Result<Inst, NoMemory>
-    ensures { IfOk result (λ made. made ≡ record inst.now { properties = set_property property.now inst.now.properties }) }
-{
-    Ok(Inst {
-        name: inst.name.copy(alloc)?,
-        of: inst.of,
-        designator: inst.designator.copy(alloc)?,
-        properties: with_property(alloc, &inst.properties, property)?,
-    })
-}
-
-/// A net with a property set.
-pub fn net_with(alloc: Global, net: &Net, property: &Property) -> Result<Net, NoMemory>
-    ensures { IfOk result (λ made. made ≡ record net.now { properties = set_property property.now net.now.properties }) }
-{
-    Ok(Net {
-        name: net.name.copy(alloc)?,
-        ends: net.ends.copy(alloc)?,
-        properties: with_property(alloc, &net.properties, property)?,
-    })
-}
-
-/// An instance of these contents with a property set, or why there is none.
-#[tactic(auto, using(crate::proofs::Properties::no_inst_found, crate::proofs::Properties::inst_planned))]
-pub fn plan_inst_property(
+/// Sets a property of an instance.
+fn set_of_inst<C: Cells>(
     alloc: Global,
-    contents: Option<&Contents>,
+    cells: &mut C,
+    name: &CellName,
     inst: &Ident,
     property: &Property,
-) -> Result<Result<Plan, Reply>, NoMemory>
-    requires { IfSome contents (λ inside. HasLimits inside.now) }
-    ensures { let old = option_copied contents.entry in
-        IfOk result (IsPlanned old (first (no_inst old inst.now ∷ [])) (insts_set inst.now property.now old)) }
+) -> Result<Reply, NoMemory>
+    requires { IsTypedOp (Op.SetProp name.now (Target.Inst inst.now) property.now) }
+    ensures { IsDoneOrFails result (C.state cells.old) (C.state cells.new) (Op.SetProp name.now (Target.Inst inst.now) property.now) }
 {
-    let Some(contents) = contents else {
-        return Ok(Err(Reply::NoInst));
+    let id = match read_named(cells, name)? {
+        Ok(id) => id,
+        Err(refusal) => return Ok(refusal),
     };
-    let Some(place) = inst_place(&contents.insts, inst) else {
-        return Ok(Err(Reply::NoInst));
-    };
-    let inst = inst_with(alloc, &contents.insts.as_slice()[place], property)?;
-    Ok(Ok(Plan::Inst {
-        place: place as u32,
-        inst,
-    }))
+    let planned = plan_inst_property(alloc, cells.contents(id)?, inst, property)?;
+    put_planned(alloc, cells, id, planned, None)
 }
 
-/// A net of these contents with a property set, or why there is none.
-#[tactic(auto, using(crate::proofs::NetsPlanned::no_net_found, crate::proofs::Properties::net_planned))]
-pub fn plan_net_property(
+/// Sets a property of a net.
+fn set_of_net<C: Cells>(
     alloc: Global,
-    contents: Option<&Contents>,
+    cells: &mut C,
+    name: &CellName,
     net: &Ident,
     property: &Property,
-) -> Result<Result<Plan, Reply>, NoMemory>
-    requires { IfSome contents (λ inside. HasLimits inside.now) }
-    ensures { let old = option_copied contents.entry in
-        IfOk result (IsPlanned old (first (no_net old net.now ∷ [])) (nets_set net.now property.now old)) }
+) -> Result<Reply, NoMemory>
+    requires { IsTypedOp (Op.SetProp name.now (Target.Net net.now) property.now) }
+    ensures { IsDoneOrFails result (C.state cells.old) (C.state cells.new) (Op.SetProp name.now (Target.Net net.now) property.now) }
 {
-    let Some(contents) = contents else {
-        return Ok(Err(Reply::NoNet));
+    let id = match read_named(cells, name)? {
+        Ok(id) => id,
+        Err(refusal) => return Ok(refusal),
     };
-    let Some(place) = net_place(&contents.nets, net) else {
-        return Ok(Err(Reply::NoNet));
-    };
-    let net = net_with(alloc, &contents.nets.as_slice()[place], property)?;
-    Ok(Ok(Plan::Net {
-        place: place as u32,
-        net,
-    }))
+    let planned = plan_net_property(alloc, cells.contents(id)?, net, property)?;
+    put_planned(alloc, cells, id, planned, None)
 }
 
-/// The properties of a cell with one set.
-pub fn with_own_property(
+/// Sets a property of a cell, or of one of its instances or nets.
+pub fn set_prop<C: Cells>(
     alloc: Global,
-    face: Option<Face<'_>>,
+    cells: &mut C,
+    name: &CellName,
+    target: &Target,
     property: &Property,
-) -> Result<Row<Property>, NoMemory>
-    ensures { IfOk result (λ made. made ≡ set_property property.now (option_map_or (λ seen. seen.properties.now) face.entry [])) }
+) -> Result<Reply, NoMemory>
+    requires { IsTypedOp (Op.SetProp name.now target.now property.now) }
+    ensures { IsDoneOrFails result (C.state cells.old) (C.state cells.new) (Op.SetProp name.now target.now property.now) }
 {
-    match face {
-        Some(seen) => with_property(alloc, seen.properties, property),
-        None => with_property(alloc, &Row::of(Vec::new(alloc)), property),
+    match target {
+        Target::Whole => set_own(alloc, cells, name, property),
+        Target::Inst(inst) => set_of_inst(alloc, cells, name, inst, property),
+        Target::Net(net) => set_of_net(alloc, cells, name, net, property),
     }
 }

@@ -1,9 +1,8 @@
-//! What is shown.
+//! Operations that show.
 ghost use Rattle.std.specs.Prelude.{◌≡◌, ◌≤◌, ◌++◌, [], ◌∷◌, IfOk, IfSome, MatchOption, MatchResult, OnOk, None, Some, is_none, length, map, option_and_then, option_map, option_to_list, slice_get};
 ghost use Rattle.std.specs.List.{flat_map};
 ghost use Rattle.std.specs.Option.{option_copied, option_map_or};
 ghost use Rattle.netlist_schema.specs.Design.{insts_in, nets_in};
-ghost use Rattle.netlist_schema.specs.declared.limits.TheConstants.{MOST_PORTS};
 ghost use Rattle.edit_rules_spec.specs.Find.{inst_named};
 ghost use Rattle.edit_rules_spec.specs.Objects.{cell_name_at};
 ghost use Rattle.edit_rules_spec.specs.Rule.{first};
@@ -15,187 +14,133 @@ ghost use Rattle.edit_cells.specs.State.{HasRead, HasReadSome};
 ghost use Rattle.eco_reads.specs.Done.{IsDoneOrFails};
 ghost use Rattle.eco_plans.specs.Shown.{AreFacesOf, end_seen, ends_seen, seen_end, seen_name};
 
-use eco_reads::find::{inst_place, net_place};
-use edit_cells::Face;
-use edit_spec::Reply;
-use netlist_schema::{CellId, Contents, Copied, End, Ident, LibHead, NoMemory, Property, Row};
+use crate::show_plans::{
+    EndAt, cell_name, ends_of, inst_of, lib_name, port_count, port_name, shown,
+};
+use eco_reads::read_named;
+use edit_cells::Cells;
+use edit_spec::{CellName, EndName, Op, Reply};
+use netlist_schema::{CellId, Copied, Ident, NoMemory, Row};
 use std::alloc::Global;
 
-/// The number of ports of a cell, 0 where there is no cell.
-pub fn port_count(face: Option<Face<'_>>) -> u32
-    requires { IfSome face (λ seen. length seen.ports.now ≤ MOST_PORTS) }
-    ensures { result ≡ option_map_or (λ seen. length seen.ports.now) face.entry 0 }
+/// Counts the ports, instances and nets of a cell.
+pub fn show_cell<C: Cells>(cells: &mut C, name: &CellName) -> Result<Reply, NoMemory>
+    ensures { IsDoneOrFails result (C.state cells.old) (C.state cells.new) (Op.ShowCell name.now) }
 {
-    match face {
-        Some(seen) => seen.ports.as_slice().len() as u32,
-        None => 0,
-    }
-}
-
-/// The reply that shows a cell with this number of ports.
-pub fn shown(ports: u32, contents: Option<&Contents>) -> Reply
-    requires { IfSome contents (λ inside. HasLimits inside.now) }
-    ensures { result ≡ Reply.Cell ports (length (insts_in (option_copied contents.entry))) (length (nets_in (option_copied contents.entry))) (is_none (option_copied contents.entry)) }
-{
-    match contents {
-        Some(inside) => Reply::Cell {
-            ports,
-            insts: inside.insts.as_slice().len() as u32,
-            nets: inside.nets.as_slice().len() as u32,
-            leaf: false,
-        },
-        None => Reply::Cell {
-            ports,
-            insts: 0,
-            nets: 0,
-            leaf: true,
-        },
-    }
-}
-
-/// An end of a net with the name of its instance, where it is at one, and the cell whose port it is at.
-#[derive(Drop)]
-pub struct EndAt {
-    pub port: u32,
-    pub bit: u32,
-    pub inst: Option<Ident>,
-    pub of: CellId,
-}
-
-/// An end of a net of these contents, where its instance is there.
-pub fn end_at(
-    alloc: Global,
-    contents: &Contents,
-    id: CellId,
-    end: &End,
-) -> Result<Option<EndAt>, NoMemory>
-    ensures { IfOk result (λ found. option_map seen_end found ≡ end_seen (Some contents.now) id end.now end.now.inst) }
-{
-    let Some(place) = end.inst else {
-        return Ok(Some(EndAt {
-            port: end.port,
-            bit: end.bit,
-            inst: None,
-            of: id,
-        }));
+    let id = match read_named(cells, name)? {
+        Ok(id) => id,
+        Err(refusal) => return Ok(refusal),
     };
-    match contents.insts.as_slice().get(place as usize) {
-        Some(inst) => Ok(Some(EndAt {
-            port: end.port,
-            bit: end.bit,
-            inst: Some(inst.name.id.copy(alloc)?),
-            of: inst.of,
-        })),
-        None => Ok(None),
-    }
+    let ports = port_count(cells.face(id)?);
+    Ok(shown(ports, cells.contents(id)?))
 }
 
-/// Puts an end on the list, where its instance is there.
-pub fn push_end(
+/// Puts the name of an end on the list, where its port is there.
+fn name_end<C: Cells>(
     alloc: Global,
-    contents: &Contents,
-    id: CellId,
-    end: &End,
-    ends: &mut Vec<EndAt>,
+    cells: &mut C,
+    at: &EndAt,
+    shown: &mut Vec<EndName>,
 ) -> Result<(), NoMemory>
-    ensures { OnOk result (map seen_end ends.new.items ≡ map seen_end ends.old.items ++ option_to_list (end_seen (Some contents.now) id end.now end.now.inst)) }
+    ensures named { OnOk result (shown.new.items ≡ shown.old.items ++ option_to_list (seen_name (C.state cells.old).design (seen_end at.now))) }
+    ensures reads { MatchResult result (λ _. HasRead (C.state cells.old) (C.state cells.new) (IsFace at.now.of)) (λ _. HasReadSome (C.state cells.old) (C.state cells.new)) }
 {
-    match end_at(alloc, contents, id, end)? {
-        Some(at) => {
-            ends.push(at)?;
-            Ok(())
-        }
-        None => Ok(()),
-    }
+    let Some(port) = port_name(alloc, cells.face(at.of)?, at.port)? else {
+        return Ok(());
+    };
+    shown.push(EndName {
+        inst: at.inst.copy(alloc)?,
+        port,
+        bit: at.bit,
+    })?;
+    Ok(())
 }
 
-/// These ends of nets of the contents.
-pub fn ends_at(
+/// The names of ends.
+fn name_ends<C: Cells>(
     alloc: Global,
-    contents: &Contents,
-    id: CellId,
-    ends: &Row<End>,
-) -> Result<Vec<EndAt>, NoMemory>
-    ensures { IfOk result (λ made. map seen_end made.items ≡ ends_seen (Some contents.now) id ends.now) }
+    cells: &mut C,
+    ends: &[EndAt],
+) -> Result<Vec<EndName>, NoMemory>
+    ensures named { IfOk result (λ made. made.items ≡ flat_map (λ seen. option_to_list (seen_name (C.state cells.old).design seen)) (map seen_end ends.now)) }
+    ensures reads { MatchResult result (λ _. HasRead (C.state cells.old) (C.state cells.new) (AreFacesOf (map seen_end ends.now))) (λ _. HasReadSome (C.state cells.old) (C.state cells.new)) }
 {
-    let mut made = Vec::new(alloc);
-    for end in ends.as_slice() {
-        push_end(alloc, contents, id, end, &mut made)?;
+    let mut shown = Vec::new(alloc);
+    for at in ends {
+        let Ok(()) = name_end(alloc, cells, at, &mut shown) else {
+            return Err(NoMemory);
+        };
     }
-    Ok(made)
+    Ok(shown)
 }
 
-/// The ends of a net of the contents; none where there is no such net.
-pub fn ends_of(
+/// Gives the ends of a net by name.
+pub fn show_net<C: Cells>(
     alloc: Global,
-    contents: Option<&Contents>,
-    id: CellId,
+    cells: &mut C,
+    name: &CellName,
     net: &Ident,
-) -> Result<Option<Vec<EndAt>>, NoMemory>
-    ensures { let old = option_copied contents.entry in
-        IfOk result (λ found. MatchOption found (first (no_net old net.now ∷ []) ≡ Some NoNet) (λ ends. (first (no_net old net.now ∷ []) ≡ None) × (map seen_end ends.items ≡ ends_seen old id (ends_of_net old net.now)))) }
+) -> Result<Reply, NoMemory>
+    ensures { IsDoneOrFails result (C.state cells.old) (C.state cells.new) (Op.ShowNet name.now net.now) }
 {
-    let Some(contents) = contents else {
-        return Ok(None);
+    let id = match read_named(cells, name)? {
+        Ok(id) => id,
+        Err(refusal) => return Ok(refusal),
     };
-    let Some(place) = net_place(&contents.nets, net) else {
-        return Ok(None);
+    let Some(ends) = ends_of(alloc, cells.contents(id)?, id, net)? else {
+        return Ok(Reply::NoNet);
     };
-    let ends = ends_at(alloc, contents, id, &contents.nets.as_slice()[place].ends)?;
-    Ok(Some(ends))
+    let shown = name_ends(alloc, cells, ends.as_slice())?;
+    Ok(Reply::Net {
+        ends: Row::of(shown),
+    })
 }
 
-/// The name of a port of a cell.
-pub fn port_name(
-    alloc: Global,
-    face: Option<Face<'_>>,
-    port: u32,
-) -> Result<Option<Ident>, NoMemory>
-    ensures { IfOk result (λ found. found ≡ option_map (λ p. p.name.id) (option_and_then (λ ports. slice_get ports port) (option_map (λ seen. seen.ports.now) face.entry))) }
+/// The name of a cell in its library. It never changes, so the look at the cell is no read.
+fn own_name<C: Cells>(alloc: Global, cells: &mut C, id: CellId) -> Result<Option<Ident>, NoMemory>
+    ensures found { IfOk result (λ found. found ≡ option_map (λ seen. seen.name.id) (seen_at (C.state cells.old).design id)) }
+    ensures reads { MatchResult result (λ _. C.state cells.new ≡ C.state cells.old) (λ _. HasReadSome (C.state cells.old) (C.state cells.new)) }
 {
-    let Some(seen) = face else {
-        return Ok(None);
-    };
-    match seen.ports.as_slice().get(port as usize) {
-        Some(port) => Ok(Some(port.name.id.copy(alloc)?)),
-        None => Ok(None),
-    }
+    let mark = cells.mark();
+    let found = cell_name(alloc, cells.face(id)?)?;
+    cells.back(mark);
+    Ok(found)
 }
 
-/// The cell of an instance, and its properties; none where there is no such instance.
-pub fn inst_of(
+/// The name of a cell, with that of its library. Nothing is read.
+fn name_of<C: Cells>(alloc: Global, cells: &mut C, id: CellId) -> Result<Option<CellName>, NoMemory>
+    ensures found { IfOk result (λ found. found ≡ cell_name_at (C.state cells.old).design id) }
+    ensures reads { MatchResult result (λ _. C.state cells.new ≡ C.state cells.old) (λ _. HasReadSome (C.state cells.old) (C.state cells.new)) }
+{
+    let cell = own_name(alloc, cells, id)?;
+    let lib = lib_name(alloc, cells.lib_head(id.lib))?;
+    let Some(cell) = cell else {
+        return Ok(None);
+    };
+    let Some(lib) = lib else {
+        return Ok(None);
+    };
+    Ok(Some(CellName { lib, cell }))
+}
+
+/// Gives an instance's cell and its own properties.
+pub fn show_inst<C: Cells>(
     alloc: Global,
-    contents: Option<&Contents>,
+    cells: &mut C,
+    name: &CellName,
     inst: &Ident,
-) -> Result<Option<(CellId, Row<Property>)>, NoMemory>
-    ensures { IfOk result (λ found. found ≡ option_map (λ i. (i.of, i.properties)) (inst_named inst.now (insts_in (option_copied contents.entry)))) }
+) -> Result<Reply, NoMemory>
+    ensures { IsDoneOrFails result (C.state cells.old) (C.state cells.new) (Op.ShowInst name.now inst.now) }
 {
-    let Some(contents) = contents else {
-        return Ok(None);
+    let id = match read_named(cells, name)? {
+        Ok(id) => id,
+        Err(refusal) => return Ok(refusal),
     };
-    let Some(place) = inst_place(&contents.insts, inst) else {
-        return Ok(None);
+    let Some((of, properties)) = inst_of(alloc, cells.contents(id)?, inst)? else {
+        return Ok(Reply::NoInst);
     };
-    let inst = &contents.insts.as_slice()[place];
-    Ok(Some((inst.of, inst.properties.copy(alloc)?)))
-}
-
-/// The name of a cell.
-pub fn cell_name(alloc: Global, face: Option<Face<'_>>) -> Result<Option<Ident>, NoMemory>
-    ensures { IfOk result (λ found. found ≡ option_map (λ seen. seen.name.now.id) face.entry) }
-{
-    match face {
-        Some(seen) => Ok(Some(seen.name.id.copy(alloc)?)),
-        None => Ok(None),
-    }
-}
-
-/// The name of a library.
-pub fn lib_name(alloc: Global, head: Option<&LibHead>) -> Result<Option<Ident>, NoMemory>
-    ensures { IfOk result (λ found. found ≡ option_map (λ h. h.name.id) (option_copied head.entry)) }
-{
-    match head {
-        Some(head) => Ok(Some(head.name.id.copy(alloc)?)),
-        None => Ok(None),
+    match name_of(alloc, cells, of)? {
+        Some(of) => Ok(Reply::Inst { of, properties }),
+        None => Ok(Reply::NoInst),
     }
 }

@@ -1,13 +1,20 @@
 //! What the single operations read, by names and along paths, and how they write.
 #![tactic(auto)]
 
-pub mod find;
-pub mod named;
-pub mod places;
-pub mod plan;
-pub mod read;
-pub mod walk;
-pub mod write;
+mod find;
+mod named;
+mod places;
+mod plan;
+mod read;
+mod walk;
+mod write;
 
+pub use find::{
+    inst_place, is_inst_taken, is_net_taken, is_same, net_place, port_place, property_place,
+};
 pub use named::NamedInsts;
+pub use places::places_by_name;
 pub use plan::Plan;
+pub use read::read_named;
+pub use walk::{add_inside, goes_through, leads, reaches};
+pub use write::{put_notes, put_planned, write_one};

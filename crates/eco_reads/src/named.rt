@@ -10,6 +10,7 @@ ghost use Rattle.edit_cells.specs.Parts.{HasLimits, IsInside};
 ghost use Rattle.edit_cells.specs.State.{HasRead, HasReadSome};
 ghost use Rattle.eco_reads.specs.Named.{AreNamed};
 
+use crate::find::inst_place;
 use crate::places::places_by_name;
 use edit_cells::Cells;
 use indexmap::IndexMap;
@@ -17,14 +18,20 @@ use netlist_schema::{CellId, Contents, Ident, Inst, NoMemory, Row, Shared};
 use std::alloc::Global;
 use std::collections::BTreeMap;
 
-/// The places of the instances of cells by their names, of each cell that was asked for.
+/// How many questions are answered by going over the instances of a cell, before places are kept.
+const FEW: u32 = 16;
+
+/// The places of the instances of cells by their names, of each cell that was asked for. The first few questions are answered without
+/// them: to go over a cell's instances once costs less than to keep a place for each.
 pub struct NamedInsts {
     cells: BTreeMap<CellId, IndexMap<Ident, u32>>,
+    /// The number of questions that were answered so.
+    asked: u32,
 }
 
 impl Drop for NamedInsts {
     fn drop(self) {
-        let NamedInsts { cells: _ } = self;
+        let NamedInsts { cells: _, asked: _ } = self;
     }
 }
 
@@ -37,6 +44,14 @@ fn cell_at_place(insts: &Row<Shared<Inst>>, place: Option<u32>) -> Option<CellId
     Some(inst.of)
 }
 
+/// The cell of the first instance with this name.
+fn cell_named(insts: &Row<Shared<Inst>>, name: &Ident) -> Option<CellId>
+    ensures { result ≡ option_map (λ inst. inst.of) (inst_named name.now insts.now) }
+{
+    let place = inst_place(insts, name)?;
+    Some(insts.as_slice()[place].of)
+}
+
 impl NamedInsts {
     /// No cell was asked for. Takes no memory.
     pub fn new(alloc: Global) -> NamedInsts
@@ -44,10 +59,12 @@ impl NamedInsts {
     {
         NamedInsts {
             cells: BTreeMap::new(alloc),
+            asked: 0,
         }
     }
 
-    /// The cell of the instance of a cell with this name. The first question about a cell goes over its instances once.
+    /// The cell of the instance of a cell with this name. The first questions go over the instances of the cell, and so does the first
+    /// later one about each cell.
     fn find(
         &mut self,
         alloc: Global,
@@ -61,6 +78,10 @@ impl NamedInsts {
     {
         if let Some(places) = self.cells.get(&cell) {
             return Ok(cell_at_place(insts, places.get(name).copied()));
+        }
+        if self.asked < FEW {
+            self.asked += 1;
+            return Ok(cell_named(insts, name));
         }
         let places = places_by_name(alloc, insts.as_slice())?;
         let place = places.get(name).copied();

@@ -16,14 +16,12 @@ ghost use Rattle.edif_parts.specs.Names.{ids};
 ghost use Rattle.edif_parts.specs.Reading.{Answers};
 
 use crate::headings::{Heading, read_heading};
-use edif_contents::contents::{Inside, read_contents};
-use edif_contents::known::{KnownCell, Libraries};
-use edif_contents::references::reference_at;
+use edif_contents::{Inside, KnownCell, Libraries, read_contents, reference_at};
 use edif_grammar::is_form_of;
-use edif_parts::error::{EdifError, bad_form, clash, fault_at};
-use edif_parts::interface::{Interface, read_interface};
-use edif_parts::names::{NameAt, Names};
-use edif_parts::parts::{is_word, read_parts};
+use edif_parts::{
+    EdifError, Interface, NameAt, Names, bad_form, clash, fault_at, is_word, read_interface,
+    read_parts,
+};
 use edif_spec::{ClashKind, Keyword, Kind};
 use edif_tree::{Node, Nodes};
 use netlist_schema::{CellBody, CellKind, Contents, Ident, Port, Shared};
@@ -241,7 +239,7 @@ fn cell_of(alloc: Global, heading: Heading, kind: CellKind, view: View) -> CellA
 }
 
 /// The cell of the library `own` that a form at a node means.
-pub fn read_cell(
+pub(crate) fn read_cell(
     alloc: Global,
     node: Node<'_>,
     libs: &Libraries,

@@ -16,10 +16,9 @@ ghost use Rattle.edif_parts.specs.declared.error.EdifError.TheVariants.{NoMemory
 use crate::levels::{read_keyword_map, read_level, read_version};
 use crate::libraries::add_libraries;
 use crate::top::{Top, read_top};
-use edif_contents::known::Libraries;
+use edif_contents::Libraries;
 use edif_grammar::{Breach, Form, is_form_of, parts_of};
-use edif_parts::error::{EdifError, bad_form, clash};
-use edif_parts::names::read_name;
+use edif_parts::{EdifError, bad_form, clash, read_name};
 use edif_spec::{ClashKind, Keyword, MeaningFault};
 use edif_tree::{Node, Nodes, Tree};
 use netlist_schema::{Copied, Design, Lib, Name, Row};

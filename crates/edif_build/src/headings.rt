@@ -7,9 +7,7 @@ ghost use Rattle.edif_tree.specs.Handles.{here, all};
 ghost use Rattle.edif_build.specs.Headings.{HeadingFault, ReadHeading};
 ghost use Rattle.edif_parts.specs.Reading.{Answers};
 
-use edif_parts::error::EdifError;
-use edif_parts::names::{NameAt, read_name};
-use edif_parts::properties::read_properties;
+use edif_parts::{EdifError, NameAt, read_name, read_properties};
 use edif_tree::{Node, Nodes};
 use netlist_schema::{Property, Row};
 use std::alloc::Global;
@@ -24,7 +22,11 @@ pub struct Heading {
 }
 
 /// The name at a node, and the properties among these followers of its form.
-pub fn read_heading(alloc: Global, node: Node<'_>, inner: Nodes<'_>) -> Result<Heading, EdifError>
+pub(crate) fn read_heading(
+    alloc: Global,
+    node: Node<'_>,
+    inner: Nodes<'_>,
+) -> Result<Heading, EdifError>
     requires { IsTrue (is_one_of name_definition (bare (here node))) }
     ensures { Answers (ReadHeading (here node.entry) (all inner.entry)) (HeadingFault (here node.entry) (all inner.entry)) result }
 {

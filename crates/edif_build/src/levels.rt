@@ -9,8 +9,7 @@ ghost use Rattle.edif_tree.specs.Handles.{here};
 ghost use Rattle.edif_build.specs.Levels.{IsKeywordMap, IsLevelForm, IsOther};
 ghost use Rattle.edif_parts.specs.Reading.{Answers};
 
-use edif_parts::error::{EdifError, fault_at};
-use edif_parts::parts::read_parts;
+use edif_parts::{EdifError, fault_at, read_parts};
 use edif_spec::{Keyword, Kind};
 use edif_tree::{Node, Shape};
 use std::alloc::Global;
@@ -33,7 +32,7 @@ fn check_number(node: Node<'_>, wanted: i64, kind: Kind) -> Result<(), EdifError
 }
 
 /// Reads a level, which is to be 0.
-pub fn read_level(alloc: Global, node: Node<'_>, keyword: Keyword) -> Result<(), EdifError>
+pub(crate) fn read_level(alloc: Global, node: Node<'_>, keyword: Keyword) -> Result<(), EdifError>
     requires level { IsLevelForm keyword }
     requires keyword { has_keyword keyword (bare (here node)) ≡ true }
     ensures { Answers (λ _. IsLevel keyword (bare (here node.entry))) (LevelFault keyword (here node.entry)) result }
@@ -43,7 +42,7 @@ pub fn read_level(alloc: Global, node: Node<'_>, keyword: Keyword) -> Result<(),
 }
 
 /// Reads the version, which is to be 2 0 0.
-pub fn read_version(alloc: Global, node: Node<'_>) -> Result<(), EdifError>
+pub(crate) fn read_version(alloc: Global, node: Node<'_>) -> Result<(), EdifError>
     requires { has_keyword EdifVersion (bare (here node)) ≡ true }
     ensures { Answers (λ _. IsFormOf EdifVersion (bare (here node.entry)) (integer (pos 2) ∷ integer (pos 0) ∷ integer (pos 0) ∷ []) []) (VersionFault (here node.entry)) result }
 {
@@ -54,7 +53,7 @@ pub fn read_version(alloc: Global, node: Node<'_>) -> Result<(), EdifError>
 }
 
 /// Reads the keyword map, whose level is to be 0.
-pub fn read_keyword_map(alloc: Global, node: Node<'_>) -> Result<(), EdifError>
+pub(crate) fn read_keyword_map(alloc: Global, node: Node<'_>) -> Result<(), EdifError>
     requires { has_keyword KeywordMap (bare (here node)) ≡ true }
     ensures { Answers (λ _. IsKeywordMap (bare (here node.entry))) (MapFault (here node.entry)) result }
 {

@@ -14,15 +14,12 @@ ghost use Rattle.edif_parts.specs.Reading.{Answers};
 
 use crate::cells::read_cell;
 use crate::levels::read_level;
-use edif_contents::known::Libraries;
+use edif_contents::Libraries;
 use edif_grammar::is_form_of;
-use edif_parts::error::{EdifError, clash, over_limit};
-use edif_parts::names::read_name;
-use edif_parts::parts::read_parts;
+use edif_parts::{EdifError, clash, over_limit, read_name, read_parts};
 use edif_spec::{ClashKind, Keyword};
 use edif_tree::{Node, Nodes};
-use netlist_schema::LibHead;
-use netlist_schema::limits::{MOST_CELLS, MOST_LIBS};
+use netlist_schema::{LibHead, MOST_CELLS, MOST_LIBS};
 use std::alloc::Global;
 
 /// The head of a library, and what follows it.
@@ -37,7 +34,7 @@ pub struct Head<'a> {
 }
 
 /// Whether a library stands at a node. Takes no memory.
-pub fn is_library(node: Node<'_>) -> bool
+fn is_library(node: Node<'_>) -> bool
     ensures { result ≡ is_library (bare (here node.entry)) }
 {
     if is_form_of(node, Keyword::Library) {
@@ -133,7 +130,11 @@ fn add_library(alloc: Global, node: Node<'_>, libs: &mut Libraries) -> Result<()
 }
 
 /// Adds the libraries among these followers of a file.
-pub fn add_libraries(alloc: Global, inner: Nodes<'_>, libs: &mut Libraries) -> Result<(), EdifError>
+pub(crate) fn add_libraries(
+    alloc: Global,
+    inner: Nodes<'_>,
+    libs: &mut Libraries,
+) -> Result<(), EdifError>
     requires { (ds : List Placed) × LibsAre ds libs.old }
     ensures { (ds : List Placed) → LibsAre ds libs.old → Answers (λ _. LibsAre (ds ++ libraries (all inner.entry)) libs.new) (FailsIn LibsFail (ds ++ libraries (all inner.entry))) result }
 {

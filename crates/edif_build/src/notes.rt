@@ -10,17 +10,14 @@ ghost use Rattle.edif_parts.specs.Names.{DefinesName};
 ghost use Rattle.edif_build.specs.Notes.{AreNoted, FailsBehind, HasNoteParts, IsAgain, NotesFail, ReadNote, ReadNotes, ReadPath, ShapeFault, StepAdded, flat, is_mark};
 ghost use Rattle.edif_parts.specs.Reading.{Answers, Names as FailsBy};
 
-use edif_contents::known::Libraries;
+use edif_contents::Libraries;
 use edif_grammar::is_form_of;
 use edif_names::Meant;
-use edif_parts::error::{EdifError, bad_form, clash, fault_at, over_limit};
-use edif_parts::parts::is_word;
-use edif_parts::properties::read_property;
+use edif_parts::{EdifError, bad_form, clash, fault_at, is_word, over_limit, read_property};
 use edif_spec::{ClashKind, Keyword, Kind};
 use edif_tree::{Node, Nodes, Shape};
 use indexmap::IndexMap;
-use netlist_schema::limits::MOST_NOTES;
-use netlist_schema::{CellId, Copied, Ident, Inst, NoMemory, Note, Row, Shared};
+use netlist_schema::{CellId, Copied, Ident, Inst, MOST_NOTES, NoMemory, Note, Row, Shared};
 use std::alloc::Global;
 use std::marker::Model;
 
@@ -297,7 +294,7 @@ fn add_notes(
 }
 
 /// The notes among these followers of a design's form, in order, from the top cell on.
-pub fn read_notes(
+pub(crate) fn read_notes(
     alloc: Global,
     inner: Nodes<'_>,
     libs: &Libraries,

@@ -10,10 +10,8 @@ ghost use Rattle.edif_parts.specs.Reading.{Answers};
 
 use crate::headings::{Heading, read_heading};
 use crate::notes::read_notes;
-use edif_contents::known::Libraries;
-use edif_contents::references::read_cell_ref;
-use edif_parts::error::EdifError;
-use edif_parts::parts::read_parts;
+use edif_contents::{Libraries, read_cell_ref};
+use edif_parts::{EdifError, read_parts};
 use edif_spec::Keyword;
 use edif_tree::Node;
 use netlist_schema::{CellId, Note, Row, TopHead};
@@ -41,7 +39,7 @@ fn top_head(heading: Heading, cell: CellId) -> TopHead
 }
 
 /// The top and the notes that the form of a design at a node means.
-pub fn read_top(alloc: Global, node: Node<'_>, libs: &Libraries) -> Result<Top, EdifError>
+pub(crate) fn read_top(alloc: Global, node: Node<'_>, libs: &Libraries) -> Result<Top, EdifError>
     requires { has_keyword DesignWord (bare (here node)) ≡ true }
     ensures { Answers (ReadTop libs.now.libs (here node.entry)) (DesignFault libs.now.libs (here node.entry)) result }
 {

@@ -18,9 +18,7 @@ use crate::known::Libraries;
 use crate::references::{Reference, read_reference, reference_at, resolve};
 use bus_members::width;
 use edif_names::Meant;
-use edif_parts::error::{EdifError, fault_at};
-use edif_parts::names::Names;
-use edif_parts::parts::{integer_at, read_parts};
+use edif_parts::{EdifError, Names, fault_at, integer_at, read_parts};
 use edif_spec::{Keyword, Kind, Stretch};
 use edif_tree::{Node, Nodes, Shape};
 use netlist_schema::{Ident, Inst, Port, Shared};
@@ -193,7 +191,11 @@ fn read_bits(
 }
 
 /// The end that a form at a node means, and where its bits are named.
-pub fn read_end(alloc: Global, node: Node<'_>, around: &Surroundings) -> Result<EndAt, EdifError>
+pub(crate) fn read_end(
+    alloc: Global,
+    node: Node<'_>,
+    around: &Surroundings,
+) -> Result<EndAt, EdifError>
     requires keyword { has_keyword PortRef (bare (here node)) ≡ true }
     requires names { AreNamed around.now }
     ensures { Answers (ReadEnd around.now (here node.entry)) (EndFaultIn around.now (here node.entry)) result }

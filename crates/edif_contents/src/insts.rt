@@ -14,15 +14,12 @@ use crate::known::Libraries;
 use crate::limits::room;
 use crate::references::read_view_ref;
 use edif_grammar::is_form_of;
-use edif_parts::error::EdifError;
-use edif_parts::names::{Names, read_name};
-use edif_parts::parts::{read_parts, room_for};
-use edif_parts::properties::read_properties;
-use edif_parts::texts::read_text_among;
+use edif_parts::{
+    EdifError, Names, read_name, read_parts, read_properties, read_text_among, room_for,
+};
 use edif_spec::Keyword;
 use edif_tree::{Node, Nodes};
-use netlist_schema::limits::MOST_INSTS;
-use netlist_schema::{Inst, Property, Row, Shared, Text};
+use netlist_schema::{Inst, MOST_INSTS, Property, Row, Shared, Text};
 use std::alloc::Global;
 
 /// An instance, and where its name stands.
@@ -55,7 +52,7 @@ fn read_details(alloc: Global, inner: Nodes<'_>) -> Result<InstDetails, EdifErro
 }
 
 /// The instance that a form at a node means, in the library `own`.
-pub fn read_inst(
+fn read_inst(
     alloc: Global,
     node: Node<'_>,
     libs: &Libraries,
@@ -140,7 +137,7 @@ fn take_insts(
 }
 
 /// The instances among these followers of a form, in order, with names that differ.
-pub fn read_insts(
+pub(crate) fn read_insts(
     alloc: Global,
     inner: Nodes<'_>,
     libs: &Libraries,

@@ -12,12 +12,11 @@ ghost use Rattle.edif_tree.specs.Handles.{all};
 ghost use Rattle.edif_contents.specs.Joins.{AreJoined, IsTwice, Joined, RowEndsFault, bits_of_row, row_of};
 ghost use Rattle.edif_parts.specs.Reading.{Answers, Names as FailsBy};
 
-use edif_parts::error::{EdifError, clash, over_limit};
+use edif_parts::{EdifError, clash, over_limit};
 use edif_spec::{ClashKind, Stretch};
 use edif_tree::Nodes;
 use indexmap::IndexMap;
-use netlist_schema::End;
-use netlist_schema::limits::MOST_ENDS;
+use netlist_schema::{End, MOST_ENDS};
 use std::alloc::Global;
 use std::marker::Model;
 
@@ -85,7 +84,7 @@ impl Joins {
 }
 
 /// Bit `k` of a stretch that has it.
-pub fn end_of(k: u32, stretch: &Stretch) -> End
+pub(crate) fn end_of(k: u32, stretch: &Stretch) -> End
     requires { k + stretch.now.first < 2 ^ 32 }
     ensures { result ≡ end_of k stretch.now }
 {
@@ -139,7 +138,7 @@ fn ends_room(nodes: Nodes<'_>, size: u32, joined: usize) -> Result<(), EdifError
 
 /// Joins the ends of a row of so many nets, net by net, at these nodes. The error is the first that is joined already, or the first
 /// form beyond the limit.
-pub fn join_row(
+pub(crate) fn join_row(
     nodes: Nodes<'_>,
     stretches: &[Stretch],
     size: u32,

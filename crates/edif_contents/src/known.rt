@@ -7,7 +7,7 @@ ghost use Rattle.edif_contents.specs.Known.{AddsCell, AddsTo, NamedLib, OpensLib
 ghost use Rattle.edif_parts.specs.Names.{DefinesName, Tells, ids};
 
 use edif_names::Meant;
-use edif_parts::names::Names;
+use edif_parts::Names;
 use netlist_schema::{CellBody, CellId, Ident, Lib, LibHead, NoMemory, Row};
 use std::alloc::Global;
 use std::marker::Model;

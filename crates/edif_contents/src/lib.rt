@@ -1,11 +1,15 @@
 //! From a tree to the contents of a cell: references, instances, nets and their ends, over the libraries that a file has defined.
 #![tactic(auto)]
 
-pub mod contents;
-pub mod ends;
-pub mod insts;
-pub mod joins;
-pub mod known;
-pub mod limits;
-pub mod nets;
-pub mod references;
+mod contents;
+mod ends;
+mod insts;
+mod joins;
+mod known;
+mod limits;
+mod nets;
+mod references;
+
+pub use contents::{Inside, read_contents};
+pub use known::{KnownCell, Libraries};
+pub use references::{Reference, read_cell_ref, reference_at};

@@ -22,15 +22,13 @@ use crate::ends::{EndAt, Surroundings, read_end};
 use crate::joins::{Joins, end_of, join_row};
 use bus_members::member_name;
 use edif_grammar::is_form_of;
-use edif_parts::error::{EdifError, fault_at, over_limit};
-use edif_parts::own_names::OwnNames;
-use edif_parts::parts::{read_parts, room_for};
-use edif_parts::ports::{BusName, read_bus_name};
-use edif_parts::properties::read_properties;
+use edif_parts::{
+    BusName, EdifError, OwnNames, fault_at, over_limit, read_bus_name, read_parts, read_properties,
+    room_for,
+};
 use edif_spec::{Keyword, Kind, NetForm, Stretch};
 use edif_tree::{Node, Nodes};
-use netlist_schema::limits::MOST_NETS;
-use netlist_schema::{Copied, End, Name, Net, NoMemory, Row, Shared, Width};
+use netlist_schema::{Copied, End, MOST_NETS, Name, Net, NoMemory, Row, Shared, Width};
 use std::alloc::Global;
 
 /// What a net joins, and the nodes of its ends.
@@ -170,7 +168,7 @@ fn read_stretches<'a>(
 }
 
 /// The net that a form at a node means, as it is written.
-pub fn read_net<'a>(
+fn read_net<'a>(
     alloc: Global,
     node: Node<'a>,
     around: &Surroundings,
@@ -380,7 +378,7 @@ fn take_nets(
 
 /// The nets for which the forms of nets among these followers of a form stand, in order, with names that differ and each bit joined
 /// once.
-pub fn read_nets(
+pub(crate) fn read_nets(
     alloc: Global,
     inner: Nodes<'_>,
     around: &Surroundings,

@@ -18,8 +18,7 @@ ghost use Rattle.edif_parts.specs.Reading.{Answers};
 
 use crate::known::Libraries;
 use edif_names::Meant;
-use edif_parts::error::{EdifError, bad_form, fault_at};
-use edif_parts::parts::{read_parts, word_at};
+use edif_parts::{EdifError, bad_form, fault_at, read_parts, word_at};
 use edif_spec::{Keyword, Kind};
 use edif_tree::{Node, Nodes};
 use netlist_schema::{CellId, Ident, LibId};
@@ -46,7 +45,7 @@ pub fn reference_at(node: Node<'_>) -> Reference<'_>
 }
 
 /// What is meant by a reference at a place, where its scope answers so: the one definition, or a fault. Takes no memory.
-pub fn resolve(answer: Meant, place: u64) -> Result<u32, EdifError>
+pub(crate) fn resolve(answer: Meant, place: u64) -> Result<u32, EdifError>
     ensures { (scope : List (List ℕ)) (w : List ℕ) → Tells (meant scope w) answer → Answers (λ i. meant scope w ≡ edif.Found i) (Dangles scope (Word' place w)) result }
 {
     match answer {
@@ -57,7 +56,7 @@ pub fn resolve(answer: Meant, place: u64) -> Result<u32, EdifError>
 }
 
 /// The reference that a form of one identifier, and nothing else, makes.
-pub fn read_reference(
+pub(crate) fn read_reference(
     alloc: Global,
     node: Node<'_>,
     keyword: Keyword,
@@ -141,7 +140,7 @@ fn view(libs: &Libraries, id: CellId, name: &Ident) -> Meant
 }
 
 /// The cell whose view a reference at a node means.
-pub fn read_view_ref(
+pub(crate) fn read_view_ref(
     alloc: Global,
     node: Node<'_>,
     libs: &Libraries,

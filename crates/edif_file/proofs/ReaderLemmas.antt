@@ -19,7 +19,7 @@ use Rattle.edif_tree.specs.Nodes.{Table}
 use Rattle.edif_tree.specs.TreeError.{Names}
 use Rattle.edif_tree.specs.declared.errors.TreeError.{TreeError}
 use Rattle.edif_tree.specs.declared.errors.TreeError.TheVariants as tree
-use Rattle.edif_file.specs.Files.{IsWrong}
+use Rattle.edif_spec.specs.Files.{IsWrong}
 use Rattle.edif_file.specs.Reader.{Reader, HasMet, IsHanded, WasFed}
 use Rattle.edif_file.specs.Steps.{Says, said_by_lexer, said_by_reader, said_by_tree}
 use Rattle.edif_file.specs.declared.no_design.NoDesign.{NoDesign}

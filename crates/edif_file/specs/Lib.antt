@@ -1,4 +1,2 @@
-pub mod FaultText
-pub mod Files
 pub mod Reader
 pub mod Steps

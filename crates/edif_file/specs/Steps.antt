@@ -5,8 +5,8 @@ use Rattle.edif_lexer.specs.declared.errors.LexError.{LexError}
 use Rattle.edif_lexer.specs.declared.errors.LexError.TheVariants as lexer
 use Rattle.edif_tree.specs.declared.errors.TreeError.{TreeError}
 use Rattle.edif_tree.specs.declared.errors.TreeError.TheVariants as tree
-use Rattle.edif_file.specs.declared.fault.EdifFault.{EdifFault}
-use Rattle.edif_file.specs.declared.fault.EdifFault.TheVariants as faults
+use Rattle.edif_spec.specs.declared.file_fault.EdifFault.{EdifFault}
+use Rattle.edif_spec.specs.declared.file_fault.EdifFault.TheVariants as faults
 use Rattle.edif_file.specs.declared.no_design.NoDesign.{NoDesign}
 use Rattle.edif_file.specs.declared.no_design.NoDesign.TheVariants as answers
 

@@ -3,18 +3,21 @@ ghost use Rattle.std.specs.Prelude.{◌≡◌};
 ghost use Rattle.edif_file.specs.declared.no_design.NoDesign.TheVariants as answers;
 ghost use Rattle.edif_file.specs.Steps.{said_by_lexer, said_by_tree, said_by_reader};
 
-use crate::fault::EdifFault;
 use edif_build::EdifError;
 use edif_lexer::LexError;
+use edif_spec::EdifFault;
 use edif_tree::TreeError;
 use netlist_schema::NoMemory;
+use thiserror::Error;
 
 /// Why bytes gave no design.
-#[derive(Debug, PartialEq, Eq, Drop)]
+#[derive(Debug, PartialEq, Eq, Drop, Error)]
 pub enum NoDesign {
     /// What is wrong with them.
+    #[error("the bytes mean no design")]
     Fault(EdifFault),
     /// An allocation was refused.
+    #[error("no memory")]
     NoMemory,
 }
 

@@ -6,7 +6,7 @@ ghost use Rattle.edif_spelling_spec.specs.TreeFaults.{IsFile};
 ghost use Rattle.edif_spelling_spec.specs.declared.token.Token.{Token};
 ghost use Rattle.edif_tree.specs.Nodes.{IsAt};
 ghost use Rattle.netlist_schema.specs.declared.limits.TheConstants.{MOST_FILE_BYTES};
-ghost use Rattle.edif_file.specs.Files.{IsDesignFile, IsWrong};
+ghost use Rattle.edif_spec.specs.Files.{IsDesignFile, IsWrong};
 ghost use Rattle.edif_file.specs.Reader.{IsHanded, WasFed};
 ghost use Rattle.edif_file.specs.Steps.{Says};
 

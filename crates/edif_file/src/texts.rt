@@ -1,11 +1,10 @@
 //! The text of a fault of a design file.
 ghost use Rattle.std.specs.Prelude.{◌≡◌, ◌++◌, IfOk, OnOk};
 ghost use Rattle.std.specs.Fmt.{decimal};
-ghost use Rattle.edif_file.specs.FaultText.{at_place, clash_word, fault_text as text_of, kind_word, lex_word, meaning_text, tree_word};
+ghost use Rattle.edif_spec.specs.FaultText.{at_place, clash_word, fault_text as text_of, kind_word, lex_word, meaning_text, tree_word};
 
-use crate::fault::EdifFault;
 use edif_lexer::LexKind;
-use edif_spec::{ClashKind, Kind, MeaningFault};
+use edif_spec::{ClashKind, EdifFault, Kind, MeaningFault};
 use edif_spelling_spec::TreeKind;
 use itoa::Buffer;
 use netlist_schema::{NoMemory, Text};

@@ -58,7 +58,7 @@ fn check_argument(
 }
 
 /// Checks the fixed arguments, of which none is missing.
-pub fn check_fixed<'a>(
+pub(crate) fn check_fixed<'a>(
     keyword: Keyword,
     rule: Rule,
     wanted: &[Wanted],
@@ -75,7 +75,11 @@ pub fn check_fixed<'a>(
 }
 
 /// Checks that each of these may follow the fixed arguments.
-pub fn check_inner<'a>(rule: Rule, allowed: &[Inner], nodes: Nodes<'a>) -> Result<(), Breach<'a>>
+pub(crate) fn check_inner<'a>(
+    rule: Rule,
+    allowed: &[Inner],
+    nodes: Nodes<'a>,
+) -> Result<(), Breach<'a>>
     ensures ok { IfOk result (λ u. AllByRecursion (λ t. is_follower (map follower allowed.now) (bare t) ≡ true) (all nodes.entry)) }
     ensures err { IfErr result (λ b. FollowerFault (misplaced Kind.BadForm (row_of rule)) (map follower allowed.now) (all nodes.entry) (fault_of b)) }
 {
@@ -108,7 +112,7 @@ fn check_once<'a>(keyword: Keyword, nodes: Nodes<'a>) -> Result<(), Breach<'a>>
 }
 
 /// Checks that none of which one is allowed stands twice. A second one whose fault has a kind of its own passes.
-pub fn check_seconds<'a>(allowed: &[Inner], nodes: Nodes<'a>) -> Result<(), Breach<'a>>
+pub(crate) fn check_seconds<'a>(allowed: &[Inner], nodes: Nodes<'a>) -> Result<(), Breach<'a>>
     ensures ok { (j : ℕ) (a : Follower) → slice_get (map follower allowed.now) j ≡ Some a → IfOk result (λ u. OnceFits a (all nodes.entry)) }
     ensures err { IfErr result (λ b. SecondFault (map follower allowed.now) (all nodes.entry) (fault_of b)) }
 {

@@ -2,12 +2,12 @@
 #![tactic(auto)]
 
 mod checks;
-pub mod kept;
-pub mod laws;
-pub mod lent;
+mod kept;
+mod laws;
+mod lent;
 mod nodes;
 mod rules;
-pub mod table;
+mod table;
 
 pub use edif_spec::Keyword;
 pub use kept::{EdifFormError, form};

@@ -14,7 +14,7 @@ use netlist_schema::Ident;
 
 /// The name that the form at a node begins with, and what stands behind it, or `None` for a token and for a form that begins
 /// otherwise.
-pub fn opened(node: Node<'_>) -> Option<(&Ident, Nodes<'_>)>
+pub(crate) fn opened(node: Node<'_>) -> Option<(&Ident, Nodes<'_>)>
     ensures some { IfSome result (λ p. (first_word (bare (here node.entry)) ≡ Some p.0.now) × (all p.1 ≡ arguments (here node.entry))) }
     ensures none { IfNone result (first_word (bare (here node.entry)) ≡ None) }
 {
@@ -31,7 +31,7 @@ pub fn opened(node: Node<'_>) -> Option<(&Ident, Nodes<'_>)>
 }
 
 /// What stands at a node, as rows tell arguments apart.
-pub fn argument_at(node: Node<'_>) -> Argument
+pub(crate) fn argument_at(node: Node<'_>) -> Argument
     ensures { result ≡ argument_of (bare (here node.entry)) }
 {
     match node.shape() {

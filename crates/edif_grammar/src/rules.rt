@@ -113,7 +113,7 @@ macro_rules! rows {
 }
 
 /// The row of a keyword.
-pub fn rule_of(keyword: Keyword) -> Rule
+pub(crate) fn rule_of(keyword: Keyword) -> Rule
     ensures { row_of result ≡ row keyword }
 {
     use Inner::{Many, Once};
@@ -132,7 +132,7 @@ pub fn rule_of(keyword: Keyword) -> Rule
 }
 
 /// The row that holds a form: that of its parent, or with no parent that of a whole file.
-pub fn rule_above(parent: Option<Keyword>) -> Rule
+pub(crate) fn rule_above(parent: Option<Keyword>) -> Rule
     ensures { row_of result ≡ row_above parent }
 {
     match parent {
@@ -142,7 +142,7 @@ pub fn rule_above(parent: Option<Keyword>) -> Rule
 }
 
 /// Whether a token in the place of an integer is a fault of a kind of its own.
-pub fn tokens_apart(keyword: Keyword) -> bool
+pub(crate) fn tokens_apart(keyword: Keyword) -> bool
     ensures { result ≡ has_own_kind (token_kind keyword) }
 {
     matches!(
@@ -152,7 +152,7 @@ pub fn tokens_apart(keyword: Keyword) -> bool
 }
 
 /// Whether a second form of this keyword is a bad form, where one is allowed.
-pub fn second_is_bad_form(keyword: Keyword) -> bool
+pub(crate) fn second_is_bad_form(keyword: Keyword) -> bool
     ensures { result ≡ is_plain keyword }
 {
     !matches!(keyword, Keyword::View | Keyword::Design)
@@ -228,7 +228,7 @@ impl Wanted {
 }
 
 /// Whether the argument may follow.
-pub fn may_follow(inner: &[Inner], argument: Argument) -> bool
+pub(crate) fn may_follow(inner: &[Inner], argument: Argument) -> bool
     ensures { result ≡ follows (map follower inner.now) argument }
 {
     for follower in inner {

@@ -71,7 +71,7 @@ pub fn keyword(name: &Ident) -> Option<Keyword>
 }
 
 /// Whether a name spells this keyword, ignoring the case of ASCII letters.
-pub fn is_spelled(name: &Ident, keyword: Keyword) -> bool
+pub(crate) fn is_spelled(name: &Ident, keyword: Keyword) -> bool
     ensures { result ≡ same name.now (spelling_of keyword) }
 {
     is_same(name.as_slice(), spelling_of_keyword(keyword))

@@ -9,9 +9,9 @@ ghost use Rattle.edif_lexer.specs.declared.errors.LexError.{LexError};
 
 use crate::errors::LexError;
 use crate::runs::{blanks, unquoted, word_bytes};
+use crate::strings::decode;
 use crate::words::{is_word_byte, word_kind};
 use edif_spelling_spec::{LexKind, Token, TokenKind};
-use edif_strings::decode;
 use std::alloc::Global;
 use std::marker::Model;
 

@@ -4,8 +4,10 @@
 mod errors;
 mod lexing;
 mod runs;
+mod strings;
 mod words;
 
 pub use edif_spelling_spec::{LexKind, Token, TokenKind};
 pub use errors::LexError;
 pub use lexing::{Lexer, State};
+pub use strings::decode;

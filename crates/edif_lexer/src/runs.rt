@@ -6,7 +6,7 @@ ghost use Rattle.edif_spelling_spec.specs.Bytes.{is_space, is_unquoted, is_word_
 use crate::words::is_word_byte;
 
 /// How many bytes of a word stand in front.
-pub fn word_bytes(bytes: &[u8]) -> usize
+pub(crate) fn word_bytes(bytes: &[u8]) -> usize
     ensures within { result ≤ length bytes.now }
     ensures all { list_all is_word_byte (take result bytes.now) ≡ true }
     ensures ends { result < length bytes.now → is_word_byte (get_or bytes.now result 0) ≡ false }
@@ -20,7 +20,7 @@ pub fn word_bytes(bytes: &[u8]) -> usize
 }
 
 /// How many bytes stand before the first quote.
-pub fn unquoted(bytes: &[u8]) -> usize
+pub(crate) fn unquoted(bytes: &[u8]) -> usize
     ensures within { result ≤ length bytes.now }
     ensures all { is_unquoted (take result bytes.now) ≡ true }
 {
@@ -33,7 +33,7 @@ pub fn unquoted(bytes: &[u8]) -> usize
 }
 
 /// How many blanks stand in front.
-pub fn blanks(bytes: &[u8]) -> usize
+pub(crate) fn blanks(bytes: &[u8]) -> usize
     ensures within { result ≤ length bytes.now }
     ensures all { list_all is_space (take result bytes.now) ≡ true }
 {

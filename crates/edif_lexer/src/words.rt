@@ -37,7 +37,7 @@ static WORD_BYTES: [bool; 256] = [
 ];
 
 /// Whether a word may hold the byte.
-pub fn is_word_byte(b: u8) -> bool
+pub(crate) fn is_word_byte(b: u8) -> bool
     ensures { result ≡ is_word_byte b }
 {
     WORD_BYTES[usize::from(b)]
@@ -85,7 +85,7 @@ fn identifier(alloc: Global, word: &[u8]) -> Result<Option<Ident>, NoMemory>
 
 /// The token that a word is, or its fault.
 #[tactic(auto, unfolding(edif_spelling_spec::specs::Words::word_kind))]
-pub fn word_kind(alloc: Global, word: &[u8]) -> Result<Result<TokenKind, LexKind>, NoMemory>
+pub(crate) fn word_kind(alloc: Global, word: &[u8]) -> Result<Result<TokenKind, LexKind>, NoMemory>
     requires { list_all is_word_byte word.now ≡ true }
     ensures { IfOk result (λ kind. kind ≡ word_kind word.now) }
 {

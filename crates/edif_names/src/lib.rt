@@ -2,10 +2,10 @@
 #![tactic(auto)]
 
 mod folded;
-pub mod property;
-pub mod scope;
-pub mod strings;
-pub mod words;
+mod property;
+mod scope;
+mod strings;
+mod words;
 
 pub use property::property_text;
 pub use scope::{Defined, Meant, Scope};

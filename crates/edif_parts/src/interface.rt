@@ -21,8 +21,7 @@ use bus_members::width;
 use edif_grammar::is_form_of;
 use edif_spec::Keyword;
 use edif_tree::{Node, Nodes};
-use netlist_schema::limits::{MOST_BITS, MOST_PORTS};
-use netlist_schema::{Port, Property, Row};
+use netlist_schema::{MOST_BITS, MOST_PORTS, Port, Property, Row};
 use std::alloc::Global;
 
 /// What an interface says.

@@ -82,7 +82,7 @@ pub fn integer_at(node: Node<'_>) -> i64
 }
 
 /// The string at a node where a string stands. Takes no memory.
-pub fn string_at(node: Node<'_>) -> &Text
+pub(crate) fn string_at(node: Node<'_>) -> &Text
     requires { IsTrue (is_choice AString (bare (here node))) }
     ensures { here node.entry ≡ String' (place_of (here node.entry)) result.now }
 {

@@ -47,7 +47,7 @@ pub struct BusName {
 }
 
 /// The port that a form at a node means.
-pub fn read_port(alloc: Global, node: Node<'_>) -> Result<PortAt, EdifError>
+pub(crate) fn read_port(alloc: Global, node: Node<'_>) -> Result<PortAt, EdifError>
     requires { has_keyword PortWord (bare (here node)) ≡ true }
     ensures { Answers (λ p. MeansPort (bare (here node.entry)) p.port × (IsTypedPort p.port × HasDistinctKeys p.port.properties) × (defined (here node.entry) ≡ Some (p.port.name.id, p.place))) (PortFault (here node.entry)) result }
 {

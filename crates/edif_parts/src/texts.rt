@@ -38,7 +38,7 @@ pub fn read_text_among(
 }
 
 /// The string of the form at a node, which is a designator, an owner, or a value that is a string.
-pub fn read_text(alloc: Global, node: Node<'_>, keyword: Keyword) -> Result<Text, EdifError>
+pub(crate) fn read_text(alloc: Global, node: Node<'_>, keyword: Keyword) -> Result<Text, EdifError>
     requires text { IsTextForm keyword }
     requires keyword { has_keyword keyword (bare (here node)) ≡ true }
     ensures { Answers (λ s. MeansText keyword (bare (here node.entry)) s × IsBytes s) (RowFault keyword (here node.entry)) result }

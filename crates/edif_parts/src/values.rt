@@ -22,7 +22,7 @@ use netlist_schema::{Num, Value};
 use std::alloc::Global;
 
 /// The value that a form at a node means.
-pub fn read_value(alloc: Global, node: Node<'_>) -> Result<Value, EdifError>
+pub(crate) fn read_value(alloc: Global, node: Node<'_>) -> Result<Value, EdifError>
     requires { IsTrue (is_one_of value_forms (bare (here node))) }
     ensures { Answers (λ v. MeansValue (bare (here node.entry)) v × IsTypedValue v) (InValue (here node.entry)) result }
 {

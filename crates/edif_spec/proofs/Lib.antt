@@ -1,6 +1,7 @@
 pub mod Arrange
 pub mod ArrangeOrder
 pub mod Both
+pub mod BytesLemmas
 pub mod CellFaultsApart
 pub mod CellPlaces
 pub mod ContentsMeanings
@@ -33,6 +34,7 @@ pub mod SameLemmas
 pub mod Scopes
 pub mod SpelledTrees
 pub mod StringLemmas
+pub mod ToldForms
 pub mod ToldLemmas
 pub mod ValidForms
 pub mod Whole

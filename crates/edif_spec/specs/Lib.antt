@@ -3,7 +3,9 @@ pub mod Canonical
 pub mod Defined
 pub mod Design
 pub mod Examples
+pub mod FaultText
 pub mod Faults
+pub mod Files
 pub mod Keyword
 pub mod Means
 pub mod Nets

@@ -1,11 +1,11 @@
 //! How tokens are spelled: the tokens of a text, its first lexical fault, and which bytes spell which tree.
 #![tactic(auto)]
 
-pub mod end_laws;
-pub mod laws;
-pub mod token;
-pub mod tree_fault;
-pub mod tree_laws;
+mod end_laws;
+mod laws;
+mod token;
+mod tree_fault;
+mod tree_laws;
 
 pub use end_laws::{fault_stays, tree_fault_stays};
 pub use laws::{

@@ -3,7 +3,7 @@
 
 mod each;
 mod errors;
-pub mod laws;
+mod laws;
 mod making;
 mod node;
 mod node_lists;

@@ -14,8 +14,7 @@ use crate::store::Store;
 use crate::stored::NodeId;
 use crate::tree::Tree;
 use edif_spelling_spec::{Token, TokenKind, TreeKind};
-use netlist_schema::NoMemory;
-use netlist_schema::limits::MOST_LEVELS;
+use netlist_schema::{MOST_LEVELS, NoMemory};
 use std::alloc::Global;
 
 /// A form whose `)` is to come.

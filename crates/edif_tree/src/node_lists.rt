@@ -27,7 +27,7 @@ impl Model for NodeLists {
 }
 
 /// The ids from `first` to before `end`.
-pub fn range(ids: &[NodeId], first: usize, end: usize) -> &[NodeId]
+pub(crate) fn range(ids: &[NodeId], first: usize, end: usize) -> &[NodeId]
     requires order { first ≤ end }
     requires within { end ≤ length ids.now }
     ensures { result.now ≡ slice_range ids.now first end }

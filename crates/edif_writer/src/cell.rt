@@ -125,7 +125,7 @@ fn write_view<S: Shown, K: Sink>(
 }
 
 /// Writes a cell.
-pub fn write_cell<S: Shown, K: Sink>(
+pub(crate) fn write_cell<S: Shown, K: Sink>(
     alloc: Global,
     design: &S,
     body: &CellBody,

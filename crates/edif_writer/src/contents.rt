@@ -414,7 +414,7 @@ fn write_net_lines<S: Shown, K: Sink>(
 }
 
 /// Writes contents on a line of their own, where there are any.
-pub fn write_contents_line<S: Shown, K: Sink>(
+pub(crate) fn write_contents_line<S: Shown, K: Sink>(
     alloc: Global,
     design: &S,
     own: &Row<Port>,

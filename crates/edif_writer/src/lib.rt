@@ -8,7 +8,7 @@ mod reference;
 mod small;
 mod spelled;
 mod top;
-pub mod whole;
+mod whole;
 
 pub use netdb_outside::WriteError;
 pub use whole::write_design;

@@ -98,7 +98,7 @@ fn write_library_line<S: Shown, K: Sink>(
 }
 
 /// Writes the libraries on lines of their own, in order.
-pub fn write_library_lines<S: Shown, K: Sink>(
+pub(crate) fn write_library_lines<S: Shown, K: Sink>(
     alloc: Global,
     design: &S,
     page: &mut BufferedSink,

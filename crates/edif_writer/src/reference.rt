@@ -11,7 +11,7 @@ use netlist_schema::{CellId, Shown};
 use std::alloc::Global;
 
 /// Writes the identifier of the view of a cell.
-pub fn write_view_id<S: Shown, K: Sink>(
+pub(crate) fn write_view_id<S: Shown, K: Sink>(
     alloc: Global,
     design: &S,
     id: CellId,
@@ -59,7 +59,7 @@ fn write_lib_id<S: Shown, K: Sink>(
 }
 
 /// Writes a reference to a cell, which names its library.
-pub fn write_cell_ref<S: Shown, K: Sink>(
+pub(crate) fn write_cell_ref<S: Shown, K: Sink>(
     alloc: Global,
     design: &S,
     id: CellId,

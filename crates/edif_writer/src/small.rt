@@ -11,7 +11,7 @@ use netlist_schema::{Name, Num, Property, Row, Text, Value};
 use std::alloc::Global;
 
 /// Writes a name: its identifier, or with a shown text a `rename`.
-pub fn write_name<K: Sink>(alloc: Global, name: &Name, page: &mut BufferedSink, out: &mut K)
+pub(crate) fn write_name<K: Sink>(alloc: Global, name: &Name, page: &mut BufferedSink, out: &mut K)
     ensures { (level : ℕ) → Writes K.written K.faults out.old page.old out.new page.new (layout level (name_tree name.now)) }
 {
     match &name.shown {
@@ -75,7 +75,7 @@ fn write_value<K: Sink>(alloc: Global, value: &Value, page: &mut BufferedSink, o
 }
 
 /// Writes a text between the beginning of its form and `)`, where there is one.
-pub fn write_text_form<K: Sink>(
+pub(crate) fn write_text_form<K: Sink>(
     alloc: Global,
     opening: &[u8],
     text: &Option<Text>,
@@ -92,7 +92,7 @@ pub fn write_text_form<K: Sink>(
 }
 
 /// Writes a property.
-pub fn write_property<K: Sink>(
+pub(crate) fn write_property<K: Sink>(
     alloc: Global,
     property: &Property,
     page: &mut BufferedSink,
@@ -109,7 +109,7 @@ pub fn write_property<K: Sink>(
 }
 
 /// Writes properties on the line of their form.
-pub fn write_properties<K: Sink>(
+pub(crate) fn write_properties<K: Sink>(
     alloc: Global,
     properties: &Row<Property>,
     page: &mut BufferedSink,
@@ -124,7 +124,7 @@ pub fn write_properties<K: Sink>(
 }
 
 /// Writes properties on lines of their own.
-pub fn write_property_lines<K: Sink>(
+pub(crate) fn write_property_lines<K: Sink>(
     alloc: Global,
     level: usize,
     properties: &Row<Property>,

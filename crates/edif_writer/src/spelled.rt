@@ -62,7 +62,7 @@ impl Appended for SpelledInteger {
 static LINE: [u8; 17] = *b"\n                ";
 
 /// Begins a line: a line feed, and as many blanks as its level.
-pub fn put_line<K: Sink>(level: usize, page: &mut BufferedSink, out: &mut K)
+pub(crate) fn put_line<K: Sink>(level: usize, page: &mut BufferedSink, out: &mut K)
     ensures { Writes K.written K.faults out.old page.old out.new page.new (new_line level) }
 {
     if level < LINE.len() {
@@ -83,7 +83,7 @@ fn put_far<K: Sink>(level: usize, page: &mut BufferedSink, out: &mut K)
 }
 
 /// Writes an identifier.
-pub fn put_ident<K: Sink>(alloc: Global, name: &Ident, page: &mut BufferedSink, out: &mut K)
+pub(crate) fn put_ident<K: Sink>(alloc: Global, name: &Ident, page: &mut BufferedSink, out: &mut K)
     ensures { Writes K.written K.faults out.old page.old out.new page.new (name_text name.now) }
 {
     page.put_text(alloc, &SpelledIdent(name), out);
@@ -100,7 +100,7 @@ fn begins_with_letter(name: &[u8]) -> bool
 }
 
 /// Writes an identifier of these bytes.
-pub fn put_name<K: Sink>(name: &[u8], page: &mut BufferedSink, out: &mut K)
+pub(crate) fn put_name<K: Sink>(name: &[u8], page: &mut BufferedSink, out: &mut K)
     ensures { Writes K.written K.faults out.old page.old out.new page.new (name_text name.now) }
 {
     if begins_with_letter(name) {
@@ -112,28 +112,28 @@ pub fn put_name<K: Sink>(name: &[u8], page: &mut BufferedSink, out: &mut K)
 }
 
 /// Writes a string, between quotes.
-pub fn put_string<K: Sink>(alloc: Global, text: &Text, page: &mut BufferedSink, out: &mut K)
+pub(crate) fn put_string<K: Sink>(alloc: Global, text: &Text, page: &mut BufferedSink, out: &mut K)
     ensures { Writes K.written K.faults out.old page.old out.new page.new (string_text text.now) }
 {
     page.put_text(alloc, &SpelledString(text), out);
 }
 
 /// Writes a string of these bytes, between quotes.
-pub fn put_bytes<K: Sink>(alloc: Global, text: &[u8], page: &mut BufferedSink, out: &mut K)
+pub(crate) fn put_bytes<K: Sink>(alloc: Global, text: &[u8], page: &mut BufferedSink, out: &mut K)
     ensures { Writes K.written K.faults out.old page.old out.new page.new (string_text text.now) }
 {
     page.put_text(alloc, &SpelledBytes(text), out);
 }
 
 /// Writes an integer.
-pub fn put_integer<K: Sink>(alloc: Global, value: &i64, page: &mut BufferedSink, out: &mut K)
+pub(crate) fn put_integer<K: Sink>(alloc: Global, value: &i64, page: &mut BufferedSink, out: &mut K)
     ensures { Writes K.written K.faults out.old page.old out.new page.new (signed_decimal value.now) }
 {
     page.put_text(alloc, &SpelledInteger(*value), out);
 }
 
 /// Writes a number that is not negative.
-pub fn put_number<K: Sink>(alloc: Global, value: u32, page: &mut BufferedSink, out: &mut K)
+pub(crate) fn put_number<K: Sink>(alloc: Global, value: u32, page: &mut BufferedSink, out: &mut K)
     ensures { Writes K.written K.faults out.old page.old out.new page.new (signed_decimal (pos value)) }
 {
     put_integer(alloc, &i64::from(value), page, out);

@@ -48,7 +48,7 @@ fn write_note_lines<K: Sink>(alloc: Global, notes: &Row<Note>, page: &mut Buffer
 }
 
 /// Writes the form of the top on a line of its own, where there is a top.
-pub fn write_top_line<S: Shown, K: Sink>(
+pub(crate) fn write_top_line<S: Shown, K: Sink>(
     alloc: Global,
     design: &S,
     page: &mut BufferedSink,

@@ -54,7 +54,7 @@ fn put_one(alloc: Global, design: &mut Design, change: CellChange) -> Result<(),
 }
 
 /// Puts a change into a design. One net or one instance goes in its place; for another change the libraries are copied.
-pub fn put_change(alloc: Global, design: &mut Design, change: Change) -> Result<(), NoMemory>
+pub(crate) fn put_change(alloc: Global, design: &mut Design, change: Change) -> Result<(), NoMemory>
     requires can { CanAllBeMade design.old change.cells }
     requires valid { IsValid (edited design.old (edits_of design.old change)) }
     ensures ok { OnOk result (design.new ≡ edited design.old (edits_of design.old change)) }

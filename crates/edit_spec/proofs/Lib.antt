@@ -27,5 +27,6 @@ pub mod ShowInst
 pub mod ShowNet
 pub mod Shown
 pub mod ShownWhole
+pub mod Ungrouped
 pub mod Valid
 pub mod Values

@@ -13,6 +13,7 @@ ghost use Rattle.edit_rules_spec.specs.Seen.{inside, placed};
 ghost use Rattle.edit_spec.specs.ShowNet.{ends_of_net, net_shown};
 ghost use Rattle.edit_spec.specs.Step.{step, run};
 ghost use Rattle.edit_spec.specs.Typed.{IsTypedOp};
+ghost use Rattle.edit_spec.specs.Ungrouping.{UngroupKeeps};
 ghost use Rattle.edit_spec.specs.Worked.{drop_replies, ungroup_replies, whole_replies, worked_design};
 ghost use Rattle.edit_spec.specs.WorkedMiddle.{IsMiddleGone, own_replies, three};
 ghost use Rattle.edit_spec.specs.WorkedLimits.{IsFullLibrary, IsLimitReached, limit_replies, two_libraries};
@@ -139,6 +140,12 @@ pub fn limit_is_reached()
 pub fn copies_keep_flattening()
     ensures uniquify { (d : Design) → IsValid d → erased_flattening (step d Uniquify).design ≡ erased_flattening d }
     ensures unique_path { (d : Design) (path : List (List ℕ)) → IsValid d → erased_flattening (step d (UniquePath path)).design ≡ erased_flattening d }
+{}
+
+/// An ungroup of a valid design that replies that it is done dissolves the instance of that name, and keeps the occurrences, each with its
+/// cell, designator and properties, the connections with their representatives, and the net of every pin.
+pub fn ungroup_keeps()
+    ensures { UngroupKeeps }
 {}
 
 /// A library of 65,536 cells takes no other one.

@@ -7,10 +7,9 @@ use eco_ops::{eco_op, is_single};
 use edit_cells::Cells;
 use edit_spec::{Op, Reply};
 use netlist_schema::NoMemory;
-use path_copies::unique_path;
 use std::alloc::Global;
 use ungroup_op::ungroup;
-use uniquify_op::uniquify;
+use uniquify_op::{unique_path, uniquify};
 
 /// Runs an operation: the reply and the design are those of its definition; the objects read grow by what it needs, and the
 /// objects written by what it writes, both as sets. A reply that refuses changes nothing but the objects read. The one error

@@ -21,6 +21,18 @@ use std::alloc::Global;
 use std::marker::Model;
 use std::sync::Arc;
 
+/// What is left of a transaction that is over: the cells that it wrote, as far as no version has them, and its lists of objects. To
+/// let it go may take time in proportion to them.
+pub struct Left {
+    work: Work,
+}
+
+impl Drop for Left {
+    fn drop(self) {
+        let Left { work: _ } = self;
+    }
+}
+
 /// A transaction: operations that are tried, one after the other, on a pinned version, with their replies.
 pub struct Tx {
     alloc: Global,
@@ -85,6 +97,15 @@ impl Tx {
         let _valid = self.pin.snapshot_ref().lib_count();
         let _head = head.lib_count();
         let made = self.work.onto(alloc, head)?;
+        Ok(Snapshot::of(version, Arc::new(alloc, made)?))
+    }
+
+    /// What the operations come to on the pinned version itself, as the version of this number. It costs what was written, and
+    /// copies no cell: cells that were written are those of the transaction.
+    pub fn next(&self, alloc: Global, version: u64) -> Result<Snapshot, NoMemory>
+        ensures { IfOk result (λ made. made ≡ record { version = version; design = (run self.now.pin.design self.now.ops).design }) }
+    {
+        let made = self.work.version(alloc)?;
         Ok(Snapshot::of(version, Arc::new(alloc, made)?))
     }
 
@@ -185,6 +206,22 @@ impl Tx {
             replies: _,
         } = self;
         pin
+    }
+
+    /// Gives the pin, the operations and the replies back, and what else is left of the transaction, to be let go. Takes no memory.
+    pub fn split(self) -> (Pin, Row<Op>, Row<Reply>, Left)
+        ensures pin { result.0 ≡ self.pin }
+        ensures ops { result.1 ≡ self.ops }
+        ensures replies { result.2 ≡ self.replies }
+    {
+        let Tx {
+            alloc: _,
+            pin,
+            work,
+            ops,
+            replies,
+        } = self;
+        (pin, ops, replies, Left { work })
     }
 
     /// Gives the pin, the operations and the replies back. Takes no memory.

@@ -1,9 +1,10 @@
 -- What the items that a flattening begins with tell of the items behind them.
-use Rattle.std.specs.Prelude.{◌≡◌, ℕ, List, [], ◌∷◌, ◌++◌, Option, Some, option_and_then, slice_get}
-use Rattle.netlist_schema.specs.Design.{Design, cell_at}
+use Rattle.std.specs.Prelude.{◌≡◌, ℕ, List, [], ◌∷◌, ◌++◌, Option, Some, option_and_then}
+use Rattle.netlist_schema.specs.Design.{Design}
 use Rattle.netlist_schema.specs.Types.{CellId, Direction}
 use Rattle.netlist_schema.specs.Valid.{IsValid}
 use Rattle.flat_spec.specs.Flattening.{flattening}
+use Rattle.flat_spec.specs.Paths.{port_of_cell}
 use Rattle.flat_spec.specs.Types.{Item}
 use Rattle.flat_spec.specs.declared.item.Item.TheVariants.{Enter, Net, Pin}
 
@@ -22,5 +23,4 @@ last_cell cell (Pin path port bit first ∷ items) = last_cell cell items
 
 -- the direction of a port of the cell, where it has one
 abbrev pub direction_in : Design → Option CellId → ℕ → Option Direction
-direction_in d cell port =
-    option_and_then (λ p. p.direction) (option_and_then (λ body. slice_get body.ports port) (option_and_then (cell_at d) cell))
+direction_in d cell port = option_and_then (λ p. p.direction) (port_of_cell d cell port)

@@ -5,13 +5,13 @@ ghost use Rattle.std.specs.Option.{option_to_list};
 ghost use Rattle.flat_spec.specs.ConnectionTest.{same_net};
 ghost use Rattle.flat_spec.specs.PathOrder.{NetBefore};
 ghost use Rattle.flat_spec.specs.Types.{NetAt as Place};
-ghost use Rattle.walk_items.specs.Lent.{net_of};
+ghost use Rattle.flat_items.specs.Lent.{net_of};
 ghost use Rattle.erc_check.specs.Firsts.{drive_after, first_found, IsPlaceOf, IsSearched, net_order, one_more, one_pin_more, with_note};
 
 use erc_spec::Finding;
+use flat_items::NetRef;
 use flat_spec::NetAt;
 use std::cmp::Ordering;
-use walk_items::NetRef;
 
 /// A net that is the first of those connected with it, and how many of the pins that were seen drive it strongly: nothing where none of
 /// them drives it.

@@ -1,7 +1,7 @@
 //! The electrical check of a design: what it finds, by one walk over the flattening.
 #![tactic(auto)]
 
-pub mod check;
+mod check;
 mod firsts;
 mod ports;
 mod tally;

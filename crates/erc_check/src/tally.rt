@@ -6,7 +6,7 @@ ghost use Rattle.flat_spec.specs.ConnectionTest.{same_net};
 ghost use Rattle.flat_spec.specs.PathOrder.{NetBefore};
 ghost use Rattle.flat_spec.specs.Paths.{at_path};
 ghost use Rattle.flat_spec.specs.Types.{Item as Shows, NetAt as Place};
-ghost use Rattle.walk_items.specs.Lent.{item_of, net_of};
+ghost use Rattle.flat_items.specs.Lent.{item_of, net_of};
 ghost use Rattle.erc_spec.specs.Drives.{is_open_port};
 ghost use Rattle.erc_spec.specs.Findings.{findings_in, first_net};
 ghost use Rattle.erc_check.specs.Firsts.{first_found, with_note};
@@ -15,10 +15,10 @@ ghost use Rattle.erc_check.specs.Tally.{AddsAll, IsTally, drive_by};
 use crate::firsts::{FirstNet, add_pin};
 use crate::ports::{direction_in, is_either, is_open_port, is_strong_port};
 use erc_spec::Finding;
+use flat_items::{ItemRef, NetRef};
 use flat_spec::{Item, Path};
 use netlist_schema::{CellId, Direction, NoMemory, Row, Shown};
 use std::alloc::Global;
-use walk_items::{ItemRef, NetRef};
 
 /// What a check has seen of a flattening so far.
 pub struct Tally {

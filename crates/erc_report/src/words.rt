@@ -4,12 +4,12 @@ ghost use Rattle.std.specs.Fmt.{decimal};
 ghost use Rattle.flat_lines_spec.specs.Lines.{net_words, path_text, port_text};
 ghost use Rattle.erc_report.specs.Parts.{behind_blanks};
 
-use csv_report::places::{net_name, path_bytes, port_name};
+use csv_report::{net_name, path_bytes, port_name};
+use flat_items::NetRef;
 use flat_spec::{NetAt, Path};
 use itoa::Buffer;
 use netlist_schema::{NoMemory, Shown};
 use std::alloc::Global;
-use walk_items::NetRef;
 
 /// Appends a blank and a word.
 fn push_word(word: &[u8], out: &mut Vec<u8>) -> Result<(), NoMemory>

@@ -7,8 +7,7 @@ ghost use Rattle.erc_spec.specs.Lines.{finding_line, finding_lines, findings_tex
 use crate::lines::finding_text;
 use erc_check::erc_check;
 use erc_spec::Finding;
-use flat_writer::FlatError;
-use flat_writer::error::outcome;
+use flat_writer::{FlatError, outcome};
 use netdb_outside::{Appended, BufferedSink, Sink, WriteError};
 use netlist_schema::{NoMemory, Shown};
 use occ_walk::WalkError;

@@ -1,22 +1,15 @@
 -- Which pins drive the net at which they are.
-use Rattle.std.specs.Prelude.{ℕ, List, [], ◌∷◌, Bool, true, false, Option, Some, None, slice_get, option_and_then}
+use Rattle.std.specs.Prelude.{ℕ, List, [], ◌∷◌, Bool, true, false, Option, Some, None, option_and_then}
 use Rattle.std.specs.Option.{option_map_or}
-use Rattle.netlist_schema.specs.Design.{Design, cell_at}
-use Rattle.netlist_schema.specs.Types.{Direction, Port}
+use Rattle.netlist_schema.specs.Design.{Design}
+use Rattle.netlist_schema.specs.Types.{Direction}
 use Rattle.netlist_schema.specs.declared.cell.Direction.TheVariants.{Input, Output, Inout}
 use Rattle.flat_spec.specs.ConnectionTest.{same_net}
-use Rattle.flat_spec.specs.Paths.{cell_along}
+use Rattle.flat_spec.specs.Paths.{port_at}
 use Rattle.flat_spec.specs.Types.{Item, NetAt}
 use Rattle.flat_spec.specs.declared.item.Item.TheVariants.{Enter, Net, Pin}
 
--- the port of this number of the occurrence at the path, where there is one
-abbrev pub port_at : Design → List ℕ → ℕ → Option Port
-port_at d path port =
-    option_and_then (λ body. slice_get body.ports port)
-    (option_and_then (cell_at d)
-    (option_and_then (λ top. cell_along d top.cell path) d.top))
-
--- its direction, where it has one
+-- the direction of a port of the occurrence at the path, where it has one
 abbrev pub direction_at : Design → List ℕ → ℕ → Option Direction
 direction_at d path port = option_and_then (λ p. p.direction) (port_at d path port)
 

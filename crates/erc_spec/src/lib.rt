@@ -2,7 +2,12 @@
 //! the type of what is found, the definitions that contracts cite, what is written of it, and laws with worked designs.
 #![tactic(auto)]
 
-pub mod finding;
-pub mod laws;
+mod finding;
+mod laws;
 
 pub use finding::Finding;
+pub use laws::{
+    clash_is_found, levels_are_found, many_is_exact, nothing_is_found_in_counter, open_is_exact,
+    open_pins_are_told_in_order, ports_of_the_top_are_found, told_nets_are_there,
+    undriven_board_is_found, undriven_is_exact, weak_pins_drive,
+};

@@ -1,7 +1,7 @@
 //! The cells at and below a top, with the cells of their instances first.
 #![tactic(auto)]
 
-pub mod below;
+mod below;
 mod marks;
 
 pub use below::cells_below;

@@ -1,6 +1,6 @@
 //! Numbers that pairs join, each with the least of those to which the pairs lead from it.
 #![tactic(auto)]
 
-pub mod joined;
+mod joined;
 
 pub use joined::{Pair, least_joined};

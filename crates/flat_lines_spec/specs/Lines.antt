@@ -1,5 +1,5 @@
 -- The lines of a flattening, as a report shows them.
-use Rattle.std.specs.Prelude.{ℕ, List, [], ◌∷◌, ◌++◌, Option, Some, None, codes, length, map, take, slice_get, option_and_then, nat_lt, if◌then◌else◌}
+use Rattle.std.specs.Prelude.{ℕ, List, [], ◌∷◌, ◌++◌, Option, Some, None, codes, length, map, take, option_and_then, nat_lt, if◌then◌else◌}
 use Rattle.std.specs.List.{flat_map}
 use Rattle.std.specs.Option.{option_map_or}
 use Rattle.std.specs.Fmt.{decimal}
@@ -8,7 +8,7 @@ use Rattle.netlist_schema.specs.Types.{CellId}
 use Rattle.edif_spec.specs.PropertyText.{property_text}
 use Rattle.flat_spec.specs.Effective.{names_along}
 use Rattle.flat_spec.specs.Flattening.{flattening}
-use Rattle.flat_spec.specs.Paths.{at_path, cell_along, net_of}
+use Rattle.flat_spec.specs.Paths.{at_path, net_of, port_at}
 use Rattle.flat_spec.specs.Types.{Item, NetAt}
 use Rattle.flat_spec.specs.declared.item.Item.TheVariants.{Enter, Net, Pin}
 
@@ -29,10 +29,7 @@ abbrev pub cell_text : Design → CellId → List ℕ
 cell_text d id = option_map_or (λ body. body.name.id) (cell_at d id) []
 
 abbrev pub port_text : Design → List ℕ → ℕ → List ℕ
-port_text d path port = option_map_or (λ p. p.name.id)
-    (option_and_then (λ body. slice_get body.ports port)
-    (option_and_then (cell_at d)
-    (option_and_then (λ top. cell_along d top.cell path) d.top))) []
+port_text d path port = option_map_or (λ p. p.name.id) (port_at d path port) []
 
 abbrev pub net_text : Design → NetAt → List ℕ
 net_text d x = option_map_or (λ net. net.name.id) (option_and_then (λ top. net_of d top.cell x) d.top) []

@@ -1,8 +1,8 @@
 //! What stands in the cells of a design: instances and nets by the id of their cell, and where a path leads.
 #![tactic(auto)]
 
-pub mod contents;
-pub mod way;
+mod contents;
+mod way;
 
 pub use contents::{inst_at, insts_at, net_at, net_count, nets_at};
 pub use way::cell_along;

@@ -1,9 +1,9 @@
 -- What a line is made of: words behind blanks, identifiers behind `/`, and what stands at a place of the design.
 use Rattle.std.specs.Prelude.{ℕ, List, ◌++◌, codes, Option, slice_get, option_and_then}
 use Rattle.std.specs.List.{flat_map}
-use Rattle.netlist_schema.specs.Design.{Design, cell_at}
-use Rattle.netlist_schema.specs.Types.{CellId, Net, Port}
-use Rattle.flat_spec.specs.Paths.{cell_along, nets_at}
+use Rattle.netlist_schema.specs.Design.{Design}
+use Rattle.netlist_schema.specs.Types.{CellId, Net}
+use Rattle.flat_spec.specs.Paths.{nets_at}
 
 -- each word behind a blank
 abbrev pub behind_blanks : List (List ℕ) → List ℕ
@@ -13,13 +13,6 @@ behind_blanks words = flat_map (λ word. codes " " ++ word) words
 abbrev pub behind_slashes : List (List ℕ) → List ℕ
 behind_slashes names = flat_map (λ name. codes "/" ++ name) names
 
--- the cell of the occurrence at the path, where there is one
-abbrev pub cell_below_top : Design → List ℕ → Option CellId
-cell_below_top d path = option_and_then (λ top. cell_along d top.cell path) d.top
-
--- a port and a net of a cell, where there is the cell and it has one of that number
-abbrev pub port_in : Design → Option CellId → ℕ → Option Port
-port_in d cell port = option_and_then (λ body. slice_get body.ports port) (option_and_then (cell_at d) cell)
-
+-- a net of a cell, where there is the cell and it has one of that number
 abbrev pub net_in : Design → Option CellId → ℕ → Option Net
 net_in d cell net = option_and_then (λ id. slice_get (nets_at d id) net) cell

@@ -6,16 +6,16 @@ ghost use Rattle.edif_names.specs.Parts.{Grows};
 ghost use Rattle.flat_lines_spec.specs.Lines.{cell_text, item_line, item_words, lib_text, net_words, spaced};
 ghost use Rattle.edif_spec.specs.PropertyText.{property_text};
 ghost use Rattle.flat_report.specs.Parts.{behind_blanks};
-ghost use Rattle.walk_items.specs.Lent.{item_of, net_of, properties_of};
+ghost use Rattle.flat_items.specs.Lent.{item_of, net_of, properties_of};
 
 use crate::names::{cell_name, lib_name, port_name};
 use crate::paths::{push_first, push_net_words, push_place};
 use crate::words::{push_number, push_properties, push_word};
+use flat_items::{ItemRef, NetRef, PropertiesRef};
 use flat_spec::Item;
 use netlist_schema::{CellId, NoMemory, Shown};
 use path_texts::PathTexts;
 use std::alloc::Global;
-use walk_items::{ItemRef, NetRef, PropertiesRef};
 
 /// Appends the line of an item, with the line feed at its end: `inst PATH LIB CELL` and the properties; `net PATH NET` and the path
 /// and name of its representative; `pin PATH PORT BIT` and those of the representative of the net that joins the bit, or `-`. A

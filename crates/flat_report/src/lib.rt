@@ -1,7 +1,7 @@
 //! The items of a flattening, as lines of text.
 #![tactic(auto)]
 
-pub mod items;
+mod items;
 mod names;
 mod paths;
 mod words;

@@ -2,14 +2,15 @@
 ghost use Rattle.std.specs.Prelude.{◌≡◌, []};
 ghost use Rattle.std.specs.Option.{option_copied, option_map_or};
 ghost use Rattle.flat_lines_spec.specs.Lines.{cell_text, lib_text};
-ghost use Rattle.flat_report.specs.Parts.{net_in, port_in};
+ghost use Rattle.flat_report.specs.Parts.{net_in};
+ghost use Rattle.flat_spec.specs.Paths.{port_of_cell};
 
 use flat_lookup::net_at;
 use netlist_schema::{CellId, Net, Port, Shown};
 
 /// The port of this number of a cell, where there is the cell and such a port.
 fn port_in<S: Shown>(design: &S, cell: Option<CellId>, place: u32) -> Option<&Port>
-    ensures { option_copied result ≡ port_in (S.design design.now) cell place }
+    ensures { option_copied result ≡ port_of_cell (S.design design.now) cell place }
 {
     let Some(id) = cell else {
         return None;
@@ -31,7 +32,7 @@ fn net_in<S: Shown>(design: &S, cell: Option<CellId>, place: u32) -> Option<&Net
 }
 
 /// The identifier of the library of a cell; nothing where there is no such library.
-pub fn lib_name<S: Shown>(design: &S, id: CellId) -> &[u8]
+pub(crate) fn lib_name<S: Shown>(design: &S, id: CellId) -> &[u8]
     ensures { result.now ≡ lib_text (S.design design.now) id }
 {
     match design.lib(id.lib) {
@@ -41,7 +42,7 @@ pub fn lib_name<S: Shown>(design: &S, id: CellId) -> &[u8]
 }
 
 /// The identifier of a cell; nothing where there is no such cell.
-pub fn cell_name<S: Shown>(design: &S, id: CellId) -> &[u8]
+pub(crate) fn cell_name<S: Shown>(design: &S, id: CellId) -> &[u8]
     ensures { result.now ≡ cell_text (S.design design.now) id }
 {
     match design.cell(id) {
@@ -51,8 +52,8 @@ pub fn cell_name<S: Shown>(design: &S, id: CellId) -> &[u8]
 }
 
 /// The identifier of a port of a cell; nothing where there is no such port.
-pub fn port_name<S: Shown>(design: &S, cell: Option<CellId>, place: u32) -> &[u8]
-    ensures { result.now ≡ option_map_or (λ port. port.name.id) (port_in (S.design design.now) cell place) [] }
+pub(crate) fn port_name<S: Shown>(design: &S, cell: Option<CellId>, place: u32) -> &[u8]
+    ensures { result.now ≡ option_map_or (λ port. port.name.id) (port_of_cell (S.design design.now) cell place) [] }
 {
     match port_in(design, cell, place) {
         Some(port) => port.name.id.as_slice(),
@@ -61,7 +62,7 @@ pub fn port_name<S: Shown>(design: &S, cell: Option<CellId>, place: u32) -> &[u8
 }
 
 /// The identifier of a net of a cell; nothing where there is no such net.
-pub fn net_name<S: Shown>(design: &S, cell: Option<CellId>, place: u32) -> &[u8]
+pub(crate) fn net_name<S: Shown>(design: &S, cell: Option<CellId>, place: u32) -> &[u8]
     ensures { result.now ≡ option_map_or (λ net. net.name.id) (net_in (S.design design.now) cell place) [] }
 {
     match net_in(design, cell, place) {

@@ -5,15 +5,16 @@ ghost use Rattle.edif_names.specs.Parts.{Grows};
 ghost use Rattle.flat_spec.specs.Effective.{names_along};
 ghost use Rattle.flat_spec.specs.Paths.{at_path, cell_along};
 ghost use Rattle.flat_lines_spec.specs.Lines.{net_words, path_text};
-ghost use Rattle.flat_report.specs.Parts.{behind_blanks, behind_slashes, cell_below_top};
-ghost use Rattle.walk_items.specs.Lent.{net_of};
+ghost use Rattle.flat_report.specs.Parts.{behind_blanks, behind_slashes};
+ghost use Rattle.flat_spec.specs.Paths.{cell_below_top};
+ghost use Rattle.flat_items.specs.Lent.{net_of};
 
 use crate::names::net_name;
 use crate::words::push_word;
+use flat_items::NetRef;
 use flat_lookup::inst_at;
 use netlist_schema::{CellId, NoMemory, Shown};
 use path_texts::PathTexts;
-use walk_items::NetRef;
 
 /// Appends `/` and the identifier of each instance to which the steps lead from a cell, and returns the cell that they reach. A
 /// step that leads nowhere is the last, and then there is none. After `NoMemory` some bytes may stand behind those before.
@@ -97,7 +98,7 @@ fn push_path<S: Shown>(
 }
 
 /// Appends a blank and a path, and returns the cell that it reaches. After `NoMemory` some bytes may stand behind those before.
-pub fn push_place<S: Shown>(
+pub(crate) fn push_place<S: Shown>(
     design: &S,
     texts: &PathTexts<'_, S>,
     path: &[u32],
@@ -113,7 +114,7 @@ pub fn push_place<S: Shown>(
 }
 
 /// Appends the path and the identifier of a net, each behind a blank. After `NoMemory` some bytes may stand behind those before.
-pub fn push_net_words<S: Shown>(
+pub(crate) fn push_net_words<S: Shown>(
     design: &S,
     texts: &PathTexts<'_, S>,
     path: &[u32],
@@ -130,7 +131,7 @@ pub fn push_net_words<S: Shown>(
 
 /// Appends the path and the identifier of a representative, each behind a blank. After `NoMemory` some bytes may stand behind
 /// those before.
-pub fn push_first<S: Shown>(
+pub(crate) fn push_first<S: Shown>(
     design: &S,
     texts: &PathTexts<'_, S>,
     first: NetRef<'_>,

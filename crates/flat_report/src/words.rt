@@ -11,7 +11,7 @@ use netlist_schema::{NoMemory, Property};
 use std::alloc::Global;
 
 /// Appends a blank and a word. After `NoMemory` some bytes may stand behind those before.
-pub fn push_word(word: &[u8], out: &mut Vec<u8>) -> Result<(), NoMemory>
+pub(crate) fn push_word(word: &[u8], out: &mut Vec<u8>) -> Result<(), NoMemory>
     ensures ok { OnOk result (out.new.items ≡ out.old.items ++ (codes " " ++ word.now)) }
     ensures grows { Grows out.old.items out.new.items }
 {
@@ -21,7 +21,7 @@ pub fn push_word(word: &[u8], out: &mut Vec<u8>) -> Result<(), NoMemory>
 }
 
 /// Appends a blank and a number in decimal digits. After `NoMemory` some bytes may stand behind those before.
-pub fn push_number(number: u32, out: &mut Vec<u8>) -> Result<(), NoMemory>
+pub(crate) fn push_number(number: u32, out: &mut Vec<u8>) -> Result<(), NoMemory>
     ensures ok { OnOk result (out.new.items ≡ out.old.items ++ (codes " " ++ decimal number)) }
     ensures grows { Grows out.old.items out.new.items }
 {
@@ -30,7 +30,7 @@ pub fn push_number(number: u32, out: &mut Vec<u8>) -> Result<(), NoMemory>
 }
 
 /// Appends properties, each behind a blank. After `NoMemory` some bytes may stand behind those before.
-pub fn push_properties(
+pub(crate) fn push_properties(
     alloc: Global,
     properties: &[Property],
     out: &mut Vec<u8>,

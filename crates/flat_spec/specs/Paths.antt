@@ -4,7 +4,7 @@ use Rattle.std.specs.List.{Contains}
 use Rattle.std.specs.Option.{option_map_or}
 use Rattle.netlist_schema.specs.Design.{Design, cell_at, nets_of}
 use Rattle.netlist_schema.specs.Hierarchy.{insts_at}
-use Rattle.netlist_schema.specs.Types.{CellId, End, Net}
+use Rattle.netlist_schema.specs.Types.{CellId, End, Net, Port}
 use Rattle.flat_spec.specs.declared.item.NetAt.{NetAt}
 
 -- the nets of the cell with this id, none where there is no such cell
@@ -15,6 +15,18 @@ nets_at d id = option_map_or nets_of (cell_at d id) []
 abbrev pub cell_along : Design → CellId → List ℕ → Option CellId
 cell_along d c [] = Some c
 cell_along d c (i ∷ path) = option_and_then (λ inst. cell_along d inst.of path) (slice_get (insts_at d c) i)
+
+-- the cell of the occurrence at the path from the top, where there is one
+abbrev pub cell_below_top : Design → List ℕ → Option CellId
+cell_below_top d path = option_and_then (λ top. cell_along d top.cell path) d.top
+
+-- the port of this number of the cell, where there is the cell and it has one
+abbrev pub port_of_cell : Design → Option CellId → ℕ → Option Port
+port_of_cell d cell port = option_and_then (λ body. slice_get body.ports port) (option_and_then (cell_at d) cell)
+
+-- that of the occurrence at the path from the top
+abbrev pub port_at : Design → List ℕ → ℕ → Option Port
+port_at d path port = port_of_cell d (cell_below_top d path) port
 
 -- the path leads from the root to that cell
 abbrev pub Reaches : Design → CellId → List ℕ → CellId → Type 0

@@ -3,17 +3,17 @@ ghost use Rattle.std.specs.Prelude.{◌≡◌, ◌↔◌, ◌≤◌, ◌-◌, Er
 ghost use Rattle.netdb_outside.specs.Buffered.{Writes};
 ghost use Rattle.netdb_outside.specs.Outside.{Appends, AppendsFront, Rose};
 ghost use Rattle.flat_lines_spec.specs.Lines.{flattening_text};
-ghost use Rattle.walk_items.specs.Lent.{item_of};
+ghost use Rattle.flat_items.specs.Lent.{item_of};
 ghost use Rattle.flat_writer.specs.Given.{GivesItem, GivesLine, text_of_items};
 
 use crate::error::{FlatError, outcome};
 use crate::shown::{Line, keep_path};
+use flat_items::ItemRef;
 use netdb_outside::{BufferedSink, Sink, WriteError};
 use netlist_schema::Shown;
 use occ_walk::{Walk, WalkError};
 use path_texts::PathTexts;
 use std::alloc::Global;
-use walk_items::ItemRef;
 
 /// Writes the lines of a design's flattening, of at most so many items where there is a limit, and behind them `end`, or `more` where
 /// items are left. Items are lent one at a time, so memory is wanted as a walk wants it, and for a piece of some kilobytes; with a limit

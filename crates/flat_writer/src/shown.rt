@@ -1,14 +1,14 @@
 //! What is shown of an item: its line in a flattening.
 ghost use Rattle.std.specs.Prelude.{◌≡◌};
 ghost use Rattle.flat_lines_spec.specs.Lines.{item_line};
-ghost use Rattle.walk_items.specs.Lent.{item_of};
+ghost use Rattle.flat_items.specs.Lent.{item_of};
 
+use flat_items::ItemRef;
 use flat_report::kept_text;
 use netdb_outside::Appended;
 use netlist_schema::{NoMemory, Shown};
 use path_texts::PathTexts;
 use std::alloc::Global;
-use walk_items::ItemRef;
 
 /// The line of an item of a design, of which the text of a path is kept.
 #[derive(Drop)]
@@ -26,14 +26,14 @@ impl<'a, 'd, S: Shown> Appended for Line<'a, 'd, S> {
 }
 
 /// Keeps the text of the path of an item.
-pub fn keep_path<S: Shown>(texts: &mut PathTexts<'_, S>, item: ItemRef<'_>)
+pub(crate) fn keep_path<S: Shown>(texts: &mut PathTexts<'_, S>, item: ItemRef<'_>)
     ensures { texts.new ≡ texts.old }
 {
     texts.keep(path_of(item));
 }
 
 /// Keeps the text of the path of an item that has a row.
-pub fn keep_pin<S: Shown>(texts: &mut PathTexts<'_, S>, item: ItemRef<'_>)
+pub(crate) fn keep_pin<S: Shown>(texts: &mut PathTexts<'_, S>, item: ItemRef<'_>)
     ensures { texts.new ≡ texts.old }
 {
     if let ItemRef::Pin { path, .. } = item {

@@ -3,18 +3,18 @@ ghost use Rattle.std.specs.Prelude.{◌≡◌, ◌↔◌, ◌≤◌, ◌++◌, E
 ghost use Rattle.netdb_outside.specs.Buffered.{Writes};
 ghost use Rattle.netdb_outside.specs.Outside.{Appends, AppendsFront, Rose};
 ghost use Rattle.flat_csv_spec.specs.PinTable.{header as names_of_columns, pin_row as row_of_item, pin_rows, pin_table};
-ghost use Rattle.walk_items.specs.Lent.{item_of};
+ghost use Rattle.flat_items.specs.Lent.{item_of};
 ghost use Rattle.flat_writer.specs.Given.{GivesRow};
 
 use crate::error::{FlatError, outcome};
 use crate::shown::keep_pin;
 use csv_report::{RowSink, put_item};
+use flat_items::ItemRef;
 use netdb_outside::{Sink, WriteError};
 use netlist_schema::Shown;
 use occ_walk::{Walk, WalkError};
 use path_texts::PathTexts;
 use std::alloc::Global;
-use walk_items::ItemRef;
 
 /// Writes the pin table of a design: the names of the columns, and a row for each pin of its flattening. Items are lent one at a time,
 /// so memory is wanted as a walk wants it, and for a piece of some kilobytes.

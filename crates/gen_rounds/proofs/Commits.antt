@@ -5,11 +5,11 @@ use Rattle.netlist_schema.specs.Types.{Object}
 use Rattle.netlist_schema.specs.declared.memory.NoMemory.{NoMemory}
 use Rattle.edit_spec.specs.declared.ops.Op.{Op}
 use Rattle.edit_tx.specs.Facts.{HasRun, PinFacts, TxFacts, started}
-use Rattle.history_spec.specs.State.{LivePin, head}
-use Rattle.history_spec.specs.declared.event.Answer.TheVariants.{Committed, Conflict as Conflicted}
-use Rattle.history_spec.specs.declared.event.Call.TheVariants.{Commit}
-use Rattle.history_spec.specs.declared.event.Event.{Event}
-use Rattle.history_spec.proofs.Sound.{kept_up_after, one_pin}
+use Rattle.db_spec.specs.State.{LivePin, head}
+use Rattle.db_spec.specs.declared.event.Answer.TheVariants.{Committed, Conflict as Conflicted}
+use Rattle.db_spec.specs.declared.event.Call.TheVariants.{Commit}
+use Rattle.db_spec.specs.declared.event.Event.{Event}
+use Rattle.db_spec.proofs.Sound.{kept_up_after, one_pin}
 use Rattle.db_core.specs.Calls.{Accepts, Adds, commit_event, event_of}
 use Rattle.db_core.specs.Story.{Story, IsHistory, IsPinOf, state}
 use Rattle.gen_rounds.specs.Stand.{HasCommitted, IsAccepted}

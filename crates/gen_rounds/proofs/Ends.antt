@@ -4,18 +4,18 @@ use Rattle.std.proofs.lemmas.Bool.Decides.{nat_tests}
 use Rattle.netlist_schema.specs.Design.{Design}
 use Rattle.edit_spec.specs.declared.ops.Op.{Op}
 use Rattle.edit_tx.specs.Facts.{PinFacts}
-use Rattle.history_spec.specs.Answers.{HasPlaces}
-use Rattle.history_spec.specs.History.{Legal, state_after, version_at}
-use Rattle.history_spec.specs.State.{LivePin, IsLive, head, live_pin}
-use Rattle.history_spec.specs.declared.event.Answer.TheVariants.{Released, Collected, Committed}
-use Rattle.history_spec.specs.declared.event.Call.{Call}
-use Rattle.history_spec.specs.declared.event.Call.TheVariants.{Pin, Release, Collect, Commit}
-use Rattle.history_spec.specs.declared.event.Event.{Event}
-use Rattle.history_spec.proofs.Histories.{version_stays}
+use Rattle.db_spec.specs.Answers.{HasPlaces}
+use Rattle.db_spec.specs.History.{Legal, state_after, version_at}
+use Rattle.db_spec.specs.State.{LivePin, IsLive, head, live_pin}
+use Rattle.db_spec.specs.declared.event.Answer.TheVariants.{Released, Collected, Committed}
+use Rattle.db_spec.specs.declared.event.Call.{Call}
+use Rattle.db_spec.specs.declared.event.Call.TheVariants.{Pin, Release, Collect, Commit}
+use Rattle.db_spec.specs.declared.event.Event.{Event}
+use Rattle.db_spec.proofs.Histories.{version_stays}
 use Rattle.db_core.specs.Calls.{Adds, Pins, Releases, event_of}
 use Rattle.db_core.specs.Story.{Story, state}
 use Rattle.db_core.proofs.Commits.{grown_head}
-use Rattle.design_gen.specs.Generated.{edit_at, generated}
+use Rattle.gen_spec.specs.Generated.{edit_at, generated}
 use Rattle.gen_spec.specs.Calls.{collect_after, round, rounds}
 use Rattle.gen_rounds.specs.Stand.{HasCommitted, HasEnded, HasRun, IsPin, Stands, StandsAfter, StandsEdited, calls_until, edited, held}
 use Rattle.gen_rounds.proofs.Steps.{collected_on, committed_on, has_places, other_released, pin_is, pinned_on, released_on}

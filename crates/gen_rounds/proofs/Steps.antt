@@ -6,18 +6,18 @@ use Rattle.netlist_schema.specs.Design.{Design}
 use Rattle.edit_rules_spec.specs.declared.reply.Reply.{Reply}
 use Rattle.edit_spec.specs.declared.ops.Op.{Op}
 use Rattle.edit_tx.specs.Facts.{PinFacts}
-use Rattle.history_spec.specs.Answers.{HasPlaces}
-use Rattle.history_spec.specs.History.{version_at}
-use Rattle.history_spec.specs.Laws.{asked}
-use Rattle.history_spec.specs.State.{State, LivePin, after, head, live_pin, next_version}
-use Rattle.history_spec.specs.declared.event.Answer.TheVariants.{Pinned, Released, Collected, Committed}
-use Rattle.history_spec.specs.declared.event.Call.{Call}
-use Rattle.history_spec.specs.declared.event.Call.TheVariants.{Pin, Release, Collect, Commit}
-use Rattle.history_spec.specs.declared.event.Event.{Event}
-use Rattle.history_spec.proofs.Histories.{state_after-push}
+use Rattle.db_spec.specs.Answers.{HasPlaces}
+use Rattle.db_spec.specs.History.{version_at}
+use Rattle.db_spec.specs.Laws.{asked}
+use Rattle.db_spec.specs.State.{State, LivePin, after, head, live_pin, next_version}
+use Rattle.db_spec.specs.declared.event.Answer.TheVariants.{Pinned, Released, Collected, Committed}
+use Rattle.db_spec.specs.declared.event.Call.{Call}
+use Rattle.db_spec.specs.declared.event.Call.TheVariants.{Pin, Release, Collect, Commit}
+use Rattle.db_spec.specs.declared.event.Event.{Event}
+use Rattle.db_spec.proofs.Histories.{state_after-push}
 use Rattle.db_core.specs.Calls.{Adds, Pins, event_of}
 use Rattle.db_core.specs.Story.{Story, state}
-use Rattle.design_gen.specs.Generated.{generated}
+use Rattle.gen_spec.specs.Generated.{generated}
 use Rattle.gen_rounds.specs.Stand.{IsPin, Stands, held}
 
 -- the state is the one after the event

@@ -4,16 +4,16 @@ use Rattle.netlist_schema.specs.Design.{Design}
 use Rattle.edit_rules_spec.specs.declared.reply.Reply.{Reply}
 use Rattle.edit_spec.specs.declared.ops.Op.{Op}
 use Rattle.edit_tx.specs.Facts.{PinFacts, TxFacts}
-use Rattle.history_spec.specs.History.{version_at}
-use Rattle.history_spec.specs.Laws.{asked}
-use Rattle.history_spec.specs.State.{LivePin, head, live_pin}
-use Rattle.history_spec.specs.declared.event.Answer.TheVariants.{Committed}
-use Rattle.history_spec.specs.declared.event.Call.{Call}
-use Rattle.history_spec.specs.declared.event.Call.TheVariants.{Pin, Release, Commit}
-use Rattle.history_spec.specs.declared.event.Event.{Event}
+use Rattle.db_spec.specs.History.{version_at}
+use Rattle.db_spec.specs.Laws.{asked}
+use Rattle.db_spec.specs.State.{LivePin, head, live_pin}
+use Rattle.db_spec.specs.declared.event.Answer.TheVariants.{Committed}
+use Rattle.db_spec.specs.declared.event.Call.{Call}
+use Rattle.db_spec.specs.declared.event.Call.TheVariants.{Pin, Release, Commit}
+use Rattle.db_spec.specs.declared.event.Event.{Event}
 use Rattle.db_core.specs.Calls.{Accepts, Adds, event_of}
 use Rattle.db_core.specs.Story.{Story, state}
-use Rattle.design_gen.specs.Generated.{edit_at, generated}
+use Rattle.gen_spec.specs.Generated.{edit_at, generated}
 use Rattle.gen_spec.specs.Calls.{IsGenerated, rounds}
 
 -- the calls so far, the live pins, the number of pins made, the last version, and a bound on the number of events

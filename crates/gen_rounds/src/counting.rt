@@ -4,11 +4,11 @@ ghost use Rattle.netlist_schema.specs.declared.limits.TheConstants.{MOST_EVENTS}
 ghost use Rattle.gen_spec.specs.Summary.{counts_of, dropped_by, is_accepted, walked};
 ghost use Rattle.gen_rounds.specs.Counting.{with_item};
 
+use db_spec::{Answer, Event};
 use db_version::Snapshot;
 use edit_tx::Pin;
 use flat_spec::Item;
 use gen_spec::{Counts, Walked};
-use history_spec::{Answer, Event};
 use netlist_schema::NoMemory;
 use occ_walk::{Walk, WalkError};
 use std::alloc::Global;

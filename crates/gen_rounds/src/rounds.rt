@@ -3,8 +3,8 @@ ghost use Rattle.std.specs.Prelude.{◌≡◌, ◌≤◌, ◌<◌, ◌+◌, ◌*
 ghost use Rattle.edit_tx.specs.Facts.{HasRun};
 ghost use Rattle.db_core.specs.Calls.{Collects, PinsLast};
 ghost use Rattle.db_core.specs.Story.{IsPinOf, state};
-ghost use Rattle.history_spec.specs.Answers.{HasPlaces};
-ghost use Rattle.history_spec.specs.State.{head};
+ghost use Rattle.db_spec.specs.Answers.{HasPlaces};
+ghost use Rattle.db_spec.specs.State.{head};
 ghost use Rattle.gen_rounds.specs.Stand.{HasCommitted, IsAccepted, StandsAfter, StandsEdited};
 
 use db_core::{CollectError, CommitError, Core, PinError};
@@ -21,7 +21,7 @@ pub const EDITOR: u32 = 0;
 const ROUNDS_A_COLLECT: u32 = 16;
 
 /// Pins the last version, where the history has room for it.
-pub fn pin_last(core: &mut Core, caller: u32) -> Result<Pin, NoMemory>
+pub(crate) fn pin_last(core: &mut Core, caller: u32) -> Result<Pin, NoMemory>
     requires { HasPlaces (state core.old) 2 }
     ensures { IfOk result (λ pin. PinsLast core.old core.new caller (Ok pin)) }
 {
@@ -111,7 +111,7 @@ fn end_round(core: &mut Core, count: u32, passed: u32) -> Result<(), NoMemory>
 }
 
 /// All rounds, one after the other.
-pub fn take_rounds(alloc: Global, core: &mut Core, count: u32) -> Result<(), NoMemory>
+pub(crate) fn take_rounds(alloc: Global, core: &mut Core, count: u32) -> Result<(), NoMemory>
     requires count { count ≤ 4096 }
     requires stands { StandsAfter count 0 core.old }
     ensures { OnOk result (StandsAfter count count core.new) }

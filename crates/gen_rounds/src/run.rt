@@ -1,6 +1,6 @@
 //! The whole run.
 ghost use Rattle.std.specs.Prelude.{◌≡◌, ◌≤◌, IfOk};
-ghost use Rattle.design_gen.specs.Generated.{generated};
+ghost use Rattle.gen_spec.specs.Generated.{generated};
 ghost use Rattle.gen_rounds.specs.Stand.{HasEnded, HasRun, IsPin, StandsAfter};
 
 use crate::rounds::{EDITOR, pin_last, take_rounds};

@@ -2,10 +2,10 @@
 use Rattle.std.proofs.Common.{◌≡◌, ℕ, List, length, ap, ◌∙◌, subst}
 use Rattle.std.specs.List.{count_by, sum_by}
 use Rattle.edit_tx.specs.Facts.{PinFacts}
-use Rattle.history_spec.specs.History.{version_at}
-use Rattle.history_spec.specs.declared.event.Event.{Event}
+use Rattle.db_spec.specs.History.{version_at}
+use Rattle.db_spec.specs.declared.event.Event.{Event}
 use Rattle.db_core.specs.Story.{Story}
-use Rattle.design_gen.specs.Generated.{generated}
+use Rattle.gen_spec.specs.Generated.{generated}
 use Rattle.gen_spec.specs.Summary.{IsSummaryOf, dropped_by, is_accepted, summary_text, walked}
 use Rattle.gen_spec.specs.declared.summary.Summary.{Summary}
 use Rattle.gen_spec.specs.declared.summary.Walked.{Walked}

@@ -1,6 +1,6 @@
 -- What is told of a run.
 use Rattle.std.specs.Prelude.{◌≡◌, ℕ, List}
-use Rattle.history_spec.specs.declared.event.Event.{Event}
+use Rattle.db_spec.specs.declared.event.Event.{Event}
 use Rattle.gen_spec.specs.Calls.{IsGenerated}
 use Rattle.gen_spec.specs.Summary.{summary_of}
 use Rattle.gen_spec.specs.declared.summary.Summary.{Summary}

@@ -4,8 +4,7 @@ ghost use Rattle.gen_spec.specs.Summary.{IsSummaryOf};
 ghost use Rattle.gen_run.specs.Pieces.{summary_pieces, walk_pieces};
 ghost use Rattle.gen_run.specs.Told.{IsTold};
 
-use gen_rounds::counting::{commits_in, dropped_in, walk_pinned};
-use gen_rounds::run::{end, go_through};
+use gen_rounds::{commits_in, dropped_in, end, go_through, walk_pinned};
 use gen_spec::{Summary, Walked};
 use netlist_schema::{NoMemory, Text};
 use std::alloc::{AllocError, Global};

@@ -1,8 +1,8 @@
 -- One run, and so one summary.
 use Rattle.std.proofs.Common.{◌≡◌, ℕ, List, ap, sym, ◌∙◌}
-use Rattle.history_spec.specs.declared.event.Event.{Event}
-use Rattle.history_spec.proofs.Promised.{one_history}
-use Rattle.design_gen.specs.Generated.{generated}
+use Rattle.db_spec.specs.declared.event.Event.{Event}
+use Rattle.db_spec.proofs.Promised.{one_history}
+use Rattle.gen_spec.specs.Generated.{generated}
 use Rattle.gen_spec.specs.Calls.{IsGenerated}
 use Rattle.gen_spec.specs.Summary.{IsSummaryOf, summary_of, summary_text}
 

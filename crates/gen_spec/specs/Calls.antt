@@ -1,11 +1,11 @@
 -- The calls of the run that a number makes, and its history.
 use Rattle.std.specs.Prelude.{◌≡◌, ◌==◌, ℕ, zero, suc, ◌+◌, ◌%◌, if◌then◌else◌, List, [], ◌∷◌, ◌++◌, map}
-use Rattle.design_gen.specs.Generated.{generated, edit_at}
-use Rattle.history_spec.specs.History.{Legal}
-use Rattle.history_spec.specs.Laws.{asked}
-use Rattle.history_spec.specs.declared.event.Call.{Call}
-use Rattle.history_spec.specs.declared.event.Call.TheVariants.{Pin, Release, Collect, Commit}
-use Rattle.history_spec.specs.declared.event.Event.{Event}
+use Rattle.gen_spec.specs.Generated.{generated, edit_at}
+use Rattle.db_spec.specs.History.{Legal}
+use Rattle.db_spec.specs.Laws.{asked}
+use Rattle.db_spec.specs.declared.event.Call.{Call}
+use Rattle.db_spec.specs.declared.event.Call.TheVariants.{Pin, Release, Collect, Commit}
+use Rattle.db_spec.specs.declared.event.Event.{Event}
 
 -- after each sixteenth round caller 0 collects
 abbrev pub collect_after : ℕ → List (ℕ × Call)

@@ -5,11 +5,11 @@ use Rattle.netlist_schema.specs.Design.{Design}
 use Rattle.flat_spec.specs.Flattening.{flattening}
 use Rattle.flat_spec.specs.Types.{Item}
 use Rattle.flat_spec.specs.declared.item.Item.TheVariants.{Enter, Net, Pin}
-use Rattle.history_spec.specs.History.{version_at}
-use Rattle.history_spec.specs.declared.event.Answer.{Answer}
-use Rattle.history_spec.specs.declared.event.Answer.TheVariants.{Collected, Committed}
-use Rattle.history_spec.specs.declared.event.Event.{Event}
-use Rattle.design_gen.specs.Generated.{generated}
+use Rattle.db_spec.specs.History.{version_at}
+use Rattle.db_spec.specs.declared.event.Answer.{Answer}
+use Rattle.db_spec.specs.declared.event.Answer.TheVariants.{Collected, Committed}
+use Rattle.db_spec.specs.declared.event.Event.{Event}
+use Rattle.gen_spec.specs.Generated.{generated}
 use Rattle.gen_spec.specs.Calls.{IsGenerated}
 use Rattle.gen_spec.specs.declared.summary.Counts.{Counts}
 use Rattle.gen_spec.specs.declared.summary.Walked.{Walked}

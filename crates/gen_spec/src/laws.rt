@@ -2,7 +2,7 @@
 ghost use Rattle.std.specs.Prelude.{◌≡◌, ℕ, List};
 ghost use Rattle.gen_spec.specs.Calls.{IsGenerated};
 ghost use Rattle.gen_spec.specs.Summary.{IsSummaryOf};
-ghost use Rattle.history_spec.specs.declared.event.Event.{Event};
+ghost use Rattle.db_spec.specs.declared.event.Event.{Event};
 
 /// A number has one run at most: its callers and their calls determine each answer.
 pub fn one_run()

@@ -3,17 +3,17 @@ use Rattle.std.proofs.Common.{◌≡◌, ◌∙◌, ℕ, ◌+◌, ◌-◌, ◌�
 use Rattle.std.specs.Prelude.{MatchOption, Option, Some, None, codes}
 use Rattle.std.proofs.lemmas.List.{drop-map, length-drop, take_all}
 use Rattle.netlist_schema.specs.Design.{Design}
-use Rattle.history_spec.specs.Answers.{most_events}
-use Rattle.history_spec.specs.History.{Legal, version_at}
-use Rattle.history_spec.specs.declared.event.Event.{Event}
+use Rattle.db_spec.specs.Answers.{most_events}
+use Rattle.db_spec.specs.History.{Legal, version_at}
+use Rattle.db_spec.specs.declared.event.Event.{Event}
 use Rattle.db_core.specs.Story.{Story}
 use Rattle.script_spec.specs.Report.{HasFilled, transcript}
 use Rattle.script_spec.specs.Session.{Ending, Exchange, Full, LogFull, Nothing, Runs, Whole, Word, exchanges}
 use Rattle.script_spec.specs.Texts.{line}
 use Rattle.script_spec.specs.declared.script.ScriptLine.{ScriptLine}
 use Rattle.script_spec.specs.declared.script.Step.{Step}
-use Rattle.run_spec.specs.Calls.{Writes}
-use Rattle.run_spec.proofs.OneLine.{writes_none, writes_one}
+use Rattle.script_run_spec.specs.Calls.{Writes}
+use Rattle.script_run_spec.proofs.OneLine.{writes_none, writes_one}
 use Rattle.edit_spec.specs.declared.ops.Op.{Op}
 use Rattle.history_check_spec.specs.Left.{AreLoud, Between, EndsBy, Leads, Left, NoEnd, Phase}
 use Rattle.history_check_spec.proofs.Ending.{block_never, owes_again_never, owes_never, pin_never}

@@ -4,18 +4,18 @@ use Rattle.std.specs.Prelude.{slice_index_or}
 use Rattle.std.specs.List.{All, AllByRecursion}
 use Rattle.std.proofs.lemmas.List.Elements.{All-from_recursion}
 use Rattle.netlist_schema.specs.Design.{Design}
-use Rattle.history_spec.specs.History.{Legal}
-use Rattle.history_spec.specs.declared.event.Event.{Event}
+use Rattle.db_spec.specs.History.{Legal}
+use Rattle.db_spec.specs.declared.event.Event.{Event}
 use Rattle.db_core.specs.Story.{Story}
 use Rattle.script_spec.specs.Laws.{OneReport}
 use Rattle.script_spec.specs.Report.{HasFilled, Prints, Sessions, Story as Came, last_design}
 use Rattle.script_spec.specs.Session.{Session}
 use Rattle.script_spec.specs.declared.script.Step.{Step}
-use Rattle.joint_spec.specs.Written.{written_report}
-use Rattle.joint_spec.proofs.Texts.{report_is, transcripts}
+use Rattle.script_run_spec.specs.Written.{written_report}
+use Rattle.script_run_spec.proofs.Texts.{report_is, transcripts}
 use Rattle.history_check.proofs.Lengths.{printed_at}
 use Rattle.history_check.specs.Follow.{AllEnd, SomeNever}
-use Rattle.history_check.specs.Verdicts.{PrintsNone, PrintsOnly, PrintsSome}
+use Rattle.history_check_spec.specs.Printed.{PrintsNone, PrintsOnly, PrintsSome}
 
 -- what all came to
 record AllCame (story : Story) (caller : ℕ) (scripts : List (List Step)) (texts : List (List ℕ)) : Type 0 where

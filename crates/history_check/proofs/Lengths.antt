@@ -4,17 +4,17 @@ use Rattle.std.specs.Prelude.{codes, decimal, drop, set, slice_index_or}
 use Rattle.std.specs.List.{All}
 use Rattle.netlist_schema.specs.Design.{Design}
 use Rattle.edif_spec.specs.Arranged.{canonical_text}
-use Rattle.history_spec.specs.History.{Legal, version_at}
-use Rattle.history_spec.specs.declared.event.Event.{Event}
+use Rattle.db_spec.specs.History.{Legal, version_at}
+use Rattle.db_spec.specs.declared.event.Event.{Event}
 use Rattle.db_core.specs.Story.{Story}
 use Rattle.script_spec.specs.Report.{HasFilled, Prints, Sessions, Story as Came, last_design, report as report_of, script_texts, transcript}
 use Rattle.script_spec.specs.Session.{Ending, Exchange, Nothing, Runs, Session, Word, exchanges}
 use Rattle.script_spec.specs.Texts.{event_texts, line}
 use Rattle.script_spec.specs.declared.script.Step.{Step}
 use Rattle.script_spec.proofs.Stays.{filter_append}
-use Rattle.run_spec.proofs.Along.{transcript-append}
+use Rattle.script_run_spec.proofs.Along.{transcript-append}
 use Rattle.history_check.specs.Follow.{AllStand, EndsNever, IsRestOf, IsTooLong, said_by}
-use Rattle.history_check.specs.Verdicts.{PrintsNone}
+use Rattle.history_check_spec.specs.Printed.{PrintsNone}
 use Rattle.history_turns.specs.Moves.{SaysTooMuch}
 use Rattle.history_turns.specs.Seats.{Stands, phase_of}
 use Rattle.history_turns.specs.declared.seats.Seat.{Seat}

@@ -3,8 +3,8 @@ use Rattle.std.proofs.Common.{◌≡◌, ◌∙◌, ℕ, ◌+◌, ◌≤◌, ◌
 use Rattle.std.specs.Prelude.{codes}
 use Rattle.std.proofs.lemmas.List.{append_cancel_left, length-append}
 use Rattle.netlist_schema.specs.Design.{Design}
-use Rattle.history_spec.specs.History.{Legal}
-use Rattle.history_spec.specs.declared.event.Event.{Event}
+use Rattle.db_spec.specs.History.{Legal}
+use Rattle.db_spec.specs.declared.event.Event.{Event}
 use Rattle.db_core.specs.Calls.{Adds, event_of}
 use Rattle.db_core.specs.Story.{Story}
 use Rattle.db_core.proofs.Staying.{still_legal}
@@ -17,7 +17,7 @@ use Rattle.history_check_spec.proofs.Meeting.{event_stays}
 use Rattle.history_check_spec.proofs.Rests.{begins_history, ends_with, goes_on, next, call_is, admitted, rest_of_all}
 use Rattle.report_parts.specs.Parts.{Heads, HeadsNone}
 use Rattle.history_check.specs.Follow.{IsBehind, IsCalled, IsRestOf, IsStopped}
-use Rattle.history_check.specs.Verdicts.{PrintsNone, PrintsOnly}
+use Rattle.history_check_spec.specs.Printed.{PrintsNone, PrintsOnly}
 use Rattle.report_parts.specs.declared.heads.Next.{Next}
 use Rattle.history_turns.specs.declared.seats.Seat.{Seat}
 use Rattle.history_turns.proofs.Turning.{story_is}

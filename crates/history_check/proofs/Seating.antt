@@ -9,8 +9,8 @@ use Rattle.std.proofs.Math.Seq.{get_or-append_seam}
 use Rattle.std.proofs.lemmas.Grind.{get_or-set_at}
 use Rattle.std.proofs.lemmas.List.Elements.{All-append, All-from_recursion}
 use Rattle.netlist_schema.specs.Design.{Design}
-use Rattle.history_spec.specs.History.{Legal}
-use Rattle.history_spec.specs.declared.event.Event.{Event}
+use Rattle.db_spec.specs.History.{Legal}
+use Rattle.db_spec.specs.declared.event.Event.{Event}
 use Rattle.db_core.specs.Calls.{event_of}
 use Rattle.db_core.specs.Story.{Story, shot, state}
 use Rattle.script_spec.specs.Headline.{CanWalk, HasWalk, SomeWalks}
@@ -20,14 +20,14 @@ use Rattle.script_spec.specs.Report.{last_design}
 use Rattle.script_spec.specs.Texts.{event_text}
 use Rattle.script_spec.specs.declared.script.ScriptLine.{ScriptLine}
 use Rattle.script_spec.specs.declared.script.Step.{Step}
-use Rattle.joint_spec.specs.Scripts.{all_steps}
-use Rattle.joint_spec.specs.Written.{written_report}
+use Rattle.script_run_spec.specs.Scripts.{all_steps}
+use Rattle.script_run_spec.specs.Written.{written_report}
 use Rattle.history_check_spec.proofs.Heads.{event_head}
 use Rattle.history_check.specs.Follow.{AllEnd, AllStand, CallComes, Ends, EndsNever, IsCalled, IsRestOf, IsStopped, IsTooLong, IsBehind, Reached, SomeNever, said_by}
 use Rattle.history_turns.specs.Moves.{IsHalted, IsStuck, SaysTooMuch, Turned}
 use Rattle.history_turns.specs.Seats.{HasPlace, HasTop, IsAt, IsOpen, Stands, phase_of}
 use Rattle.report_parts.specs.Parts.{Heads, HeadsNone}
-use Rattle.history_check.specs.Verdicts.{CannotWalk, PrintsNone, PrintsOnly, PrintsSome}
+use Rattle.history_check_spec.specs.Printed.{CannotWalk, PrintsNone, PrintsOnly, PrintsSome}
 use Rattle.report_parts.specs.declared.heads.Next.{Next}
 use Rattle.history_turns.specs.declared.seats.Seat.{Seat}
 use Rattle.history_check.proofs.Lengths.{too_long_prints}

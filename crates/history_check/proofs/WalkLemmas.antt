@@ -8,7 +8,7 @@ use Rattle.script_spec.specs.ScriptText.{Parts, steps_of}
 use Rattle.script_spec.specs.declared.script.ScriptLine.{ScriptLine}
 use Rattle.script_spec.specs.declared.script.Step.{Step}
 use Rattle.script_spec.specs.declared.script.Step.TheVariants.{Walk}
-use Rattle.joint_spec.specs.Scripts.{all_steps}
+use Rattle.script_run_spec.specs.Scripts.{all_steps}
 use Rattle.history_check.specs.Walking.{is_walk}
 
 -- a line walks, as a test

@@ -4,11 +4,11 @@ use Rattle.std.specs.Prelude.{◌↔◌, IsTrue, codes}
 use Rattle.std.proofs.lemmas.List.{append_cancel_left}
 use Rattle.netlist_schema.specs.Design.{Design}
 use Rattle.edif_spec.specs.Arranged.{canonical_text}
-use Rattle.history_spec.specs.declared.event.Event.{Event}
+use Rattle.db_spec.specs.declared.event.Event.{Event}
 use Rattle.db_core.specs.Story.{Story}
 use Rattle.script_spec.specs.Report.{last_design}
 use Rattle.script_spec.specs.Texts.{event_texts, line}
-use Rattle.joint_spec.specs.Written.{numbered_texts, written_report}
+use Rattle.script_run_spec.specs.Written.{numbered_texts, written_report}
 use Rattle.report_parts.specs.Parts.{rest_text}
 use Rattle.history_check.specs.Follow.{IsBehind}
 

@@ -3,16 +3,16 @@ use Rattle.std.specs.Prelude.{◌≡◌, ◌<◌, ◌≤◌, ◌⊎◌, ◌+◌,
 use Rattle.std.specs.List.{All}
 use Rattle.netlist_schema.specs.Design.{Design}
 use Rattle.edif_spec.specs.Arranged.{canonical_text}
-use Rattle.history_spec.specs.History.{version_at}
-use Rattle.history_spec.specs.declared.event.Answer.{Answer}
-use Rattle.history_spec.specs.declared.event.Call.{Call}
-use Rattle.history_spec.specs.declared.event.Event.{Event}
+use Rattle.db_spec.specs.History.{version_at}
+use Rattle.db_spec.specs.declared.event.Answer.{Answer}
+use Rattle.db_spec.specs.declared.event.Call.{Call}
+use Rattle.db_spec.specs.declared.event.Event.{Event}
 use Rattle.db_core.specs.Calls.{Adds, event_of}
 use Rattle.db_core.specs.Story.{Story}
 use Rattle.script_spec.specs.Report.{HasFilled, Prints, Story as Came, last_design, transcript}
 use Rattle.script_spec.specs.Session.{Ending, Full, LogFull, Nothing, Session, Whole, Word, exchanges}
 use Rattle.script_spec.specs.Texts.{event_texts, line}
-use Rattle.joint_spec.specs.Written.{numbered_texts}
+use Rattle.script_run_spec.specs.Written.{numbered_texts}
 use Rattle.script_spec.specs.declared.script.Step.{Step}
 use Rattle.history_check_spec.specs.Heads.{begins_with_r, behind_events, head_text}
 use Rattle.history_check_spec.specs.Left.{Between, EndsBy, Leads, NoEnd, Phase, next_call}

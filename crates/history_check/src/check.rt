@@ -1,16 +1,17 @@
 //! Whether a report is true.
 ghost use Rattle.std.specs.Prelude.{◌≡◌, ◌≤◌, ◌↔◌, [], List, IfOk, IsTrue, MatchBool, MatchOption, length, vec_len};
-ghost use Rattle.history_spec.specs.Answers.{most_events};
+ghost use Rattle.db_spec.specs.Answers.{most_events};
 ghost use Rattle.script_spec.specs.Headline.{CanWalk};
-ghost use Rattle.joint_spec.specs.Scripts.{all_steps};
+ghost use Rattle.script_run_spec.specs.Scripts.{all_steps};
 ghost use Rattle.std.specs.Prelude.{◌<◌, ℕ, slice_index_or};
-ghost use Rattle.history_spec.specs.History.{Legal};
+ghost use Rattle.db_spec.specs.History.{Legal};
 ghost use Rattle.db_core.specs.Story.{Story};
 ghost use Rattle.history_check.specs.Follow.{AllEnd, AllStand, IsBehind, SomeNever};
 ghost use Rattle.history_turns.specs.Seats.{HasPlace};
 ghost use Rattle.history_turns.specs.declared.seats.Seat.{Seat as SeatFacts};
 ghost use Rattle.history_check.specs.declared.check.CheckError.TheVariants.{NoMemory as OutOfMemory};
-ghost use Rattle.history_check.specs.Verdicts.{CannotWalk, Checks, PrintsNone, PrintsOnly, PrintsSome};
+ghost use Rattle.history_check.specs.Verdicts.{Checks};
+ghost use Rattle.history_check_spec.specs.Printed.{CannotWalk, PrintsNone, PrintsOnly, PrintsSome};
 
 use crate::ends::finish;
 use crate::replay::{open_seats, replay};
@@ -19,8 +20,7 @@ use db_core::Core;
 use history_turns::Seat;
 use netlist_schema::{Design, NoMemory, Row, Shown, Text};
 use report_parts::{after, is_rest};
-use script_spec::Script;
-use script_spec::laws::one_report;
+use script_spec::{Script, one_report};
 use std::alloc::Global;
 
 /// Whether a text is the report of some history.

@@ -1,7 +1,7 @@
 //! How a script ends whose caller makes no more calls.
 ghost use Rattle.std.specs.Prelude.{◌≡◌, ◌+◌, ◌<◌, ◌≤◌, ℕ, IfOk, MatchOption, length};
-ghost use Rattle.history_spec.specs.Answers.{most_events};
-ghost use Rattle.history_spec.specs.History.{Legal};
+ghost use Rattle.db_spec.specs.Answers.{most_events};
+ghost use Rattle.db_spec.specs.History.{Legal};
 ghost use Rattle.db_core.specs.Story.{Story};
 ghost use Rattle.script_spec.specs.Headline.{HasWalk};
 ghost use Rattle.script_spec.specs.ScriptText.{steps_of};
@@ -11,8 +11,7 @@ ghost use Rattle.history_check.specs.Follow.{Ends, EndsNever, IsEnd};
 ghost use Rattle.history_turns.specs.Seats.{HasTop, Stands, phase_of};
 
 use history_turns::{At, Seat, pass_quiet};
-use netlist_schema::limits::MOST_EVENTS;
-use netlist_schema::{NoMemory, Text};
+use netlist_schema::{MOST_EVENTS, NoMemory, Text};
 use script_say::say_log_full;
 use script_spec::{ScriptLine, Step};
 use std::alloc::Global;

@@ -1,7 +1,7 @@
 //! Whether a printed report is true: a replay of its events on a database of one thread, script by script, and a comparison of bytes.
 #![tactic(auto)]
 
-pub mod check;
+mod check;
 mod ends;
 mod replay;
 mod walking;

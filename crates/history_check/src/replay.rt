@@ -1,14 +1,14 @@
 //! The events of a report, made again on a database.
 ghost use Rattle.std.specs.Prelude.{◌≡◌, ◌++◌, ◌∷◌, ◌<◌, ◌≤◌, ◌-◌, [], List, ℕ, IfOk, IfSome, MatchOption, OnSome, length, set, slice_index_or, vec_len};
 ghost use Rattle.std.specs.List.{All};
-ghost use Rattle.history_spec.specs.declared.event.Event.{Event};
+ghost use Rattle.db_spec.specs.declared.event.Event.{Event};
 ghost use Rattle.script_spec.specs.Headline.{CanWalk};
 ghost use Rattle.script_spec.specs.Report.{last_design};
 ghost use Rattle.script_spec.specs.Texts.{event_text as text_of_event};
-ghost use Rattle.joint_spec.specs.Scripts.{all_steps};
+ghost use Rattle.script_run_spec.specs.Scripts.{all_steps};
 ghost use Rattle.history_check.specs.Follow.{AllStand, CallComes, IsBehind, IsRestOf, said_by};
 ghost use Rattle.history_turns.specs.Seats.{IsOpen};
-ghost use Rattle.history_check.specs.Verdicts.{PrintsNone, PrintsOnly};
+ghost use Rattle.history_check_spec.specs.Printed.{PrintsNone, PrintsOnly};
 
 use db_core::Core;
 use history_turns::{At, Seat, take_turn};

@@ -5,9 +5,9 @@ use Rattle.netlist_schema.specs.Design.{Design}
 use Rattle.netlist_schema.specs.Types.{Object}
 use Rattle.edit_spec.specs.declared.ops.Op.{Op}
 use Rattle.edit_rules_spec.specs.declared.reply.Reply.{Reply}
-use Rattle.history_spec.specs.declared.event.Answer.{Answer}
-use Rattle.history_spec.specs.declared.event.Answer.TheVariants as answer
-use Rattle.history_spec.specs.declared.event.Call.TheVariants as call
+use Rattle.db_spec.specs.declared.event.Answer.{Answer}
+use Rattle.db_spec.specs.declared.event.Answer.TheVariants as answer
+use Rattle.db_spec.specs.declared.event.Call.TheVariants as call
 use Rattle.script_spec.specs.Session.{Accepts, Began, BeginsAgain, Commits, Committed, Conflict, Ending, Exchange, InBlock, LogFull, Nothing, On, Outcome, Refused, Runs, Stop, Told, Word, release, replied}
 use Rattle.script_spec.specs.declared.script.Step.{Step}
 use Rattle.script_spec.specs.declared.script.Step.TheVariants as step

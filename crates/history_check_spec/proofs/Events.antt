@@ -1,10 +1,10 @@
 -- The texts of events as their history goes on.
 use Rattle.std.proofs.Common.{◌≡◌, ◌∙◌, ℕ, ◌+◌, List, [], ◌∷◌, ◌++◌, length, refl, ap, sym, subst, arith, append_assoc, append-nil}
 use Rattle.netlist_schema.specs.Design.{Design}
-use Rattle.history_spec.specs.History.{Legal}
-use Rattle.history_spec.specs.State.{opening}
-use Rattle.history_spec.specs.declared.event.Event.{Event}
-use Rattle.history_spec.proofs.Histories.{legal-left}
+use Rattle.db_spec.specs.History.{Legal}
+use Rattle.db_spec.specs.State.{opening}
+use Rattle.db_spec.specs.declared.event.Event.{Event}
+use Rattle.db_spec.proofs.Histories.{legal-left}
 use Rattle.script_spec.specs.Report.{last_design}
 use Rattle.script_spec.specs.Texts.{event_text, event_texts}
 use Rattle.history_check_spec.proofs.Meeting.{event_stays}

@@ -8,9 +8,9 @@ use Rattle.std.proofs.lemmas.Str.Parse.{tells_all_ascii_digits}
 use Rattle.netlist_schema.specs.Design.{Design}
 use Rattle.edif_spelling_spec.proofs.IntegerLemmas.{digits_test}
 use Rattle.edif_spec.specs.Arranged.{canonical_text}
-use Rattle.history_spec.specs.declared.event.Call.{Call}
-use Rattle.history_spec.specs.declared.event.Call.TheVariants.{Pin, PinAt, Release, Collect, Commit}
-use Rattle.history_spec.specs.declared.event.Event.{Event}
+use Rattle.db_spec.specs.declared.event.Call.{Call}
+use Rattle.db_spec.specs.declared.event.Call.TheVariants.{Pin, PinAt, Release, Collect, Commit}
+use Rattle.db_spec.specs.declared.event.Event.{Event}
 use Rattle.flat_lines_spec.specs.Lines.{spaced}
 use Rattle.script_spec.specs.Report.{Story, last_design, report, script_texts}
 use Rattle.script_spec.specs.Texts.{answer_words, call_words, event_text, event_texts, line, op_lines, ops_of, replies_of}

@@ -3,10 +3,10 @@ use Rattle.std.proofs.Common.{◌≡◌, ◌∙◌, ℕ, List, [], ◌∷◌, �
 use Rattle.std.specs.Prelude.{◌⊎◌}
 use Rattle.netlist_schema.specs.Design.{Design}
 use Rattle.edit_spec.specs.declared.ops.Op.{Op}
-use Rattle.history_spec.specs.declared.event.Answer.{Answer}
-use Rattle.history_spec.specs.declared.event.Answer.TheVariants as answer
-use Rattle.history_spec.specs.declared.event.Call.{Call}
-use Rattle.history_spec.specs.declared.event.Call.TheVariants as call
+use Rattle.db_spec.specs.declared.event.Answer.{Answer}
+use Rattle.db_spec.specs.declared.event.Answer.TheVariants as answer
+use Rattle.db_spec.specs.declared.event.Call.{Call}
+use Rattle.db_spec.specs.declared.event.Call.TheVariants as call
 use Rattle.script_spec.specs.Session.{Abandoned, Began, Collected, Does, Ending, Exchange, Goes, Gone, Held, InBlock, LogFull, NoPin, NoVersion, Nothing, OffPin, On, OnPin, Outcome, Pinned, Refused, Released, Replied, Stop, Told, Walked, Word, last_release, release, reply_behind}
 use Rattle.script_spec.specs.declared.script.Step.{Step}
 use Rattle.script_spec.specs.declared.script.Step.TheVariants as step

@@ -6,18 +6,18 @@ use Rattle.std.proofs.lemmas.Bool.Decides.{nat_tests}
 use Rattle.std.proofs.lemmas.List.Elements.{All-contains}
 use Rattle.netlist_schema.specs.Design.{Design}
 use Rattle.edit_rules_spec.specs.Objects.{Grown}
-use Rattle.history_spec.specs.Answers.{Admits}
-use Rattle.history_spec.specs.History.{Legal, state_after}
-use Rattle.history_spec.specs.State.{head, opening}
-use Rattle.history_spec.specs.declared.event.Answer.{Answer}
-use Rattle.history_spec.specs.declared.event.Answer.TheVariants as answer
-use Rattle.history_spec.specs.declared.event.Call.{Call}
-use Rattle.history_spec.specs.declared.event.Call.TheVariants as call
-use Rattle.history_spec.specs.declared.event.Event.{Event}
-use Rattle.history_spec.proofs.Histories.{legal-right, version_stays}
-use Rattle.history_spec.proofs.Lists.{in_head, in_tail}
-use Rattle.history_spec.proofs.Made.{conflict_is_there}
-use Rattle.history_spec.proofs.Promised.{growth}
+use Rattle.db_spec.specs.Answers.{Admits}
+use Rattle.db_spec.specs.History.{Legal, state_after}
+use Rattle.db_spec.specs.State.{head, opening}
+use Rattle.db_spec.specs.declared.event.Answer.{Answer}
+use Rattle.db_spec.specs.declared.event.Answer.TheVariants as answer
+use Rattle.db_spec.specs.declared.event.Call.{Call}
+use Rattle.db_spec.specs.declared.event.Call.TheVariants as call
+use Rattle.db_spec.specs.declared.event.Event.{Event}
+use Rattle.db_spec.proofs.Histories.{legal-right, version_stays}
+use Rattle.db_spec.proofs.Lists.{in_head, in_tail}
+use Rattle.db_spec.proofs.Made.{conflict_is_there}
+use Rattle.db_spec.proofs.Promised.{growth}
 use Rattle.script_spec.specs.Report.{Sessions, Story, last_design}
 use Rattle.script_spec.specs.Session.{Exchange, Session, Told, exchanges}
 use Rattle.script_spec.specs.Texts.{call_words, event_text, line, op_lines}

@@ -4,15 +4,15 @@ use Rattle.std.specs.Prelude.{Some, codes}
 use Rattle.std.specs.List.{All}
 use Rattle.std.proofs.lemmas.List.{append_cancel_left}
 use Rattle.netlist_schema.specs.Design.{Design}
-use Rattle.history_spec.specs.Answers.{Answers, most_events, places}
-use Rattle.history_spec.specs.History.{Legal, state_after, version_at}
-use Rattle.history_spec.specs.State.{opening}
-use Rattle.history_spec.specs.declared.event.Answer.{Answer}
-use Rattle.history_spec.specs.declared.event.Call.{Call}
-use Rattle.history_spec.specs.declared.event.Event.{Event}
-use Rattle.history_spec.proofs.Histories.{legal-left}
-use Rattle.history_spec.proofs.Kept.{events_after}
-use Rattle.history_spec.proofs.Promised.{growth, one_answer}
+use Rattle.db_spec.specs.Answers.{Answers, most_events, places}
+use Rattle.db_spec.specs.History.{Legal, state_after, version_at}
+use Rattle.db_spec.specs.State.{opening}
+use Rattle.db_spec.specs.declared.event.Answer.{Answer}
+use Rattle.db_spec.specs.declared.event.Call.{Call}
+use Rattle.db_spec.specs.declared.event.Event.{Event}
+use Rattle.db_spec.proofs.Histories.{legal-left}
+use Rattle.db_spec.proofs.Kept.{events_after}
+use Rattle.db_spec.proofs.Promised.{growth, one_answer}
 use Rattle.script_spec.specs.Report.{Prints, Story, last_design}
 use Rattle.script_spec.specs.Session.{Exchange, Nothing, Runs, Told, exchanges}
 use Rattle.script_spec.specs.Texts.{event_text, event_texts, line}

@@ -1,7 +1,7 @@
 -- What holds of printed reports.
 use Rattle.std.specs.Prelude.{◌≡◌, ◌<◌, ◌^◌, ℕ, List, length}
 use Rattle.netlist_schema.specs.Design.{Design}
-use Rattle.history_spec.specs.declared.event.Event.{Event}
+use Rattle.db_spec.specs.declared.event.Event.{Event}
 use Rattle.script_spec.specs.Report.{Prints}
 use Rattle.script_spec.specs.declared.script.Step.{Step}
 

@@ -2,9 +2,9 @@
 use Rattle.std.specs.Prelude.{◌≡◌, ℕ, ◌⊎◌, Bool, true, false, List, [], ◌∷◌, ◌++◌, Option, Some, None}
 use Rattle.netlist_schema.specs.Design.{Design}
 use Rattle.edit_spec.specs.declared.ops.Op.{Op}
-use Rattle.history_spec.specs.declared.event.Answer.TheVariants as answer
-use Rattle.history_spec.specs.declared.event.Call.{Call}
-use Rattle.history_spec.specs.declared.event.Call.TheVariants as call
+use Rattle.db_spec.specs.declared.event.Answer.TheVariants as answer
+use Rattle.db_spec.specs.declared.event.Call.{Call}
+use Rattle.db_spec.specs.declared.event.Call.TheVariants as call
 use Rattle.script_spec.specs.Session.{Began, Ending, Exchange, Full, Held, InBlock, LogFull, Nothing, OffPin, OnPin, Runs, Told, Word, release, replied}
 use Rattle.script_spec.specs.declared.script.Step.{Step}
 use Rattle.script_spec.specs.declared.script.Step.TheVariants as step

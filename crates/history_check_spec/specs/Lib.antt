@@ -1,3 +1,4 @@
 pub mod Heads
 pub mod Laws
 pub mod Left
+pub mod Printed

@@ -2,4 +2,6 @@
 //! definitions and laws, and no algorithm.
 #![tactic(auto)]
 
-pub mod laws;
+mod laws;
+
+pub use laws::one_printed;

@@ -7,14 +7,14 @@ use Rattle.edit_rules_spec.specs.declared.reply.Reply.{Reply}
 use Rattle.edit_spec.specs.Step.{run}
 use Rattle.edit_spec.specs.declared.ops.Op.{Op}
 use Rattle.edit_tx.specs.Facts.{PinFacts, TxFacts}
-use Rattle.history_spec.specs.Answers.{HasRoom}
-use Rattle.history_spec.specs.History.{Legal, version_at}
-use Rattle.history_spec.specs.declared.event.Answer.TheVariants as answer
-use Rattle.history_spec.specs.declared.event.Call.TheVariants as call
-use Rattle.history_spec.specs.declared.event.Event.{Event}
-use Rattle.history_spec.proofs.Histories.{legal-left, version_stays}
-use Rattle.history_spec.proofs.Made.{conflict_is_there}
-use Rattle.history_spec.specs.State.{opening}
+use Rattle.db_spec.specs.Answers.{HasRoom}
+use Rattle.db_spec.specs.History.{Legal, version_at}
+use Rattle.db_spec.specs.declared.event.Answer.TheVariants as answer
+use Rattle.db_spec.specs.declared.event.Call.TheVariants as call
+use Rattle.db_spec.specs.declared.event.Event.{Event}
+use Rattle.db_spec.proofs.Histories.{legal-left, version_stays}
+use Rattle.db_spec.proofs.Made.{conflict_is_there}
+use Rattle.db_spec.specs.State.{opening}
 use Rattle.db_core.specs.Calls.{Accepts, Adds, Pins, commit_event, commit_of, event_of}
 use Rattle.db_core.specs.Story.{Story, IsPinOf, state}
 use Rattle.db_core.proofs.Staying.{pinned_there, still_legal}
@@ -24,8 +24,8 @@ use Rattle.script_spec.specs.Texts.{conflict_words, line, reply_text}
 use Rattle.script_spec.specs.declared.script.Step.{Step}
 use Rattle.script_spec.specs.declared.script.Step.TheVariants as step
 use Rattle.script_spec.proofs.Settled.{words_stay}
-use Rattle.run_spec.specs.Calls.{Writes}
-use Rattle.run_spec.proofs.OneLine.{writes_one}
+use Rattle.script_run_spec.specs.Calls.{Writes}
+use Rattle.script_run_spec.proofs.OneLine.{writes_one}
 use Rattle.history_check_spec.specs.Left.{Again, Between, Leads}
 use Rattle.history_check_spec.proofs.Committing.{accepted_leads, again_leads, conflict_leads, gave_up_leads}
 use Rattle.history_check_spec.proofs.Meeting.{last_grown}

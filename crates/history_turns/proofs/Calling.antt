@@ -4,12 +4,12 @@ use Rattle.std.specs.Prelude.{Option, Some, None, Result, Ok, Err, IfOk, codes, 
 use Rattle.netlist_schema.specs.Design.{Design}
 use Rattle.edit_spec.specs.declared.ops.Op.{Op}
 use Rattle.edit_tx.specs.Facts.{PinFacts, started}
-use Rattle.history_spec.specs.Answers.{HasRoom}
-use Rattle.history_spec.specs.History.{Legal, version_at}
-use Rattle.history_spec.specs.declared.event.Answer.TheVariants as answer
-use Rattle.history_spec.specs.declared.event.Call.{Call}
-use Rattle.history_spec.specs.declared.event.Call.TheVariants as call
-use Rattle.history_spec.specs.declared.event.Event.{Event}
+use Rattle.db_spec.specs.Answers.{HasRoom}
+use Rattle.db_spec.specs.History.{Legal, version_at}
+use Rattle.db_spec.specs.declared.event.Answer.TheVariants as answer
+use Rattle.db_spec.specs.declared.event.Call.{Call}
+use Rattle.db_spec.specs.declared.event.Call.TheVariants as call
+use Rattle.db_spec.specs.declared.event.Event.{Event}
 use Rattle.db_core.specs.Calls.{Adds, Pins, Releases, event_of}
 use Rattle.db_core.specs.Story.{Story, state}
 use Rattle.db_core.proofs.Staying.{pin_stays_on}
@@ -18,8 +18,8 @@ use Rattle.script_spec.specs.Session.{Abandoned, Began, Collected, Gone, InBlock
 use Rattle.script_spec.specs.Texts.{line}
 use Rattle.script_spec.specs.declared.script.Step.{Step}
 use Rattle.script_spec.specs.declared.script.Step.TheVariants as step
-use Rattle.run_spec.specs.Calls.{Writes}
-use Rattle.run_spec.proofs.OneLine.{writes_none, writes_one}
+use Rattle.script_run_spec.specs.Calls.{Writes}
+use Rattle.script_run_spec.proofs.OneLine.{writes_none, writes_one}
 use Rattle.history_check_spec.specs.Left.{Between, Leads, Owes, Phase, next_call}
 use Rattle.history_check_spec.proofs.Committing.{full_commit_leads}
 use Rattle.history_check_spec.proofs.Leading.{abandon_leads, begin_leads, end_leads, free_collect_leads, full_collect_leads, gone_leads, no_version_leads, off_collect_leads, owes_again_leads, owes_leads, pin_at_leads, pin_collect_leads, pin_leads, release_leads}

@@ -6,7 +6,7 @@ use Rattle.std.proofs.lemmas.List.{drop-map, length-map}
 use Rattle.netlist_schema.specs.Design.{Design}
 use Rattle.edit_spec.specs.declared.ops.Op.{Op}
 use Rattle.edit_tx.specs.Facts.{HasRun, PinFacts, TxFacts}
-use Rattle.history_spec.specs.History.{Legal, version_at}
+use Rattle.db_spec.specs.History.{Legal, version_at}
 use Rattle.db_core.specs.Story.{Story}
 use Rattle.flat_lines_spec.specs.Lines.{flattening_text}
 use Rattle.script_spec.specs.Headline.{HasWalk, IsWalk}
@@ -16,8 +16,8 @@ use Rattle.script_spec.specs.Texts.{line, reply_text}
 use Rattle.script_spec.specs.declared.script.ScriptLine.{ScriptLine}
 use Rattle.script_spec.specs.declared.script.Step.{Step}
 use Rattle.script_spec.specs.declared.script.Step.TheVariants as step
-use Rattle.run_spec.proofs.Along.{transcript-append}
-use Rattle.run_spec.proofs.OneLine.{writes_none, writes_one}
+use Rattle.script_run_spec.proofs.Along.{transcript-append}
+use Rattle.script_run_spec.proofs.OneLine.{writes_none, writes_one}
 use Rattle.history_check_spec.specs.Left.{AreLoud, Between, IsLoud, Leads, Phase, next_call}
 use Rattle.history_check_spec.proofs.Leading.{leads_nowhere, leads_on, no_release_leads, no_walk_leads, run_leads, walk_leads}
 use Rattle.history_turns.specs.Moves.{HasPassed, Passed, Passes, PassesTooMuch, QuietBy, SaysTooMuch}

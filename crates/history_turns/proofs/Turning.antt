@@ -4,12 +4,12 @@ use Rattle.std.specs.Prelude.{Option, Some}
 use Rattle.std.proofs.lemmas.List.{drop-map, drop_all}
 use Rattle.netlist_schema.specs.Design.{Design}
 use Rattle.edit_tx.specs.Facts.{PinFacts}
-use Rattle.history_spec.specs.History.{Legal, state_after, version_at}
-use Rattle.history_spec.specs.State.{State, opening}
-use Rattle.history_spec.specs.declared.event.Call.{Call}
-use Rattle.history_spec.specs.declared.event.Event.{Event}
-use Rattle.history_spec.proofs.Histories.{goes_on_from}
-use Rattle.history_spec.proofs.Versions.{follows_after, grown_on}
+use Rattle.db_spec.specs.History.{Legal, state_after, version_at}
+use Rattle.db_spec.specs.State.{State, opening}
+use Rattle.db_spec.specs.declared.event.Call.{Call}
+use Rattle.db_spec.specs.declared.event.Event.{Event}
+use Rattle.db_spec.proofs.Histories.{goes_on_from}
+use Rattle.db_spec.proofs.Versions.{follows_after, grown_on}
 use Rattle.db_core.specs.Calls.{Adds, event_of}
 use Rattle.db_core.specs.Story.{Story, IsPinOf}
 use Rattle.db_core.proofs.Staying.{pinned_there}
@@ -18,8 +18,8 @@ use Rattle.script_spec.specs.Session.{Exchange, Nothing, Told, Word, exchanges}
 use Rattle.script_spec.specs.declared.script.ScriptLine.{ScriptLine}
 use Rattle.script_spec.specs.declared.script.Step.{Step}
 use Rattle.script_spec.proofs.Stays.{filter_append}
-use Rattle.run_spec.specs.Calls.{Writes}
-use Rattle.run_spec.proofs.Along.{transcript-append}
+use Rattle.script_run_spec.specs.Calls.{Writes}
+use Rattle.script_run_spec.proofs.Along.{transcript-append}
 use Rattle.history_check_spec.specs.Left.{AreLoud, Between, IsLoud, Leads, Phase}
 use Rattle.history_check_spec.proofs.Leading.{leads_nowhere, leads_on}
 use Rattle.history_check_spec.proofs.Meeting.{others_next, own_next}

@@ -3,20 +3,20 @@ use Rattle.std.specs.Prelude.{◌≡◌, ◌≤◌, ◌<◌, ◌⊎◌, ◌+◌,
 use Rattle.std.specs.List.{flat_map}
 use Rattle.edit_rules_spec.specs.declared.reply.Reply.{Reply}
 use Rattle.edit_tx.specs.Facts.{PinFacts}
-use Rattle.history_spec.specs.Answers.{HasRoom}
-use Rattle.history_spec.specs.History.{Legal, version_at}
-use Rattle.history_spec.specs.declared.event.Answer.{Answer}
-use Rattle.history_spec.specs.declared.event.Answer.TheVariants as answer
-use Rattle.history_spec.specs.declared.event.Call.{Call}
-use Rattle.history_spec.specs.declared.event.Call.TheVariants as call
-use Rattle.history_spec.specs.declared.event.Event.{Event}
+use Rattle.db_spec.specs.Answers.{HasRoom}
+use Rattle.db_spec.specs.History.{Legal, version_at}
+use Rattle.db_spec.specs.declared.event.Answer.{Answer}
+use Rattle.db_spec.specs.declared.event.Answer.TheVariants as answer
+use Rattle.db_spec.specs.declared.event.Call.{Call}
+use Rattle.db_spec.specs.declared.event.Call.TheVariants as call
+use Rattle.db_spec.specs.declared.event.Event.{Event}
 use Rattle.db_core.specs.Calls.{Adds, event_of}
 use Rattle.db_core.specs.Story.{Story, state}
 use Rattle.script_spec.specs.Report.{transcript}
 use Rattle.script_spec.specs.Session.{Told, Word}
 use Rattle.script_spec.specs.Texts.{line, reply_text}
 use Rattle.script_spec.specs.declared.script.Step.{Step}
-use Rattle.run_spec.specs.Calls.{Writes}
+use Rattle.script_run_spec.specs.Calls.{Writes}
 use Rattle.history_check_spec.specs.Left.{AreLoud, IsLoud, Leads, Phase, next_call}
 use Rattle.history_turns.specs.declared.quiet.Quiet.{Quiet}
 use Rattle.history_turns.specs.declared.quiet.Quiet.TheVariants as quiet

@@ -1,7 +1,7 @@
 -- Where a caller stands, in the code and in its session.
 use Rattle.std.specs.Prelude.{◌≡◌, ℕ, zero, suc, List, [], ◌++◌, ◌≤◌, None, drop, length}
-use Rattle.history_spec.specs.History.{Legal, version_at}
-use Rattle.history_spec.specs.declared.event.Event.{Event}
+use Rattle.db_spec.specs.History.{Legal, version_at}
+use Rattle.db_spec.specs.declared.event.Event.{Event}
 use Rattle.edit_tx.specs.Facts.{PinFacts, TxFacts}
 use Rattle.db_core.specs.Story.{Story, IsPinOf}
 use Rattle.script_spec.specs.Headline.{HasWalk}

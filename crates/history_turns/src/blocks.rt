@@ -20,7 +20,12 @@ use script_say::{say_begin, say_committed, say_conflict, say_reply};
 use std::alloc::Global;
 
 /// Runs an operation and says its reply.
-pub fn try_op(alloc: Global, tx: &mut Tx, op: &Op, said: &mut Vec<u8>) -> Result<(), NoMemory>
+pub(crate) fn try_op(
+    alloc: Global,
+    tx: &mut Tx,
+    op: &Op,
+    said: &mut Vec<u8>,
+) -> Result<(), NoMemory>
     ensures run { OnOk result (HasRun tx.old tx.new op.now) }
     ensures said { OnOk result (said.new.items ≡ said.old.items ++ line (reply_text (reply_behind tx.old.pin.design tx.old.ops op.now) ∷ [])) }
 {
@@ -46,7 +51,7 @@ fn run_ops(alloc: Global, tx: &mut Tx, ops: &[Op], said: &mut Vec<u8>) -> Result
 
 /// Begins a transaction whose commit was refused on a new pin of the last version, and runs its operations again. Nothing comes where
 /// the history has no room.
-pub fn begin_again(
+pub(crate) fn begin_again(
     alloc: Global,
     core: &mut Core,
     caller: u32,
@@ -83,7 +88,7 @@ fn behind_conflict(tx: Tx, retries: u32) -> At
 }
 
 /// Commits a transaction. Nothing comes where the history has no room.
-pub fn commit_line(
+pub(crate) fn commit_line(
     alloc: Global,
     core: &mut Core,
     block: Block,

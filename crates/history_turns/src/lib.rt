@@ -3,9 +3,9 @@
 
 mod blocks;
 mod lines;
-pub mod places;
-pub mod quiet;
-pub mod seats;
+mod places;
+mod quiet;
+mod seats;
 mod within;
 
 pub use places::take_turn;

@@ -18,7 +18,11 @@ use script_spec::Step;
 use std::alloc::Global;
 
 /// Pins the last version. Nothing comes where the history has no room.
-pub fn pin_line(core: &mut Core, caller: u32, said: &mut Vec<u8>) -> Result<Option<At>, NoMemory>
+pub(crate) fn pin_line(
+    core: &mut Core,
+    caller: u32,
+    said: &mut Vec<u8>,
+) -> Result<Option<At>, NoMemory>
     ensures { (r : Bool) → IfOk result (Comes core.old core.new caller r (Between Nothing) Step.Pin said.old.items said.new.items) }
 {
     match core.pin(caller) {
@@ -32,7 +36,7 @@ pub fn pin_line(core: &mut Core, caller: u32, said: &mut Vec<u8>) -> Result<Opti
 }
 
 /// Pins a version. Nothing comes where the history has no room.
-pub fn pin_at_line(
+pub(crate) fn pin_at_line(
     core: &mut Core,
     caller: u32,
     version: u64,
@@ -59,7 +63,7 @@ pub fn pin_at_line(
 }
 
 /// A transaction of which nothing was run.
-pub fn start(alloc: Global, pin: Pin, retries: u32) -> Result<Block, NoMemory>
+pub(crate) fn start(alloc: Global, pin: Pin, retries: u32) -> Result<Block, NoMemory>
     ensures { IfOk result (λ block. (block.tx ≡ started pin) × (block.retries ≡ retries)) }
 {
     match Tx::start(alloc, pin) {
@@ -69,7 +73,7 @@ pub fn start(alloc: Global, pin: Pin, retries: u32) -> Result<Block, NoMemory>
 }
 
 /// Begins a transaction on a pin of the last version. Nothing comes where the history has no room.
-pub fn begin_line(
+pub(crate) fn begin_line(
     alloc: Global,
     core: &mut Core,
     caller: u32,
@@ -90,7 +94,7 @@ pub fn begin_line(
 }
 
 /// Drops the versions that nobody holds, where no transaction is held. Nothing comes where the history has no room.
-pub fn collect_line(
+pub(crate) fn collect_line(
     core: &mut Core,
     caller: u32,
     at: At,
@@ -112,7 +116,7 @@ pub fn collect_line(
 }
 
 /// Releases the pin.
-pub fn release_line(core: &mut Core, pin: Pin, said: &mut Vec<u8>) -> Result<At, NoMemory>
+pub(crate) fn release_line(core: &mut Core, pin: Pin, said: &mut Vec<u8>) -> Result<At, NoMemory>
     requires { IsPinOf core.old pin }
     ensures { (r : Bool) → IfOk result (Called core.old core.new pin.caller r (Between (OnPin pin.number pin.version)) Step.Release said.old.items said.new.items) }
 {
@@ -122,7 +126,11 @@ pub fn release_line(core: &mut Core, pin: Pin, said: &mut Vec<u8>) -> Result<At,
 }
 
 /// Ends a transaction without a commit.
-pub fn abandon_line(core: &mut Core, block: Block, said: &mut Vec<u8>) -> Result<At, NoMemory>
+pub(crate) fn abandon_line(
+    core: &mut Core,
+    block: Block,
+    said: &mut Vec<u8>,
+) -> Result<At, NoMemory>
     requires { IsPinOf core.old block.tx.pin }
     ensures { (r : Bool) → IfOk result (Called core.old core.new block.tx.pin.caller r (phase_of (At.InBlock block)) Step.Abandon said.old.items said.new.items) }
 {
@@ -132,7 +140,7 @@ pub fn abandon_line(core: &mut Core, block: Block, said: &mut Vec<u8>) -> Result
 }
 
 /// Ends a script whose call was refused since the log was full, and releases the pin that was held.
-pub fn give_up(core: &mut Core, pin: Pin, said: &mut Vec<u8>) -> Result<At, NoMemory>
+pub(crate) fn give_up(core: &mut Core, pin: Pin, said: &mut Vec<u8>) -> Result<At, NoMemory>
     requires { IsPinOf core.old pin }
     ensures { IfOk result (IsCutOff core.old core.new pin said.old.items said.new.items) }
 {

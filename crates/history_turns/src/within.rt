@@ -95,7 +95,7 @@ fn say_most(
 
 /// Says the items of the pinned version, as long as the caller has said at most so many bytes: whether it said them all. No more than
 /// one item is made beyond those bytes.
-pub fn show(
+pub(crate) fn show(
     alloc: Global,
     pin: &Pin,
     limit: Option<u64>,

@@ -3,10 +3,10 @@ ghost use Rattle.std.specs.Prelude.{◌≡◌, ◌≤◌, IfOk, OnErr, OnOk, IsE
 ghost use Rattle.netdb_outside.specs.declared.write_error.WriteError.TheVariants.{WriteFault};
 ghost use Rattle.netdb_outside.specs.Outside.{Appends, AppendsFront, Rose};
 ghost use Rattle.script_spec.specs.Report.{last_design};
-ghost use Rattle.last_uses.specs.LastUses.{last_uses_text};
+ghost use Rattle.used_spec.specs.LastUses.{last_uses_text};
 
+use db_spec::Event;
 use design_copy::copy_of;
-use history_spec::Event;
 use netdb_outside::{Sink, WriteError};
 use netlist_schema::{NoMemory, Shown};
 use std::alloc::Global;

@@ -10,7 +10,7 @@ use netlist_schema::{CellBody, NoMemory};
 use std::alloc::Global;
 
 /// For each port the number of bits of the ports before it.
-pub fn port_starts(alloc: Global, body: &CellBody) -> Result<Vec<u32>, NoMemory>
+pub(crate) fn port_starts(alloc: Global, body: &CellBody) -> Result<Vec<u32>, NoMemory>
     requires { bit_count body.now ≤ MOST_BITS }
     ensures { IfOk result (λ starts. AreStarts body.now.ports starts.items) }
 {
@@ -24,7 +24,7 @@ pub fn port_starts(alloc: Global, body: &CellBody) -> Result<Vec<u32>, NoMemory>
 }
 
 /// The number of a bit among the own bits of a cell with these starts: `None` where the cell has no such port.
-pub fn bit_number(starts: &[u32], port: u32, bit: u32) -> Option<usize>
+pub(crate) fn bit_number(starts: &[u32], port: u32, bit: u32) -> Option<usize>
     ensures { result ≡ number_of starts.now (record { port = port; bit = bit }) }
 {
     let start = *starts.get(port as usize)?;

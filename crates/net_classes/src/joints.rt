@@ -32,7 +32,7 @@ fn all_joints(alloc: Global, nets: &[Shared<Net>]) -> Result<Vec<Joint>, NoMemor
 }
 
 /// The ends of the nets on instances, by instance, port and bit.
-pub fn list_joints(alloc: Global, nets: &[Shared<Net>]) -> Result<Vec<Joint>, NoMemory>
+pub(crate) fn list_joints(alloc: Global, nets: &[Shared<Net>]) -> Result<Vec<Joint>, NoMemory>
     requires few { length nets.now ≤ MOST_NETS }
     ensures each { IfOk result (λ joints. (j : Place) → Contains joints.items j ↔ IsJointIn nets.now j) }
     ensures in_order { IfOk result (λ joints. AllPairs IsNotBehind joints.items) }
@@ -69,7 +69,7 @@ fn add_joint(end: End, place: u32, joints: &mut Vec<Joint>) -> Result<(), NoMemo
 }
 
 /// For each own bit, counted over all ports, the net that joins it, where there are so many bits.
-pub fn list_own(
+pub(crate) fn list_own(
     alloc: Global,
     starts: &[u32],
     count: u32,

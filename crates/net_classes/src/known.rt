@@ -37,7 +37,7 @@ fn blank_row(alloc: Global, count: u32) -> Result<Vec<CellNets>, NoMemory>
 }
 
 /// Nothing is known of any cell of the design.
-pub fn no_tables<S: Shown>(alloc: Global, design: &S) -> Result<Vec<Vec<CellNets>>, NoMemory>
+pub(crate) fn no_tables<S: Shown>(alloc: Global, design: &S) -> Result<Vec<Vec<CellNets>>, NoMemory>
     ensures none { IfOk result (λ cells. AreKnown (S.design design.now) [] (map (λ row. map facts_of row.items) cells.items)) }
     ensures valid { IsValid (S.design design.now) }
 {
@@ -101,7 +101,7 @@ fn body_nets<S: Shown>(
 }
 
 /// What is known of a cell, where the same is known of the cells of its instances. Of a leaf nothing is kept.
-pub fn cell_nets<S: Shown>(
+pub(crate) fn cell_nets<S: Shown>(
     alloc: Global,
     design: &S,
     cells: &[Vec<CellNets>],
@@ -120,7 +120,7 @@ pub fn cell_nets<S: Shown>(
 }
 
 /// Sets what is known of a cell.
-pub fn set_cell(cells: &mut Vec<Vec<CellNets>>, cell: CellId, nets: CellNets)
+pub(crate) fn set_cell(cells: &mut Vec<Vec<CellNets>>, cell: CellId, nets: CellNets)
     ensures { AreSetAt (map (λ row. map facts_of row.items) cells.old.items) cell (facts_of nets) (map (λ row. map facts_of row.items) cells.new.items) }
 {
     if (cell.lib.0 as usize) < cells.len() {

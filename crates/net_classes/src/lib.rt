@@ -2,7 +2,7 @@
 #![tactic(auto)]
 
 mod bits;
-pub mod classes;
+mod classes;
 mod joints;
 mod known;
 mod links;

@@ -32,7 +32,7 @@ fn class_of(cells: &[Vec<CellNets>], insts: &[Shared<Inst>], joint: Joint) -> Op
 }
 
 /// For each joint whose class an earlier joint has, the pair of their nets.
-pub fn list_links(
+pub(crate) fn list_links(
     alloc: Global,
     cells: &[Vec<CellNets>],
     insts: &[Shared<Inst>],

@@ -58,7 +58,7 @@ impl CellNets {
 }
 
 /// What is known of the cell with this id.
-pub fn table_of(cells: &[Vec<CellNets>], cell: CellId) -> Option<&CellNets>
+pub(crate) fn table_of(cells: &[Vec<CellNets>], cell: CellId) -> Option<&CellNets>
     ensures { option_copied result ≡ option_and_then (λ row. slice_get row.items cell.slot) (slice_get cells.now cell.lib.0) }
 {
     cells
@@ -87,7 +87,7 @@ fn no_bits(alloc: Global, count: usize) -> Result<Vec<Option<u32>>, NoMemory>
 }
 
 /// For each own bit the least own bit whose net has the same first net.
-pub fn least_bits(
+pub(crate) fn least_bits(
     alloc: Global,
     own: &[Option<u32>],
     firsts: &[u32],

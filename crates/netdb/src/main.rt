@@ -3,6 +3,7 @@
 
 use netdb_cli::{Status, run_netdb, status_text};
 use netdb_outside::{FreeGate, HostFiles, HostOut};
+use netlist_schema::NoMemory;
 use std::alloc::Global;
 use std::process::ExitCode;
 use std::rt::Files;
@@ -30,12 +31,17 @@ fn refused(error: &io::Error) -> Status {
     }
 }
 
+/// What the program says of a status.
+fn says(rt: &HostRuntime, status: &Status) -> Result<String, NoMemory> {
+    let text = status_text(rt.alloc(), status)?;
+    Ok(String::from_utf8_lossy(rt.alloc(), text.as_slice())?)
+}
+
 /// Prints the line of a status, where it has one: what is said of it, and before that the name of the file that it is about.
 fn print_line(rt: &HostRuntime, words: &[String], status: &Status) -> io::Result<()> {
-    let Ok(text) = status_text(rt.alloc(), status) else {
+    let Ok(says) = says(rt, status) else {
         return eprintln!(rt; "netdb: no memory");
     };
-    let says = String::from_utf8_lossy(rt.alloc(), text.as_slice())?;
     if says.is_empty() {
         return Ok(());
     }

@@ -1,3 +1,3 @@
-pub mod DueLemmas
 pub mod OutcomeLemmas
+pub mod VisitLemmas
 pub mod WordLemmas

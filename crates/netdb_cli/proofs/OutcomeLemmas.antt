@@ -3,18 +3,29 @@ use Rattle.std.proofs.Common.{◌≡◌, ◌+◌, ◌++◌, ◌∙◌, List, [],
 use Rattle.std.specs.Prelude.{codes}
 use Prim.Native.Nat.{ℕ}
 use Rattle.netlist_schema.specs.Design.{Design}
-use Rattle.netdb_outside.specs.Outside.{Shelf}
+use Rattle.netdb_outside.specs.Outside.{SameFiles, Shelf}
 use Rattle.script_spec.specs.declared.script.Step.{Step}
-use Rattle.call_words.specs.Command.{Request, Show, Run, Generate, Uses, Check}
-use Rattle.call_words.specs.declared.command.Wanted.{Wanted}
+use Rattle.edif_spec.specs.Files.{IsDesignFile}
+use Rattle.netdb_spec.specs.Command.{Request, Show, Run, Generate, Uses, Check}
+use Rattle.netdb_spec.specs.declared.command.Wanted.{Wanted}
 use Rattle.netdb_spec.specs.Counts.{CountsWriting}
 use Rattle.netdb_spec.specs.Refusals.{RefusesDesign, RefusesReport, RefusesScript, RefusesScripts}
+use Rattle.netdb_spec.specs.Told.{IsRead}
 use Rattle.netdb_spec.specs.declared.status.Status.{Status}
 use Rattle.netdb_spec.specs.declared.status.Status.TheVariants as status
-use Rattle.call_output.specs.Gives.{OutputGives, RunGives, SummaryGives, TextGives, UsesGive}
-use Rattle.call_check.specs.Checked.{CheckGives, VerdictGives}
-use Rattle.call_output.specs.Output.{output, HasTop}
-use Rattle.netdb_cli.specs.Outcome.{Gives, ReportGives, ScriptsGive}
+use Rattle.netdb_commands.proofs.InputLemmas.{stays}
+use Rattle.netdb_spec.specs.Gives.{OutputGives, RunGives, SummaryGives, TextGives, UsesGive}
+use Rattle.netdb_spec.specs.Checked.{CheckGives, VerdictGives}
+use Rattle.netdb_spec.specs.Output.{output, HasTop}
+use Rattle.netdb_spec.specs.Outcome.{Gives, ReportGives, ScriptsGive}
+
+-- a design that was read stays one, since no file changes
+pub read_stays : (old new : Option Shelf) (name : List ℕ) (d : Design) → SameFiles old new → IsRead old name d → IsRead new name d
+read_stays old new name d same read = record {
+  valid = read.valid;
+  reads_back = read.reads_back;
+  file = stays old new name (λ bytes. IsDesignFile bytes d) same read.file;
+}
 
 -- a text of a design that has all that is wanted
 pub served : (wanted : Wanted) (d : Design) (old new : Option (List ℕ)) (result : Status) → HasTop wanted d → TextGives (output wanted d) old new result → OutputGives wanted d old new result

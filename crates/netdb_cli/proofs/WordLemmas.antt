@@ -1,9 +1,9 @@
 -- Words that are a command.
 use Rattle.std.proofs.Common.{◌≡◌, List, [], ◌∷◌, Some, None, length, get_or, drop, ap, sym, ◌∙◌, arith}
 use Prim.Native.Nat.{ℕ}
-use Rattle.call_words.specs.Command.{Asks, IsGood, Request, Show, Run, Generate, Uses, Check}
-use Rattle.call_words.specs.declared.command.Wanted.TheVariants.{Text, Items, Pins, Used, Spread, Findings}
-use Rattle.call_words.proofs.WordLemmas.{same_number}
+use Rattle.netdb_spec.specs.Command.{Asks, IsGood, Request, Show, Run, Generate, Uses, Check}
+use Rattle.netdb_spec.specs.declared.command.Wanted.TheVariants.{Text, Items, Pins, Used, Spread, Findings}
+use Rattle.netdb_commands.proofs.WordLemmas.{same_number}
 
 -- the first two letters of the first word, the second word, and those behind it
 abbrev letter : List (List ℕ) → ℕ

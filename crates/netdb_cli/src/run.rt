@@ -1,18 +1,21 @@
 //! The top call.
-ghost use Rattle.std.specs.Prelude.{◌≡◌, ◌↔◌, ◌≤◌, length};
+ghost use Rattle.std.specs.Prelude.{◌≡◌, ◌↔◌, ◌≤◌, List, ◌∷◌, length};
 ghost use Rattle.netdb_outside.specs.Outside.{SameFiles};
-ghost use Rattle.call_words.specs.Command.{Asks, Check, IsCommand, IsGood, IsGoodWanted, Request, Show, Run, Uses, request_of, spelled};
-ghost use Rattle.netdb_cli.specs.Due.{IsDue};
+ghost use Rattle.netdb_outside.specs.Visits.{Visit};
+ghost use Rattle.netdb_spec.specs.Command.{Asks, Check, IsCommand, IsGood, IsGoodWanted, Request, Show, Run, Uses, request_of, spelled};
+ghost use Rattle.netdb_spec.specs.Due.{IsDue};
 ghost use Rattle.netdb_spec.specs.Counts.{CountsReading, CountsWriting};
-ghost use Rattle.netdb_cli.specs.Outcome.{Gives, ReadChecks, ReadGives, ReadUsesGive, ReportGives};
+ghost use Rattle.netdb_spec.specs.Visits.{Adds, CommandReads, report_file, script_files};
+ghost use Rattle.netdb_spec.specs.Outcome.{Gives, ReadChecks, ReadGives, ReadUsesGive, ReportGives};
+ghost use Rattle.netdb_spec.specs.Reads.{LeavesFiles, files_of};
 
-use crate::laws::given_is_due;
 use call_check::write_verdict;
-use call_files::{read_design, read_report, read_scripts};
-use call_output::{write_output, write_report, write_summary, write_with_uses};
-use call_words::{Command, Wanted, command_of};
+use netdb_commands::{
+    command_of, read_design, read_report, read_scripts, write_output, write_report, write_summary,
+    write_with_uses,
+};
 use netdb_outside::{Files, Gate, Sink};
-use netdb_spec::Status;
+use netdb_spec::{Command, Status, Wanted, given_is_due};
 use netlist_schema::{Design, Row};
 use std::alloc::Global;
 use std::sync::Wait;
@@ -39,6 +42,7 @@ fn show_file<R: Threads + Sync, F: Files, K: Sink, G: Gate + Sync>(
     ensures reading { CountsReading (F.faults files.old) (F.faults files.new) result }
     ensures writing { CountsWriting (K.faults out.old) (K.faults out.new) result }
     ensures files { SameFiles (F.told files.old) (F.told files.new) }
+    ensures visited { Adds (F.visits files.old) (F.visits files.new) (CommandReads (files_of (Show name.now wanted)) 1 result) }
 {
     match read_design(alloc, files, name) {
         Ok(design) => write_output(rt, alloc, &design, wanted, gate, out),
@@ -61,6 +65,7 @@ fn run_files<R: Threads + Wait + Sync, F: Files, K: Sink, G: Gate + Sync>(
     ensures reading { CountsReading (F.faults files.old) (F.faults files.new) result }
     ensures writing { CountsWriting (K.faults out.old) (K.faults out.new) result }
     ensures files { SameFiles (F.told files.old) (F.told files.new) }
+    ensures visited { Adds (F.visits files.old) (F.visits files.new) (CommandReads (script_files (spelled names.now)) 2 result) }
 {
     match read_scripts(alloc, files, names, RUN_WORD) {
         Ok(scripts) => write_report(rt, alloc, design, &scripts, gate, out),
@@ -83,6 +88,7 @@ fn run_on_file<R: Threads + Wait + Sync, F: Files, K: Sink, G: Gate + Sync>(
     ensures reading { CountsReading (F.faults files.old) (F.faults files.new) result }
     ensures writing { CountsWriting (K.faults out.old) (K.faults out.new) result }
     ensures files { SameFiles (F.told files.old) (F.told files.new) }
+    ensures visited { Adds (F.visits files.old) (F.visits files.new) (CommandReads (files_of (Run name.now (spelled names.now))) 1 result) }
 {
     match read_design(alloc, files, name) {
         Ok(design) => run_files(rt, alloc, design, names, files, out, gate),
@@ -105,6 +111,7 @@ fn use_files<R: Threads + Wait + Sync, F: Files, K: Sink, G: Gate + Sync>(
     ensures reading { CountsReading (F.faults files.old) (F.faults files.new) result }
     ensures writing { CountsWriting (K.faults out.old) (K.faults out.new) result }
     ensures files { SameFiles (F.told files.old) (F.told files.new) }
+    ensures visited { Adds (F.visits files.old) (F.visits files.new) (CommandReads (script_files (spelled names.now)) 2 result) }
 {
     match read_scripts(alloc, files, names, RUN_WORD) {
         Ok(scripts) => write_with_uses(rt, alloc, design, &scripts, gate, out),
@@ -127,6 +134,7 @@ fn uses_of_file<R: Threads + Wait + Sync, F: Files, K: Sink, G: Gate + Sync>(
     ensures reading { CountsReading (F.faults files.old) (F.faults files.new) result }
     ensures writing { CountsWriting (K.faults out.old) (K.faults out.new) result }
     ensures files { SameFiles (F.told files.old) (F.told files.new) }
+    ensures visited { Adds (F.visits files.old) (F.visits files.new) (CommandReads (files_of (Uses name.now (spelled names.now))) 1 result) }
 {
     match read_design(alloc, files, name) {
         Ok(design) => use_files(rt, alloc, design, names, files, out, gate),
@@ -148,6 +156,7 @@ fn check_text<F: Files, K: Sink>(
     ensures reading { CountsReading (F.faults files.old) (F.faults files.new) result }
     ensures writing { CountsWriting (K.faults out.old) (K.faults out.new) result }
     ensures files { SameFiles (F.told files.old) (F.told files.new) }
+    ensures visited { Adds (F.visits files.old) (F.visits files.new) (CommandReads (script_files (spelled names.now)) 3 result) }
 {
     match read_scripts(alloc, files, names, CHECK_WORD) {
         Ok(scripts) => {
@@ -172,6 +181,7 @@ fn check_report_file<F: Files, K: Sink>(
     ensures reading { CountsReading (F.faults files.old) (F.faults files.new) result }
     ensures writing { CountsWriting (K.faults out.old) (K.faults out.new) result }
     ensures files { SameFiles (F.told files.old) (F.told files.new) }
+    ensures visited { Adds (F.visits files.old) (F.visits files.new) (CommandReads (report_file report.now ∷ script_files (spelled names.now)) 2 result) }
 {
     match read_report(alloc, files, report) {
         Ok(text) => check_text(alloc, design, text.as_slice(), names, files, out),
@@ -193,6 +203,7 @@ fn check_files<F: Files, K: Sink>(
     ensures reading { CountsReading (F.faults files.old) (F.faults files.new) result }
     ensures writing { CountsWriting (K.faults out.old) (K.faults out.new) result }
     ensures files { SameFiles (F.told files.old) (F.told files.new) }
+    ensures visited { Adds (F.visits files.old) (F.visits files.new) (CommandReads (files_of (Check name.now report.now (spelled names.now))) 1 result) }
 {
     match read_design(alloc, files, name) {
         Ok(design) => check_report_file(alloc, design, report, names, files, out),
@@ -214,6 +225,8 @@ fn run_command<R: Threads + Wait + Sync, F: Files, K: Sink, G: Gate + Sync>(
     ensures reading { CountsReading (F.faults files.old) (F.faults files.new) result }
     ensures writing { CountsWriting (K.faults out.old) (K.faults out.new) result }
     ensures files { SameFiles (F.told files.old) (F.told files.new) }
+    ensures visited { Adds (F.visits files.old) (F.visits files.new) (CommandReads (files_of (request_of command.entry)) 1 result) }
+    ensures untouched { LeavesFiles (request_of command.entry) (F.told files.old) (F.told files.new) (F.faults files.old) (F.faults files.new) }
 {
     match command {
         Command::Show { name, wanted } => show_file(rt, alloc, name, wanted, files, out, gate),
@@ -254,6 +267,10 @@ fn run_command<R: Threads + Wait + Sync, F: Files, K: Sink, G: Gate + Sync>(
 /// fault in reading, no such file, too many bytes, a bad line; no top where one is needed, by the command or a line of a script that
 /// walks; a fault in writing; a full log. `NoMemory` may come at any point. Scripts that want no more places than a history has, whatever
 /// comes of them, meet no full log.
+///
+/// The files of the words are read in their order, each once and to its end, within its limit, up to the one that the status is about, if
+/// it is about one: that is not there, or a call on it failed, or it was read to one byte past its limit, or to its end. No other file is
+/// asked for; `gen` asks for none.
 pub fn run_netdb<R: Threads + Wait + Sync, F: Files, K: Sink, G: Gate + Sync>(
     rt: &R,
     alloc: Global,
@@ -264,7 +281,7 @@ pub fn run_netdb<R: Threads + Wait + Sync, F: Files, K: Sink, G: Gate + Sync>(
 ) -> Status
     // No command, exactly where the words are none; then nothing is read or written.
     ensures usage { (result ≡ Status.Usage) ↔ (IsCommand (spelled words.now) → ⊥) }
-    ensures idle { result ≡ Status.Usage → (F.told files.new ≡ F.told files.old) × (K.written out.new ≡ K.written out.old) }
+    ensures idle { result ≡ Status.Usage → (F.told files.new ≡ F.told files.old) × (F.faults files.new ≡ F.faults files.old) × (K.written out.new ≡ K.written out.old) × ((seen : List Visit) → F.visits files.old seen → F.visits files.new seen) }
 
     // Each status of a command: its cause, and what was written.
     ensures gives { (request : Request) → Asks (spelled words.now) request → Gives request (F.told files.new) (K.written out.old) (K.written out.new) result }
@@ -278,6 +295,11 @@ pub fn run_netdb<R: Threads + Wait + Sync, F: Files, K: Sink, G: Gate + Sync>(
 
     // No file changes.
     ensures files { SameFiles (F.told files.old) (F.told files.new) }
+
+    // The files of the words are read in their order, each to its end within its limit, up to the one that the status is about; no other
+    // is. A generated run reads none.
+    ensures visited { (request : Request) → Asks (spelled words.now) request → Adds (F.visits files.old) (F.visits files.new) (CommandReads (files_of request) 1 result) }
+    ensures untouched { (request : Request) → Asks (spelled words.now) request → LeavesFiles request (F.told files.old) (F.told files.new) (F.faults files.old) (F.faults files.new) }
 {
     given_is_due();
     match command_of(words) {

@@ -6,7 +6,7 @@ use Rattle.netdb_outside.proofs.Appending.{appends_none, appends_then}
 use Rattle.netdb_outside.specs.Outside.{Appends, AppendsFront, Rose}
 use Rattle.netdb_outside.specs.Buffered.{Buffered, Writes, Comes, IsParted, nothing_waits, out_of_memory}
 use Rattle.netdb_outside.specs.declared.write_error.WriteError.{WriteError}
-use Rattle.netdb_outside.specs.declared.write_error.WriteError.TheVariants.{NoMemory}
+use Rattle.netdb_outside.specs.declared.write_error.WriteError.TheVariants.{NoMemory, WriteFault}
 
 comes_nothing : (told : Option (List ℕ)) (n : ℕ) (waiting : List ℕ) (failure : Option WriteError) → Comes told told n n (waiting ++ []) waiting failure failure
 comes_nothing told n waiting None = ([], append-nil waiting, appends_none told)
@@ -95,6 +95,30 @@ pub writes_held : {K : Type 0} {written : K → Option (List ℕ)} {faults : K �
 writes_held {written = written} {faults = faults} k before after x h l e = record {
   comes = held_comes (written k) (faults k) (before.waiting ++ x) after.waiting before.failure after.failure h l e;
   never_falls = omega arith;
+}
+
+whole_put : (a b : Option (List ℕ)) (m n : ℕ) (w x : List ℕ) (failure : Option WriteError) → failure ≡ None → w ≡ [] → Appends a b x → Comes a b m n (w ++ x) w failure failure
+whole_put a b m n w x failure none empty all = rw (none, empty) (x, sym (append-nil x), all)
+
+-- nothing waits, and the bytes are put
+pub put_whole : {K : Type 0} {written : K → Option (List ℕ)} {faults : K → ℕ} (i k : K) (page : Buffered) (x : List ℕ)
+    → page.failure ≡ None → page.waiting ≡ [] → Appends (written i) (written k) x → faults i ≤ faults k → Writes written faults i page k page x
+put_whole {written = written} {faults = faults} i k page x none empty all more = record {
+  comes = whole_put (written i) (written k) (faults i) (faults k) page.waiting x page.failure none empty all;
+  never_falls = more;
+}
+
+broken_put : (a b : Option (List ℕ)) (m n : ℕ) (w v x : List ℕ) (before after : Option WriteError) (e : WriteError) → before ≡ None → w ≡ [] → after ≡ Some e → AppendsFront a b x → (e ≡ WriteFault → Rose m n)
+    → Comes a b m n (w ++ x) v before after
+broken_put a b m n w v x before after e none empty bad front cause = rw (none, empty, bad) (front, cause)
+
+-- nothing waits, and the sink takes a front of the bytes
+pub put_broken : {K : Type 0} {written : K → Option (List ℕ)} {faults : K → ℕ} (i k : K) (before after : Buffered) (x : List ℕ) (e : WriteError)
+    → before.failure ≡ None → before.waiting ≡ [] → after.failure ≡ Some e → AppendsFront (written i) (written k) x → (e ≡ WriteFault → Rose (faults i) (faults k)) → faults i ≤ faults k
+    → Writes written faults i before k after x
+put_broken {written = written} {faults = faults} i k before after x e none empty bad front cause more = record {
+  comes = broken_put (written i) (written k) (faults i) (faults k) before.waiting after.waiting x before.failure after.failure e none empty bad front cause;
+  never_falls = more;
 }
 
 -- memory fails before the sink is asked

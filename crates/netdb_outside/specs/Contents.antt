@@ -3,6 +3,8 @@ use Rattle.std.specs.Prelude.{◌≡◌, ℕ, ◌+◌, ◌<◌, ◌≤◌, List,
 use Rattle.netdb_outside.specs.Outside.{Shelf, file_named}
 use Rattle.netdb_outside.specs.declared.contents.Contents.{Contents}
 use Rattle.netdb_outside.specs.declared.contents.Contents.TheVariants.{Bytes, TooLarge, Missing, Failed, NoMemory}
+use Rattle.netdb_outside.specs.declared.pieces.Ended.{Ended}
+use Rattle.netdb_outside.specs.declared.pieces.Ended.TheVariants as ends
 
 -- the file of this name has just these bytes, and all of them were read
 abbrev pub IsReadWhole : Shelf → List ℕ → List ℕ → Type 0
@@ -31,3 +33,11 @@ IsFoundOut TooLarge = Unit {0}
 IsFoundOut Missing = Unit {0}
 IsFoundOut Failed = ⊥
 IsFoundOut NoMemory = ⊥
+
+-- how the reading ended that gave this
+abbrev pub ended_by : Contents → Ended
+ended_by (Bytes bytes) = ends.Whole
+ended_by TooLarge = ends.TooLarge
+ended_by Missing = ends.Missing
+ended_by Failed = ends.Failed
+ended_by NoMemory = ends.NoMemory

@@ -5,3 +5,4 @@ pub mod MemSink
 pub mod Outside
 pub mod Pieces
 pub mod Reading
+pub mod Visits

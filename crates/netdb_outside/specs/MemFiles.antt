@@ -2,7 +2,8 @@
 use Rattle.std.specs.Prelude.{◌==◌, ◌≤◌, ℕ, min, Bool, true, false, if◌then◌else◌, List, [], ◌∷◌, ◌++◌, length, take, drop, map, Option, Some, None, slice_get, unwrap_or}
 use Rattle.std.specs.Option.{option_map_or}
 use Rattle.std.specs.List.{list_any}
-use Rattle.netdb_outside.specs.Outside.{Shelf, raised}
+use Rattle.netdb_outside.specs.Outside.{Shelf, file_named, raised}
+use Rattle.netdb_outside.specs.Visits.{Visit, begun, read_on}
 use Rattle.netdb_outside.specs.declared.files.Got.{Got}
 use Rattle.netdb_outside.specs.declared.files.Got.TheVariants as got
 use Rattle.netdb_outside.specs.declared.files.Opened.{Opened}
@@ -78,3 +79,15 @@ read_rest false rest size = drop size rest
 abbrev pub read_buffer : Bool → List ℕ → List ℕ → List ℕ
 read_buffer true rest buf = buf
 read_buffer false rest buf = take (length buf) rest ++ drop (length rest) buf
+
+-- Files in memory may have come so far when these files were asked for, in this order: from where no call was made on, by openings and by
+-- reads of what was asked for last.
+pub data Leads : List Visit → FilesFacts → Type 0 where
+  untouched : (files : List (List ℕ × List ℕ)) (failing : List ℕ)
+      → Leads [] (record { shelf = record { files = files; rest = [] }; failing = failing; calls = 0; faults = 0 })
+  asked : (before : List Visit) (facts : FilesFacts) (name : List ℕ) → Leads before facts
+      → Leads (before ++ begun name (opening (next_fails facts) (file_named facts.shelf.files name)) ∷ [])
+      (after_call facts (opened_rest (next_fails facts) (file_named facts.shelf.files name)))
+  went_on : (before : List Visit) (visit : Visit) (facts : FilesFacts) (size : ℕ) → Leads (before ++ visit ∷ []) facts
+      → Leads (before ++ read_on visit (reading (next_fails facts) facts.shelf.rest size) ∷ [])
+      (after_call facts (read_rest (next_fails facts) facts.shelf.rest size))

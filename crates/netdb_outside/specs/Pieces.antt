@@ -1,7 +1,8 @@
 -- What reading a file in pieces gives to one who takes them. A taker is seen as what it may have taken.
-use Rattle.std.specs.Prelude.{◌≡◌, ℕ, ◌+◌, ◌≤◌, List, [], ◌++◌, length, Option, IfSome}
+use Rattle.std.specs.Prelude.{◌≡◌, ℕ, ◌+◌, ◌≤◌, List, [], ◌∷◌, ◌++◌, length, Option, IfSome}
 use Rattle.netdb_outside.specs.Contents.{IsMissing, IsReadPast, IsReadWhole}
 use Rattle.netdb_outside.specs.Outside.{Shelf, Takes, NothingLeft}
+use Rattle.netdb_outside.specs.Visits.{AtEnd, Absent, Broken, Going, IsVisit, Visit, read_on}
 use Rattle.netdb_outside.specs.declared.files.Got.{Got}
 use Rattle.netdb_outside.specs.declared.files.Got.TheVariants as got
 use Rattle.netdb_outside.specs.declared.pieces.Ended.{Ended}
@@ -41,3 +42,22 @@ IsRead ends.TooLarge = Unit {0}
 IsRead ends.Missing = Unit {0}
 IsRead ends.Failed = ⊥
 IsRead ends.NoMemory = ⊥
+
+-- how far the file of this name was read, by how that ended: to its end, within the limit; to one byte past the limit; not at all, since
+-- it is not there; to a fault; or to where there was no memory, never further than one byte past the limit
+abbrev pub VisitEnds : List ℕ → ℕ → Ended → Visit → Type 0
+VisitEnds name limit ends.Whole visit = IsVisit name limit AtEnd visit
+VisitEnds name limit ends.TooLarge visit = visit ≡ record { name = name; bytes = limit + 1; reach = Going }
+VisitEnds name limit ends.Missing visit = visit ≡ record { name = name; bytes = 0; reach = Absent }
+VisitEnds name limit ends.Failed visit = IsVisit name limit Broken visit
+VisitEnds name limit ends.NoMemory visit = (visit.name ≡ name) × (visit.bytes ≤ limit + 1)
+
+-- the file that was being read after one more piece: as after a read with this answer; without memory at most one byte more than is
+-- allowed came
+abbrev pub GoesTo : ℕ → Got → Visit → Visit → Type 0
+GoesTo allowed got.NoMemory visit next = (next.name ≡ visit.name) × (next.bytes ≤ visit.bytes + (allowed + 1))
+GoesTo allowed answer visit next = next ≡ read_on visit answer
+
+-- the file that was asked for last goes on to one of which this holds
+abbrev pub Continues : (List Visit → Type 0) → (List Visit → Type 0) → (Visit → Visit → Type 0) → Type 0
+Continues old new P = (before : List Visit) (visit : Visit) → old (before ++ visit ∷ []) → (next : Visit) × P visit next × new (before ++ next ∷ [])

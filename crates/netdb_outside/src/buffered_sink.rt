@@ -22,7 +22,7 @@ pub trait Appended {
         ensures err { OnErr result (bytes.new.items ≡ bytes.old.items) };
 }
 
-/// Bytes that wait for a sink, and the first failure. They are put in pieces of some kilobytes. From a failure on nothing more
+/// Bytes that wait for a sink, and the first failure. They are put in pieces of some kilobytes, and what is longer by itself. From a failure on nothing more
 /// is put. Each call is given the sink, which is to be the same one.
 #[derive(Debug, Drop)]
 pub struct BufferedSink {
@@ -56,8 +56,19 @@ impl BufferedSink {
         self.failure.is_some()
     }
 
-    /// Writes bytes as they are.
+    /// Writes bytes as they are. Those that are enough for a piece are not copied: what waits is put before them.
     pub fn put<K: Sink>(&mut self, bytes: &[u8], out: &mut K)
+        ensures { Writes K.written K.faults out.old self.old out.new self.new bytes.now }
+    {
+        if bytes.len() >= PIECE {
+            self.put_through(bytes, out);
+        } else {
+            self.put_behind(bytes, out);
+        }
+    }
+
+    /// Lets bytes wait behind the others.
+    fn put_behind<K: Sink>(&mut self, bytes: &[u8], out: &mut K)
         ensures { Writes K.written K.faults out.old self.old out.new self.new bytes.now }
     {
         if self.is_stuck() {
@@ -66,6 +77,30 @@ impl BufferedSink {
         match self.waiting.extend_from_slice(bytes) {
             Ok(()) => self.pass_on(out),
             Err(_) => self.failure = Some(WriteError::NoMemory),
+        }
+    }
+
+    /// Puts what waits, and then these bytes.
+    fn put_through<K: Sink>(&mut self, bytes: &[u8], out: &mut K)
+        ensures { Writes K.written K.faults out.old self.old out.new self.new bytes.now }
+    {
+        self.flush(out);
+        self.hand_on(bytes, out);
+    }
+
+    /// Puts these bytes, where nothing waits and nothing has failed.
+    #[tactic(auto, using(crate::proofs::BufferedLemmas::put_whole, crate::proofs::BufferedLemmas::put_broken, crate::proofs::BufferedLemmas::writes_stuck))]
+    fn hand_on<K: Sink>(&mut self, bytes: &[u8], out: &mut K)
+        requires { self.old.failure ≡ None → self.old.waiting ≡ [] }
+        ensures { Writes K.written K.faults out.old self.old out.new self.new bytes.now }
+    {
+        if self.is_stuck() {
+            return;
+        }
+        match out.put(bytes) {
+            Put::Put => {}
+            Put::Failed => self.failure = Some(WriteError::WriteFault),
+            Put::NoMemory => self.failure = Some(WriteError::NoMemory),
         }
     }
 

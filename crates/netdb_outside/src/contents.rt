@@ -1,7 +1,9 @@
 //! Reading a whole file.
 ghost use Rattle.std.specs.Prelude.{◌≡◌, ◌≤◌};
-ghost use Rattle.netdb_outside.specs.Contents.{FileGives, IsFoundOut};
+ghost use Rattle.netdb_outside.specs.Contents.{FileGives, IsFoundOut, ended_by};
 ghost use Rattle.netdb_outside.specs.Outside.{SameFiles, Rose};
+ghost use Rattle.netdb_outside.specs.Pieces.{VisitEnds};
+ghost use Rattle.netdb_outside.specs.Visits.{AddsVisit};
 
 use crate::files::Files;
 use crate::pieces::{Ended, Taker, read_pieces};
@@ -45,13 +47,14 @@ impl Taker for Gathered {
 /// Where the files are told: it gives `Bytes` with all bytes of the file only where they are within the limit, `TooLarge`
 /// only where they are more, and then just the bytes up to one past the limit were read, and `Missing` only where there is
 /// no such file. So a file within the limit gives its bytes unless there was a fault or no memory; after those, part of it
-/// may have been read.
+/// may have been read. Where it is told which files were asked for: this one alone, and as far as the answer says.
 pub fn read_file<F: Files>(alloc: Global, files: &mut F, name: &str, limit: u64) -> Contents
     ensures files { SameFiles (F.told files.old) (F.told files.new) }
     ensures gives { FileGives (F.told files.new) name.now limit result }
     ensures failed { result ≡ Contents.Failed → Rose (F.faults files.old) (F.faults files.new) }
     ensures quiet { IsFoundOut result → F.faults files.new ≡ F.faults files.old }
     ensures never_falls { F.faults files.old ≤ F.faults files.new }
+    ensures visited { AddsVisit (F.visits files.old) (F.visits files.new) (VisitEnds name.now limit (ended_by result)) }
 {
     let mut gathered = Gathered {
         bytes: Vec::new(alloc),

@@ -12,7 +12,7 @@ use std::marker::Model;
 use std::{io, rt};
 
 /// The files of the system, one of which is read at a time. A name is a path. As contracts see it, it is the count of its
-/// faults: it tells no files. A read that a signal interrupts is tried again.
+/// faults: it tells neither files nor which were asked for. A read that a signal interrupts is tried again.
 #[derive(Drop)]
 pub struct HostFiles<R: rt::Files> {
     system: R,
@@ -46,6 +46,8 @@ impl<R: rt::Files> Files for HostFiles<R> {
     ghost told = { λ _. None };
 
     ghost faults = { λ h. h };
+
+    ghost visits = { λ _ _. Unit {0} };
 
     fn open_file(&mut self, name: &str) -> Opened
         ensures failed { result ≡ Opened.Failed → Rose self.old self.new }

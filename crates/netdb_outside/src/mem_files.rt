@@ -1,9 +1,10 @@
 //! `MemFiles`: files in memory.
-ghost use Rattle.std.specs.Prelude.{◌≡◌, ◌≢◌, ◌⊎◌, ◌≤◌, ◌<◌, ◌↔◌, ℕ, [], length, min, take, drop, ◌++◌, Some, None, Any, IsTrue, MatchOption};
+ghost use Rattle.std.specs.Prelude.{◌≡◌, ◌≢◌, ◌⊎◌, ◌≤◌, ◌<◌, ◌↔◌, ℕ, List, [], ◌∷◌, length, min, take, drop, ◌++◌, Some, None, Any, IsTrue, MatchOption};
 ghost use Rattle.netlist_schema.specs.Names.{AreDistinct};
-ghost use Rattle.netdb_outside.specs.MemFiles.{after_call, bytes_at, named, names, next_fails, opened_rest, opening, read_buffer, read_rest, reading};
+ghost use Rattle.netdb_outside.specs.MemFiles.{Leads, after_call, bytes_at, named, names, next_fails, opened_rest, opening, read_buffer, read_rest, reading};
 ghost use Rattle.netdb_outside.specs.Outside.{NothingLeft, Rose, SameFiles, file_named};
 ghost use Rattle.netdb_outside.specs.Reading.{ReadGives, ReadsOn};
+ghost use Rattle.netdb_outside.specs.Visits.{Visit, begun, read_on};
 
 use crate::files::{Files, Got, Opened};
 use netlist_schema::{Row, Text};
@@ -23,7 +24,8 @@ struct Place {
     at: usize,
 }
 
-/// Files in memory. It tells them. Calls of `open_file` and `read` are counted together from 1, and those whose numbers
+/// Files in memory. It tells them, and which were asked for as far as what it keeps shows that: its files, the calls that fail, how many
+/// calls there were and how many failed, and the rest. Calls of `open_file` and `read` are counted together from 1, and those whose numbers
 /// are listed fail; no other does. It never answers `NoMemory`.
 #[derive(Debug, Drop)]
 pub struct MemFiles {
@@ -95,12 +97,9 @@ impl MemFiles {
     }
 }
 
-impl Files for MemFiles {
-    ghost told = { λ m. Some m.shelf };
-
-    ghost faults = { λ m. m.faults };
-
-    fn open_file(&mut self, name: &str) -> Opened
+impl MemFiles {
+    /// Opens a file, as `open_file` does.
+    fn open_named(&mut self, name: &str) -> Opened
         ensures files { SameFiles (Some self.old.shelf) (Some self.new.shelf) }
         ensures ready { result ≡ Opened.Ready → file_named self.new.shelf.files name.now ≡ Some self.new.shelf.rest }
         ensures missing { result ≡ Opened.Missing → file_named self.new.shelf.files name.now ≡ None }
@@ -125,7 +124,8 @@ impl Files for MemFiles {
         }
     }
 
-    fn read(&mut self, buf: &mut [u8]) -> Got
+    /// Reads on, as `read` does.
+    fn read_next(&mut self, buf: &mut [u8]) -> Got
         requires { 0 < length buf.old }
         ensures files { SameFiles (Some self.old.shelf) (Some self.new.shelf) }
         ensures gives { ReadGives (Some self.old.shelf) (Some self.new.shelf) buf.new result }
@@ -143,6 +143,44 @@ impl Files for MemFiles {
             0 => Got::End,
             count => Got::Bytes(count),
         }
+    }
+}
+
+impl Files for MemFiles {
+    ghost told = { λ m. Some m.shelf };
+
+    ghost faults = { λ m. m.faults };
+
+    ghost visits = { λ m visits. Leads visits m };
+
+    fn open_file(&mut self, name: &str) -> Opened
+        ensures files { SameFiles (Some self.old.shelf) (Some self.new.shelf) }
+        ensures ready { result ≡ Opened.Ready → file_named self.new.shelf.files name.now ≡ Some self.new.shelf.rest }
+        ensures missing { result ≡ Opened.Missing → file_named self.new.shelf.files name.now ≡ None }
+        ensures others { result ≢ Opened.Ready → NothingLeft (Some self.new.shelf) }
+        ensures failed { result ≡ Opened.Failed → Rose self.old.faults self.new.faults }
+        ensures quiet { (result ≡ Opened.Ready) ⊎ (result ≡ Opened.Missing) → self.new.faults ≡ self.old.faults }
+        ensures never_falls { self.old.faults ≤ self.new.faults }
+        ensures answer { result ≡ opening (next_fails self.old) (file_named self.old.shelf.files name.now) }
+        ensures after { self.new ≡ after_call self.old (opened_rest (next_fails self.old) (file_named self.old.shelf.files name.now)) }
+        ensures visited { (before : List Visit) → Leads before self.old → Leads (before ++ begun name.now result ∷ []) self.new }
+    {
+        self.open_named(name)
+    }
+
+    fn read(&mut self, buf: &mut [u8]) -> Got
+        requires { 0 < length buf.old }
+        ensures files { SameFiles (Some self.old.shelf) (Some self.new.shelf) }
+        ensures gives { ReadGives (Some self.old.shelf) (Some self.new.shelf) buf.new result }
+        ensures failed { result ≡ Got.Failed → Rose self.old.faults self.new.faults }
+        ensures quiet { ReadsOn result → self.new.faults ≡ self.old.faults }
+        ensures never_falls { self.old.faults ≤ self.new.faults }
+        ensures answer { result ≡ reading (next_fails self.old) self.old.shelf.rest (length buf.old) }
+        ensures after { self.new ≡ after_call self.old (read_rest (next_fails self.old) self.old.shelf.rest (length buf.old)) }
+        ensures buffer { buf.new ≡ read_buffer (next_fails self.old) self.old.shelf.rest buf.old }
+        ensures visited { (before : List Visit) (visit : Visit) → Leads (before ++ visit ∷ []) self.old → Leads (before ++ read_on visit result ∷ []) self.new }
+    {
+        self.read_next(buf)
     }
 }
 

@@ -1,8 +1,9 @@
 //! Reading a file in pieces.
-ghost use Rattle.std.specs.Prelude.{◌≡◌, ◌<◌, ◌≤◌, ◌+◌, ◌++◌, ℕ, List, length, take, vec_len, IfOk, OnOk};
+ghost use Rattle.std.specs.Prelude.{◌≡◌, ◌<◌, ◌≤◌, ◌+◌, ◌++◌, ◌∷◌, [], ℕ, List, length, take, vec_len, IfOk, OnOk};
 ghost use Rattle.netdb_outside.specs.Outside.{SameFiles, Rose};
-ghost use Rattle.netdb_outside.specs.Pieces.{FileEnds, IsRead, PieceGives, RestEnds};
+ghost use Rattle.netdb_outside.specs.Pieces.{Continues, FileEnds, GoesTo, IsRead, PieceGives, RestEnds, VisitEnds};
 ghost use Rattle.netdb_outside.specs.Reading.{ReadGives, ReadsOn};
+ghost use Rattle.netdb_outside.specs.Visits.{AddsVisit, Visit, read_on};
 
 use crate::files::{Files, Got, Opened};
 use netlist_schema::NoMemory;
@@ -40,7 +41,8 @@ const PIECE: usize = 65_536;
 ///
 /// Where the files are told: it ends by `Whole` only where all bytes of the file are within the limit, and then just these were
 /// taken; by `TooLarge` only where they are more, and then just the bytes up to one past the limit were read; and by `Missing`
-/// only where there is no such file. After a fault, or without memory, part of it may have been taken.
+/// only where there is no such file. After a fault, or without memory, part of it may have been taken. Where it is told which files were
+/// asked for: this one alone, and as far as the answer says.
 pub fn read_pieces<F: Files, T: Taker>(
     alloc: Global,
     files: &mut F,
@@ -53,6 +55,7 @@ pub fn read_pieces<F: Files, T: Taker>(
     ensures failed { result ≡ Ended.Failed → Rose (F.faults files.old) (F.faults files.new) }
     ensures quiet { IsRead result → F.faults files.new ≡ F.faults files.old }
     ensures never_falls { F.faults files.old ≤ F.faults files.new }
+    ensures visited { AddsVisit (F.visits files.old) (F.visits files.new) (VisitEnds name.now limit result) }
 {
     match files.open_file(name) {
         Opened::Ready => read_rest(alloc, files, limit, taker),
@@ -69,6 +72,7 @@ fn read_rest<F: Files, T: Taker>(alloc: Global, files: &mut F, limit: u64, taker
     ensures failed { result ≡ Ended.Failed → Rose (F.faults files.old) (F.faults files.new) }
     ensures quiet { IsRead result → F.faults files.new ≡ F.faults files.old }
     ensures never_falls { F.faults files.old ≤ F.faults files.new }
+    ensures visited { Continues (F.visits files.old) (F.visits files.new) (λ visit last. visit.bytes ≡ 0 → VisitEnds visit.name limit result last) }
 {
     let Ok(mut buf) = new_buffer(alloc, PIECE) else {
         return Ended::NoMemory;
@@ -100,6 +104,7 @@ fn read_piece<F: Files, T: Taker>(files: &mut F, buf: &mut [u8], allowed: u64, t
     ensures failed { result ≡ Got.Failed → Rose (F.faults files.old) (F.faults files.new) }
     ensures quiet { ReadsOn result → F.faults files.new ≡ F.faults files.old }
     ensures never_falls { F.faults files.old ≤ F.faults files.new }
+    ensures visited { Continues (F.visits files.old) (F.visits files.new) (GoesTo allowed result) }
 {
     let most = most_wanted(buf.len(), allowed);
     let got = read_front(files, buf, most);
@@ -134,6 +139,7 @@ fn read_front<F: Files>(files: &mut F, buf: &mut [u8], most: usize) -> Got
     ensures failed { result ≡ Got.Failed → Rose (F.faults files.old) (F.faults files.new) }
     ensures quiet { ReadsOn result → F.faults files.new ≡ F.faults files.old }
     ensures never_falls { F.faults files.old ≤ F.faults files.new }
+    ensures visited { (before : List Visit) (visit : Visit) → F.visits files.old (before ++ visit ∷ []) → F.visits files.new (before ++ read_on visit result ∷ []) }
 {
     files.read(&mut buf[..most])
 }

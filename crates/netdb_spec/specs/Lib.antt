@@ -1,6 +1,15 @@
+pub mod Checked
+pub mod Command
 pub mod Counts
+pub mod Due
+pub mod Gives
+pub mod Laws
+pub mod Outcome
+pub mod Output
+pub mod Reads
 pub mod Refusals
 pub mod StatusNumber
 pub mod StatusText
 pub mod Steps
 pub mod Told
+pub mod Visits

@@ -3,8 +3,8 @@ use Rattle.std.specs.Prelude.{◌≡◌, ◌⊎◌, ◌+◌, ◌≤◌, ℕ, Lis
 use Rattle.netlist_schema.specs.declared.limits.TheConstants.{MOST_FILE_BYTES}
 use Rattle.netdb_outside.specs.Outside.{Shelf}
 use Rattle.script_spec.specs.declared.script.Step.{Step}
-use Rattle.edif_file.specs.Files.{IsWrong}
-use Rattle.edif_file.specs.declared.fault.EdifFault.{EdifFault}
+use Rattle.edif_spec.specs.Files.{IsWrong}
+use Rattle.edif_spec.specs.declared.file_fault.EdifFault.{EdifFault}
 use Rattle.netdb_spec.specs.Told.{IsBadScript, IsFile, IsLarge, IsMissing, IsReadThrough, IsScriptFile}
 use Rattle.netdb_spec.specs.declared.limits.TheConstants.{MOST_REPORT_BYTES, MOST_SCRIPT_BYTES}
 use Rattle.netdb_spec.specs.declared.status.Status.{Status}

@@ -1,7 +1,7 @@
 -- What is said of each status.
 use Rattle.std.specs.Prelude.{ℕ, List, [], ◌++◌, codes, Option, None, Some}
 use Rattle.std.specs.Fmt.{decimal}
-use Rattle.edif_file.specs.FaultText.{fault_text}
+use Rattle.edif_spec.specs.FaultText.{fault_text}
 use Rattle.netdb_spec.specs.declared.status.Status.{Status}
 use Rattle.netdb_spec.specs.declared.status.Status.TheVariants as status
 

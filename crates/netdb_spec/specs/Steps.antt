@@ -1,7 +1,7 @@
 -- What the steps of reading answer.
 use Rattle.std.specs.Prelude.{◌≡◌, ℕ, List, Result, Ok, Err}
 use Rattle.script_spec.specs.ScriptText.{IsFirstBad}
-use Rattle.edif_file.specs.Files.{IsWrong}
+use Rattle.edif_spec.specs.Files.{IsWrong}
 use Rattle.netdb_spec.specs.declared.status.Status.{Status}
 use Rattle.netdb_spec.specs.declared.status.Status.TheVariants as status
 

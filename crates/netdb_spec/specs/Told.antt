@@ -6,7 +6,7 @@ use Rattle.netdb_outside.specs.Outside.{Shelf, file_named}
 use Rattle.edif_spec.specs.Arranged.{canonical_text}
 use Rattle.script_spec.specs.ScriptText.{Parts, IsScriptText, IsFirstBad, steps_of}
 use Rattle.script_spec.specs.declared.script.Step.{Step}
-use Rattle.edif_file.specs.Files.{IsDesignFile, ReadsBack}
+use Rattle.edif_spec.specs.Files.{IsDesignFile, ReadsBack}
 use Rattle.netdb_spec.specs.declared.limits.TheConstants.{MOST_REPORT_BYTES, MOST_SCRIPT_BYTES}
 
 -- there is no file of this name

@@ -1,9 +1,13 @@
-//! What a call of the program answers, what is told of its files, and why one of them is refused. It holds definitions, and no
-//! algorithm.
+//! What a call of the program promises: what its words ask for, which status answers them and why, what is written then, what is told
+//! of its files, and why one of them is refused. It holds definitions and a law, and no algorithm.
 #![tactic(auto)]
 
+mod command;
+mod laws;
 pub mod limits;
-pub mod status;
+mod status;
 
+pub use command::{Command, Wanted};
+pub use laws::given_is_due;
 pub use limits::{MOST_REPORT_BYTES, MOST_SCRIPT_BYTES};
 pub use status::Status;

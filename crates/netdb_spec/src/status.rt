@@ -1,7 +1,7 @@
 //! What a call of the program answers.
 ghost use Rattle.std.specs.Prelude.{◌≡◌};
 
-use edif_file::EdifFault;
+use edif_spec::EdifFault;
 
 /// The status of a call. `word` is the position of a file's name among the words, from 0.
 #[derive(Debug, PartialEq, Eq)]

@@ -1,7 +1,7 @@
 //! The order in which the cells of a library are written.
 #![tactic(auto)]
 
-pub mod order;
+mod order;
 mod ready_queue;
 
 pub use order::cell_order;

@@ -1,6 +1,6 @@
 //! The order of the cells of a library in which children stand first.
 #![tactic(auto)]
 
-pub mod laws;
+mod laws;
 
 pub use laws::order_is_whole;

@@ -1,22 +1,22 @@
 //! Types of a hierarchical netlist, and what makes a design valid. It stands on no other crate of the repository.
 #![tactic(auto)]
 
-pub mod cell;
-pub mod compared;
-pub mod copied;
-pub mod design;
-pub mod ident;
-pub mod ids;
-pub mod inside;
-pub mod library;
+mod cell;
+mod compared;
+mod copied;
+mod design;
+mod ident;
+mod ids;
+mod inside;
+mod library;
 pub mod limits;
-pub mod memory;
-pub mod property;
-pub mod row;
-pub mod shared;
-pub mod shown;
-pub mod text;
-pub mod width;
+mod memory;
+mod property;
+mod row;
+mod shared;
+mod shown;
+mod text;
+mod width;
 
 pub use cell::{CellBody, CellKind, Contents, Direction, End, Inst, Net, Port};
 pub use copied::Copied;
@@ -24,6 +24,10 @@ pub use design::Design;
 pub use ident::Ident;
 pub use ids::{CellId, LibId, Object};
 pub use library::{Lib, LibHead, Note, TopHead};
+pub use limits::{
+    MOST_BITS, MOST_CELLS, MOST_ENDS, MOST_EVENTS, MOST_FILE_BYTES, MOST_INSTS, MOST_LEVELS,
+    MOST_LIBS, MOST_NETS, MOST_NOTES, MOST_PORTS, MOST_WIDTH,
+};
 pub use memory::NoMemory;
 pub use property::{Name, Num, Property, Value};
 pub use row::Row;

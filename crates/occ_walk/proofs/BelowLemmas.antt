@@ -19,10 +19,10 @@ use Rattle.net_classes.specs.declared.joints.Joint.{Joint}
 use Rattle.net_names.specs.Names.{AreHanded, AreNames, AreOwnNames, first_of, name_in}
 use Rattle.net_names.specs.declared.names.Name.{Name}
 use Rattle.net_names.proofs.NameLemmas.{handed_are_names, own_are_names}
-use Rattle.placed_notes.specs.declared.notes.PlacedNotes.{PlacedNotes}
-use Rattle.walk_items.specs.Stand.{IsFrame, IsGround, top_of}
-use Rattle.walk_items.specs.declared.place.Frame.{Frame}
-use Rattle.walk_items.proofs.NetLemmas.{IsToldOf, frame_told, net_is_named, reached_below}
+use Rattle.flat_items.specs.declared.notes.PlacedNotes.{PlacedNotes}
+use Rattle.flat_items.specs.Stand.{IsFrame, IsGround, top_of}
+use Rattle.flat_items.specs.declared.place.Frame.{Frame}
+use Rattle.flat_items.proofs.NetLemmas.{IsToldOf, frame_told, net_is_named, reached_below}
 
 -- a path has fewer steps than there are cells
 depth_along : (d : Design) → IsValid d → (most : ℕ) → most ≡ 67108864 → (root c : CellId) (path : List ℕ) → Reaches d root path c → length path + depth d most c ≤ depth d most root

@@ -1,5 +1,6 @@
 -- What is left of a walk when it gives an item, enters an occurrence, leaves one, or begins.
 use Rattle.std.proofs.Common.{◌≡◌, ◌<◌, ◌+◌, ◌-◌, ℕ, List, [], ◌∷◌, ◌++◌, length, take, drop, refl, sym, ap, subst, ◌∙◌, arith, append_assoc, append-nil, true, false, Option, Some, None, slice_get}
+use Rattle.std.specs.Prelude.{Bool, IfOk, Result, Ok, Err}
 use Rattle.std.specs.List.{enumerate_from, flat_map}
 use Rattle.std.proofs.lemmas.List.{length_push, same_from_push, take_at}
 use Rattle.std.proofs.lemmas.Option.{same_Some}
@@ -7,6 +8,7 @@ use Rattle.netlist_schema.specs.Design.{Design}
 use Rattle.netlist_schema.specs.Hierarchy.{insts_at}
 use Rattle.netlist_schema.specs.Types.{CellId, Inst}
 use Rattle.netlist_schema.specs.Valid.{IsValid}
+use Rattle.netlist_schema.specs.declared.memory.NoMemory.{NoMemory}
 use Rattle.netlist_schema.proofs.Lists.{drop_past, drop_next}
 use Rattle.flat_spec.specs.Below.{items_under}
 use Rattle.flat_spec.specs.Flattening.{flattening}
@@ -16,17 +18,17 @@ use Rattle.flat_spec.proofs.BelowLemmas.{flattening_is_under_top, items_go_down}
 use Rattle.occ_walk.specs.Below.{IsFrameAt, IsFrameBelow}
 use Rattle.occ_walk.specs.Left.{HasPassed, below_from, left, left_above, rest_of}
 use Rattle.occ_walk.specs.Starts.{IsAtStart}
-use Rattle.occ_walk.specs.Walk.{IsLent}
-use Rattle.walk_items.specs.Left.{GoesOn, IsAhead, is_over, own_left}
-use Rattle.walk_items.specs.Lent.{item_of}
-use Rattle.walk_items.specs.Moves.{HasEntered, HasLeft, going_on}
-use Rattle.walk_items.specs.Stand.{AreAbove, IsFrame, MayStand, Stand, here_of, top_of}
-use Rattle.walk_items.specs.declared.lent.ItemRef.{ItemRef}
-use Rattle.walk_items.specs.declared.place.Frame.{Frame}
-use Rattle.walk_items.specs.declared.place.Stage.{Stage}
-use Rattle.walk_items.specs.declared.place.Stage.TheVariants.{Whole, Done}
-use Rattle.walk_items.proofs.FrameLemmas.{lowest_added, lowest_of, none_above}
-use Rattle.walk_items.proofs.StageLemmas.{over_left, own_opens}
+use Rattle.occ_walk.specs.Walk.{IsLent, IsSettled}
+use Rattle.flat_items.specs.Left.{GoesOn, IsAhead, is_over, own_left}
+use Rattle.flat_items.specs.Lent.{item_of}
+use Rattle.flat_items.specs.Moves.{HasEntered, HasLeft, going_on}
+use Rattle.flat_items.specs.Stand.{AreAbove, IsFrame, MayStand, Stand, here_of, top_of}
+use Rattle.flat_items.specs.declared.lent.ItemRef.{ItemRef}
+use Rattle.flat_items.specs.declared.place.Frame.{Frame}
+use Rattle.flat_items.specs.declared.place.Stage.{Stage}
+use Rattle.flat_items.specs.declared.place.Stage.TheVariants.{Whole, Done}
+use Rattle.flat_items.proofs.FrameLemmas.{lowest_added, lowest_of, none_above}
+use Rattle.flat_items.proofs.StageLemmas.{over_left, own_opens}
 use Rattle.occ_walk.proofs.BelowLemmas.{next_is_small}
 
 -- an instance opens into what is at and below its occurrence, and the others
@@ -85,6 +87,19 @@ left_ahead d s item is =
     let rest = below_from d s.path s.here.cell s.here.next ++ left_above d [] s.path s.above in
     let opened : left d s ≡ item ∷ (drop 1 (own_left d (here_of s) s.stage) ++ rest) = ap (λ v. v ++ rest) is in
     opened ∙ ap (λ v. item ∷ drop 1 v) (sym opened)
+
+-- where the occurrence has still something to give, something is left
+pub some_left : (d : Design) → IsValid d → (s : Stand) → MayStand d s → is_over s.stage ≡ false → left d s ≡ [] → ⊥
+some_left d valid s stands more none =
+    let own = own_opens d valid (here_of s) s.stage stands.stage more in
+    let opened : [] ≡ own.0 ∷ drop 1 (left d s) = sym none ∙ left_ahead d s own.0 own.1 in
+    absurd (cc opened)
+
+-- the same after going on
+pub some_settled : (d : Design) → IsValid d → (s : Stand) → MayStand d s → (r : Result Bool NoMemory) → IfOk r (IsSettled (rest_of d s)) → r ≡ Ok true → left d s ≡ [] → ⊥
+some_settled d valid s stands (Ok true) settled is = some_left d valid s stands settled
+some_settled d valid s stands (Ok false) settled is = λ none. absurd (cc is)
+some_settled d valid s stands (Err e) settled is = λ none. absurd (cc is)
 
 -- the same, where it is looked up
 pub lent_ahead : (d : Design) (s : Stand) (o : Option ItemRef) → IsAhead d (here_of s) s.stage o → IsLent (rest_of d s) o

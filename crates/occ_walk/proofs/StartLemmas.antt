@@ -17,11 +17,11 @@ use Rattle.occ_walk.specs.At.{begins_with, items_below, path_of}
 use Rattle.occ_walk.specs.Below.{IsFrameAt, IsFrameBelow}
 use Rattle.occ_walk.specs.Left.{below_from, left, left_above}
 use Rattle.occ_walk.specs.Starts.{IsAtStart}
-use Rattle.walk_items.specs.Moves.{HasEntered, going_on}
-use Rattle.walk_items.specs.Stand.{IsFrame, MayStand, Stand, top_of}
-use Rattle.walk_items.specs.declared.place.Frame.{Frame}
-use Rattle.walk_items.specs.declared.place.Stage.TheVariants.{Whole}
-use Rattle.walk_items.proofs.FrameLemmas.{lowest_added}
+use Rattle.flat_items.specs.Moves.{HasEntered, going_on}
+use Rattle.flat_items.specs.Stand.{IsFrame, MayStand, Stand, top_of}
+use Rattle.flat_items.specs.declared.place.Frame.{Frame}
+use Rattle.flat_items.specs.declared.place.Stage.TheVariants.{Whole}
+use Rattle.flat_items.proofs.FrameLemmas.{lowest_added}
 use Rattle.occ_walk.proofs.AtLemmas.{items_below_are_under}
 use Rattle.occ_walk.proofs.LeftLemmas.{above_pushed, start_left}
 

@@ -3,8 +3,8 @@ use Rattle.std.specs.Prelude.{◌≡◌, ℕ, List, [], ◌∷◌, ◌++◌, Opt
 use Rattle.netlist_schema.specs.Design.{Design}
 use Rattle.netlist_schema.specs.Hierarchy.{insts_at}
 use Rattle.netlist_schema.specs.Types.{CellId, Inst}
-use Rattle.walk_items.specs.Stand.{IsFrame}
-use Rattle.walk_items.specs.declared.place.Frame.{Frame}
+use Rattle.flat_items.specs.Stand.{IsFrame}
+use Rattle.flat_items.specs.declared.place.Frame.{Frame}
 
 -- the frame of the occurrence of that instance, none of whose own instances is passed
 pub record IsFrameBelow (d : Design) (path : List ℕ) (cell : CellId) (step : ℕ) (frame : Frame) : Type 0 where

@@ -7,9 +7,9 @@ use Rattle.netlist_schema.specs.Types.{CellId}
 use Rattle.flat_spec.specs.Below.{items_under}
 use Rattle.flat_spec.specs.Types.{Item}
 use Rattle.occ_walk.specs.Walk.{Rest}
-use Rattle.walk_items.specs.Left.{is_over, own_left}
-use Rattle.walk_items.specs.Stand.{Stand, here_of, top_of}
-use Rattle.walk_items.specs.declared.place.Frame.{Frame}
+use Rattle.flat_items.specs.Left.{is_over, own_left}
+use Rattle.flat_items.specs.Stand.{Stand, here_of, top_of}
+use Rattle.flat_items.specs.declared.place.Frame.{Frame}
 
 -- the items at and below the instances of the cell at the path, from one instance on
 abbrev pub below_from : Design → List ℕ → CellId → ℕ → List Item

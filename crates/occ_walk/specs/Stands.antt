@@ -1,8 +1,8 @@
 -- What holds of each walk.
 use Rattle.netlist_schema.specs.Design.{Design}
 use Rattle.net_classes.specs.Facts.{Facts}
-use Rattle.placed_notes.specs.declared.notes.PlacedNotes.{PlacedNotes}
-use Rattle.walk_items.specs.Stand.{IsGround, MayStand, Stand}
+use Rattle.flat_items.specs.declared.notes.PlacedNotes.{PlacedNotes}
+use Rattle.flat_items.specs.Stand.{IsGround, MayStand, Stand}
 
 -- it goes over a design with a top, and stands where it may
 pub record IsWalk (d : Design) (facts : Facts) (notes : PlacedNotes) (s : Stand) : Type 0 where

@@ -2,8 +2,8 @@
 use Rattle.std.specs.Prelude.{◌≡◌, ℕ, List, []}
 use Rattle.netlist_schema.specs.Design.{Design}
 use Rattle.occ_walk.specs.Left.{left_above}
-use Rattle.walk_items.specs.Stand.{MayStand, Stand}
-use Rattle.walk_items.specs.declared.place.Stage.TheVariants.{Whole}
+use Rattle.flat_items.specs.Stand.{MayStand, Stand}
+use Rattle.flat_items.specs.declared.place.Stage.TheVariants.{Whole}
 
 -- before the first item of the occurrence at the path, where of those above it nothing is left
 pub record IsAtStart (d : Design) (path : List ℕ) (s : Stand) : Type 0 where

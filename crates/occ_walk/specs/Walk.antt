@@ -3,8 +3,8 @@ use Rattle.std.specs.Prelude.{◌≡◌, List, [], ◌∷◌, Option, Some, None
 use Rattle.netlist_schema.specs.Design.{Design}
 use Rattle.netlist_schema.specs.declared.memory.NoMemory.{NoMemory}
 use Rattle.flat_spec.specs.Types.{Item}
-use Rattle.walk_items.specs.Lent.{item_of}
-use Rattle.walk_items.specs.declared.lent.ItemRef.{ItemRef}
+use Rattle.flat_items.specs.Lent.{item_of}
+use Rattle.flat_items.specs.declared.lent.ItemRef.{ItemRef}
 
 -- the design, the items that are left, and whether all items of the occurrence at which the walk stands were given
 pub record Rest : Type 0 where

@@ -3,15 +3,15 @@ ghost use Rattle.std.specs.Prelude.{◌≡◌, ◌++◌, ◌∷◌, [], IfOk, So
 ghost use Rattle.netlist_schema.specs.Hierarchy.{insts_at};
 ghost use Rattle.netlist_schema.specs.Types.{Inst};
 ghost use Rattle.occ_walk.specs.Below.{IsFrameAt};
-ghost use Rattle.walk_items.specs.Stand.{IsFrame, IsGround, top_of};
+ghost use Rattle.flat_items.specs.Stand.{IsFrame, IsGround, top_of};
 
+use flat_items::{Frame, Ground};
 use flat_lookup::inst_at;
 use net_names::{joints_on, names_below, top_names};
 use netlist_schema::{CellId, NoMemory, Shown};
-use walk_items::{Frame, Ground};
 
 /// The frame of the top, whose cell this is.
-pub fn top_frame<S: Shown + Drop>(ground: &Ground<S>, top: CellId) -> Result<Frame, NoMemory>
+pub(crate) fn top_frame<S: Shown + Drop>(ground: &Ground<S>, top: CellId) -> Result<Frame, NoMemory>
     requires ground { IsGround (S.design ground.now.design) ground.now.classes ground.now.notes }
     requires is_top { (top_of (S.design ground.now.design)).cell ≡ top }
     ensures frame { IfOk result (IsFrame (S.design ground.now.design) []) }
@@ -63,7 +63,7 @@ fn frame_below<S: Shown + Drop>(
 }
 
 /// The frame of the occurrence of an instance of the occurrence at the path: `None` exactly where there is no such instance.
-pub fn frame_at<S: Shown + Drop>(
+pub(crate) fn frame_at<S: Shown + Drop>(
     ground: &Ground<S>,
     path: &[u32],
     here: &Frame,

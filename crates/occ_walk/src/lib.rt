@@ -4,6 +4,6 @@
 mod frames;
 pub mod start;
 pub mod steps;
-pub mod walk;
+mod walk;
 
 pub use walk::{Walk, WalkError};

@@ -3,13 +3,12 @@ ghost use Rattle.std.specs.Prelude.{◌≡◌, ◌++◌, ◌∷◌, [], IfOk, Is
 ghost use Rattle.netlist_schema.specs.Hierarchy.{insts_at};
 ghost use Rattle.flat_spec.specs.Paths.{cell_along};
 ghost use Rattle.occ_walk.specs.Starts.{IsAtStart};
-ghost use Rattle.walk_items.specs.Stand.{IsGround, stand_of, top_of};
+ghost use Rattle.flat_items.specs.Stand.{IsGround, stand_of, top_of};
 
 use crate::frames::{frame_at, top_frame};
+use flat_items::{Ground, Place, Stage, Steps};
 use flat_lookup::insts_at;
 use netlist_schema::{CellId, NoMemory, Shown};
-use placed_notes::Steps;
-use walk_items::{Ground, Place, Stage};
 
 /// The place before the first item of all, where the top has this cell.
 pub fn start<S: Shown + Drop>(ground: &Ground<S>, top: CellId) -> Result<Place, NoMemory>

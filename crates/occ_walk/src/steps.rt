@@ -1,14 +1,14 @@
 //! The steps of a walk.
-ghost use Rattle.std.specs.Prelude.{◌≡◌, [], IfOk, OnErr, false, true};
+ghost use Rattle.std.specs.Prelude.{◌≡◌, ◌≢◌, [], IfOk, Ok, OnErr, false, true};
 ghost use Rattle.occ_walk.specs.Left.{HasPassed, IsFirst, left, rest_of};
 ghost use Rattle.occ_walk.specs.Walk.{IsLent, IsSettled};
-ghost use Rattle.walk_items.specs.Left.{is_over, own_left};
-ghost use Rattle.walk_items.specs.Stand.{IsGround, MayStand, here_of, stand_of};
+ghost use Rattle.flat_items.specs.Left.{is_over, own_left};
+ghost use Rattle.flat_items.specs.Stand.{IsGround, MayStand, here_of, stand_of};
 
 use crate::frames::frame_at;
+use flat_items::{Ground, ItemRef, Place, item_ahead, stage_behind};
 use flat_spec::Item;
 use netlist_schema::{NoMemory, Shown};
-use walk_items::{Ground, ItemRef, Place, item_ahead, stage_behind};
 
 /// Goes on to the next occurrence, where one is left and all own items of this one were given: whether there is one.
 fn go_on<S: Shown + Drop>(ground: &Ground<S>, place: &mut Place) -> Result<bool, NoMemory>
@@ -38,6 +38,7 @@ pub fn settle<S: Shown + Drop>(ground: &Ground<S>, place: &mut Place) -> Result<
     ensures stands { MayStand (S.design ground.now.design) (stand_of place.new) }
     ensures left { left (S.design ground.now.design) (stand_of place.new) ≡ left (S.design ground.now.design) (stand_of place.old) }
     ensures gone { IfOk result (IsSettled (rest_of (S.design ground.now.design) (stand_of place.new))) }
+    ensures some { result ≡ Ok true → left (S.design ground.now.design) (stand_of place.new) ≢ [] }
 {
     if place.stage.is_over() {
         return go_on(ground, place);

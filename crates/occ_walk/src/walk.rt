@@ -1,20 +1,20 @@
 //! `Walk`: the items of a design, one at a time.
-ghost use Rattle.std.specs.Prelude.{◌≡◌, ◌↔◌, [], ◌∷◌, Err, IfOk, IfNone, IfSome, IsSome, None, OnErr, Some, drop, false, true};
+ghost use Rattle.std.specs.Prelude.{◌≡◌, ◌≢◌, ◌↔◌, [], ◌∷◌, Err, IfOk, IfNone, IfSome, IsSome, None, Ok, OnErr, Some, drop, false, true};
 ghost use Rattle.netlist_schema.specs.Valid.{IsValid};
 ghost use Rattle.flat_spec.specs.Flattening.{flattening};
 ghost use Rattle.flat_spec.specs.Paths.{cell_along};
 ghost use Rattle.occ_walk.specs.At.{items_below};
 ghost use Rattle.occ_walk.specs.Walk.{GivesNext, IsLent, IsSettled};
-ghost use Rattle.walk_items.specs.Stand.{top_of};
+ghost use Rattle.flat_items.specs.Stand.{top_of};
 
 use crate::start::{go_along, start};
 use crate::steps::{next_item, pass, peek, settle};
+use flat_items::{Ground, ItemRef, Place};
 use flat_spec::{Item, Path};
 use netlist_schema::{CellId, NoMemory, Shown};
 use std::alloc::Global;
 use std::marker::Model;
 use thiserror::Error;
-use walk_items::{Ground, ItemRef, Place};
 
 /// Why there is no walk.
 #[derive(Clone, Copy, Debug, PartialEq, Eq, Error)]
@@ -46,8 +46,8 @@ impl<S: Shown + Drop> Model for Walk<S> {
     ghost use Rattle.occ_walk.specs.Walk.{Rest};
     ghost use Rattle.occ_walk.specs.Left.{left};
     ghost use Rattle.occ_walk.specs.Stands.{IsWalk};
-    ghost use Rattle.walk_items.specs.Left.{is_over};
-    ghost use Rattle.walk_items.specs.Stand.{stand_of};
+    ghost use Rattle.flat_items.specs.Left.{is_over};
+    ghost use Rattle.flat_items.specs.Stand.{stand_of};
 
     ghost Value = { Rest };
 
@@ -132,7 +132,7 @@ impl<S: Shown + Drop> Walk<S> {
         next_item(&self.ground, &mut self.place)
     }
 
-    /// Goes on to the next item: `false` exactly where none is left. After `NoMemory` the walk stands where it stood.
+    /// Goes on to the next item: `true` where one is left, `false` where none is. After `NoMemory` the walk stands where it stood.
     ///
     /// It takes time only where an occurrence is entered: in proportion to its nets, the ends on its instance and the occurrences that
     /// are left.
@@ -140,6 +140,7 @@ impl<S: Shown + Drop> Walk<S> {
         ensures design { self.new.design ≡ self.old.design }
         ensures left { self.new.left ≡ self.old.left }
         ensures settled { IfOk result (IsSettled self.new) }
+        ensures some { result ≡ Ok true → self.new.left ≢ [] }
     {
         settle(&self.ground, &mut self.place)
     }

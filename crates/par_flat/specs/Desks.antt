@@ -5,7 +5,7 @@ use Rattle.netlist_schema.specs.Design.{Design}
 use Rattle.flat_spec.specs.Flattening.{flattening}
 use Rattle.flat_spec.specs.Types.{Item}
 use Rattle.occ_walk.specs.Left.{left}
-use Rattle.walk_items.specs.Stand.{MayStand, stand_of}
+use Rattle.flat_items.specs.Stand.{MayStand, stand_of}
 use Rattle.par_flat.specs.Lines.{IsPart}
 use Rattle.par_flat.specs.declared.desks.Desk.{Desk}
 use Rattle.par_flat.specs.declared.desks.Most.{Most}

@@ -4,13 +4,13 @@ ghost use Rattle.std.specs.Option.{ForSome};
 ghost use Rattle.netlist_schema.specs.Design.{Design};
 ghost use Rattle.flat_spec.specs.Flattening.{flattening};
 ghost use Rattle.occ_walk.specs.Left.{left};
-ghost use Rattle.walk_items.specs.Stand.{MayStand, stand_of};
+ghost use Rattle.flat_items.specs.Stand.{MayStand, stand_of};
 ghost use Rattle.par_flat.specs.Desks.{AreDesks, IsSeat};
 
+use flat_items::Place;
 use netlist_schema::{NoMemory, Shown};
 use par_parts::{CountedGround, skip, start_at};
 use std::alloc::Global;
-use walk_items::Place;
 
 /// The most items that are made into lines, and how long the text is behind which no line is made any more.
 #[derive(Clone, Copy)]

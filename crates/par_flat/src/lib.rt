@@ -1,13 +1,13 @@
 //! The items of a flattening, and their lines on their way to a sink, by workers beside each other.
 #![tactic(auto)]
 
-pub mod cut;
-pub mod desks;
-pub mod items;
-pub mod lines;
-pub mod parts;
-pub mod rounds;
-pub mod write;
+mod cut;
+mod desks;
+mod items;
+mod lines;
+mod parts;
+mod rounds;
+mod write;
 
 pub use flat_writer::FlatError;
 pub use items::par_flat;

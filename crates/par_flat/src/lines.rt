@@ -3,17 +3,17 @@ ghost use Rattle.std.specs.Prelude.{◌≡◌, ◌<◌, ◌+◌, ◌^◌, ◌++�
 ghost use Rattle.std.specs.Option.{ForSome};
 ghost use Rattle.flat_spec.specs.Flattening.{flattening};
 ghost use Rattle.occ_walk.specs.Left.{left};
-ghost use Rattle.walk_items.specs.Left.{is_over};
-ghost use Rattle.walk_items.specs.Stand.{MayStand, stand_of};
+ghost use Rattle.flat_items.specs.Left.{is_over};
+ghost use Rattle.flat_items.specs.Stand.{MayStand, stand_of};
 ghost use Rattle.par_flat.specs.Desks.{IsSeat};
 ghost use Rattle.par_flat.specs.Lines.{GivesLine, IsPart};
 
 use crate::desks::{Desk, Most, Seat, place_at};
+use flat_items::{ItemRef, Place};
 use flat_report::kept_text;
 use netlist_schema::{NoMemory, Shown};
 use par_parts::CountedGround;
 use path_texts::PathTexts;
-use walk_items::{ItemRef, Place};
 
 /// The path of the occurrence to which an item belongs.
 fn path_of(item: ItemRef<'_>) -> &[u32] {

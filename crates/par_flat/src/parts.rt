@@ -3,13 +3,13 @@ ghost use Rattle.std.specs.Prelude.{◌≡◌, ◌++◌, IfOk, OnOk, Some, OnErr
 ghost use Rattle.flat_spec.specs.Flattening.{flattening};
 ghost use Rattle.occ_walk.specs.Left.{left};
 ghost use Rattle.flat_lines_spec.specs.Lines.{shown_items};
-ghost use Rattle.walk_items.specs.Stand.{MayStand, stand_of};
+ghost use Rattle.flat_items.specs.Stand.{MayStand, stand_of};
 ghost use Rattle.par_flat.specs.Parts.{GivesMore};
 
+use flat_items::Place;
 use flat_spec::Item;
 use netlist_schema::{NoMemory, Shown};
 use par_parts::{CountedGround, start_at};
-use walk_items::Place;
 
 /// The room behind an item.
 fn one_less(room: Option<u64>) -> Option<u64>

@@ -14,16 +14,16 @@ use Rattle.flat_spec.specs.Types.{Item}
 use Rattle.flat_spec.proofs.PathLemmas.{Reaches-append, Reaches-cons}
 use Rattle.par_parts.specs.declared.tables.ItemCounts.{ItemCounts}
 use Rattle.net_classes.specs.Facts.{Facts}
-use Rattle.placed_notes.specs.declared.notes.PlacedNotes.{PlacedNotes}
+use Rattle.flat_items.specs.declared.notes.PlacedNotes.{PlacedNotes}
 use Rattle.occ_walk.specs.Left.{HasPassed, below_from, left, left_above}
-use Rattle.walk_items.specs.Left.{is_over, own_left}
-use Rattle.walk_items.specs.Moves.{going_on}
-use Rattle.walk_items.specs.Stand.{IsFrame, MayStand, Stand, here_of, top_of}
-use Rattle.walk_items.specs.declared.place.Frame.{Frame}
-use Rattle.walk_items.specs.declared.place.Stage.{Stage}
-use Rattle.walk_items.specs.declared.place.Stage.TheVariants.{Nets}
-use Rattle.walk_items.proofs.NetLemmas.{reached_below}
-use Rattle.walk_items.proofs.StageLemmas.{net_behind, over_left}
+use Rattle.flat_items.specs.Left.{is_over, own_left}
+use Rattle.flat_items.specs.Moves.{going_on}
+use Rattle.flat_items.specs.Stand.{IsFrame, MayStand, Stand, here_of, top_of}
+use Rattle.flat_items.specs.declared.place.Frame.{Frame}
+use Rattle.flat_items.specs.declared.place.Stage.{Stage}
+use Rattle.flat_items.specs.declared.place.Stage.TheVariants.{Nets}
+use Rattle.flat_items.proofs.NetLemmas.{reached_below}
+use Rattle.flat_items.proofs.StageLemmas.{net_behind, over_left}
 use Rattle.occ_walk.proofs.LeftLemmas.{passed}
 use Rattle.par_parts.specs.Skip.{IsBehindInst, IsFitting}
 use Rattle.par_parts.specs.CountedGround.{IsCounted}

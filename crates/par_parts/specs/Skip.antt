@@ -6,8 +6,8 @@ use Rattle.netlist_schema.specs.Types.{CellId}
 use Rattle.par_parts.specs.Counts.{count_at}
 use Rattle.par_parts.specs.declared.tables.ItemCounts.{ItemCounts}
 use Rattle.occ_walk.specs.Left.{left}
-use Rattle.walk_items.specs.Left.{is_over}
-use Rattle.walk_items.specs.Stand.{MayStand, Stand}
+use Rattle.flat_items.specs.Left.{is_over}
+use Rattle.flat_items.specs.Stand.{MayStand, Stand}
 
 -- that is the count of the cell, it says all, and it is no more than so many
 pub record IsFitting (counts : ItemCounts) (cell : CellId) (most count : ℕ) : Type 0 where

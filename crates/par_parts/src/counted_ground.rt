@@ -4,11 +4,12 @@ ghost use Rattle.netlist_schema.specs.Valid.{IsValid};
 ghost use Rattle.flat_spec.specs.Flattening.{flattening};
 ghost use Rattle.occ_walk.specs.Left.{HasPassed, IsFirst, left, rest_of};
 ghost use Rattle.occ_walk.specs.Walk.{IsLent, IsSettled};
-ghost use Rattle.walk_items.specs.Left.{is_over};
-ghost use Rattle.walk_items.specs.Stand.{MayStand, stand_of, top_of};
+ghost use Rattle.flat_items.specs.Left.{is_over};
+ghost use Rattle.flat_items.specs.Stand.{MayStand, stand_of, top_of};
 ghost use Rattle.par_parts.specs.Skip.{HasPassedInst, IsFitting};
 
 use crate::{ItemCounts, count_items, count_top};
+use flat_items::{Ground, ItemRef, Place, Stage};
 use flat_lookup::inst_at;
 use flat_spec::Item;
 use netlist_schema::{CellId, NoMemory, Shown};
@@ -17,7 +18,6 @@ use occ_walk::start::start;
 use occ_walk::steps::{next_item, pass, peek, settle};
 use std::alloc::Global;
 use std::marker::Model;
-use walk_items::{Ground, ItemRef, Place, Stage};
 
 /// A design with a top, what walks over it need to know, and how many items stand at and below an occurrence of each cell. It stays as
 /// it is, so walks in several threads share it. Contracts see the design.

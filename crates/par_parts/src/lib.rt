@@ -2,11 +2,11 @@
 //! and how items are passed over without a look at each.
 #![tactic(auto)]
 
-pub mod count;
-pub mod counted_ground;
-pub mod counts;
-pub mod passing;
-pub mod tables;
+mod count;
+mod counted_ground;
+mod counts;
+mod passing;
+mod tables;
 
 pub use count::count_top;
 pub use counted_ground::CountedGround;

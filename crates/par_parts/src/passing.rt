@@ -2,12 +2,12 @@
 ghost use Rattle.std.specs.Prelude.{◌≡◌, ◌<◌, ◌≤◌, IfOk, OnOk, drop, false, true};
 ghost use Rattle.flat_spec.specs.Flattening.{flattening};
 ghost use Rattle.occ_walk.specs.Left.{left};
-ghost use Rattle.walk_items.specs.Left.{is_over};
-ghost use Rattle.walk_items.specs.Stand.{MayStand, stand_of};
+ghost use Rattle.flat_items.specs.Left.{is_over};
+ghost use Rattle.flat_items.specs.Stand.{MayStand, stand_of};
 
 use crate::counted_ground::CountedGround;
+use flat_items::Place;
 use netlist_schema::{NoMemory, Shown};
-use walk_items::Place;
 
 /// Passes over own items of the occurrence, at most so many, where one is left: how many more are to be passed over.
 fn pass_own<S: Shown + Drop>(ground: &CountedGround<S>, place: &mut Place, count: u64) -> u64

@@ -11,10 +11,10 @@ use Rattle.netlist_schema.specs.Design.{Design}
 use Rattle.netlist_schema.specs.Hierarchy.{insts_at}
 use Rattle.netlist_schema.specs.Types.{CellId, Inst, TopHead}
 use Rattle.flat_spec.specs.Effective.{insts_along, names_along}
-use Rattle.flat_spec.specs.Paths.{Reaches, cell_along}
+use Rattle.flat_spec.specs.Paths.{Reaches, cell_along, cell_below_top}
 use Rattle.flat_lines_spec.specs.Lines.{names_text, path_text}
 use Rattle.flat_spec.proofs.PathLemmas.{Reaches-append, Reaches-cons, Reaches-parts}
-use Rattle.path_texts.specs.Texts.{AreMarked, IsMark, IsMarked, cell_below_top, steps_text}
+use Rattle.path_texts.specs.Texts.{AreMarked, IsMark, IsMarked, steps_text}
 use Rattle.path_texts.specs.declared.marks.Marked.{Marked}
 use Rattle.path_texts.specs.declared.marks.Mark.{Mark}
 

@@ -1,11 +1,11 @@
 -- The text of a path, and where the texts of its fronts end.
-use Rattle.std.specs.Prelude.{◌≡◌, ℕ, suc, List, ◌++◌, Option, Some, codes, length, slice_get, take, option_and_then, IfSome}
+use Rattle.std.specs.Prelude.{◌≡◌, ℕ, suc, List, ◌++◌, Option, Some, codes, length, slice_get, take, IfSome}
 use Rattle.std.specs.List.{flat_map}
 use Rattle.std.specs.Option.{option_map}
 use Rattle.netlist_schema.specs.Design.{Design}
 use Rattle.netlist_schema.specs.Types.{CellId}
 use Rattle.flat_spec.specs.Effective.{insts_along}
-use Rattle.flat_spec.specs.Paths.{cell_along, Reaches}
+use Rattle.flat_spec.specs.Paths.{Reaches}
 use Rattle.path_texts.specs.declared.marks.Mark.{Mark}
 use Rattle.path_texts.specs.declared.marks.Marked.{Marked}
 
@@ -30,7 +30,3 @@ IsMarked d root kept = AreMarked d root kept.steps.items kept.text.items kept.ma
 -- the cell of the top, where there is one, and steps from it with their text
 abbrev pub IsKept : Design → Option CellId → Marked → Type 0
 IsKept d top kept = IfSome top (λ root. (option_map (λ t. t.cell) d.top ≡ Some root) × IsMarked d root kept)
-
--- the cell of the occurrence at the path, where there is one
-abbrev pub cell_below_top : Design → List ℕ → Option CellId
-cell_below_top d path = option_and_then (λ top. cell_along d top.cell path) d.top

@@ -4,7 +4,8 @@ ghost use Rattle.std.specs.Option.{option_map};
 ghost use Rattle.netlist_schema.specs.Design.{Design};
 ghost use Rattle.netlist_schema.specs.Types.{CellId as Cell};
 ghost use Rattle.flat_lines_spec.specs.Lines.{path_text};
-ghost use Rattle.path_texts.specs.Texts.{IsKept, IsMark, IsMarked, cell_below_top, steps_text};
+ghost use Rattle.flat_spec.specs.Paths.{cell_below_top};
+ghost use Rattle.path_texts.specs.Texts.{IsKept, IsMark, IsMarked, steps_text};
 
 use crate::marks::{Marked, cut, mark_at, push_steps};
 use netlist_schema::{CellId, Shown};

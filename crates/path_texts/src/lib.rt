@@ -1,7 +1,7 @@
 //! The texts of paths, each made from the one before: what two paths have in common is not made again.
 #![tactic(auto)]
 
-pub mod kept;
-pub mod marks;
+mod kept;
+mod marks;
 
 pub use kept::{PathText, PathTexts};

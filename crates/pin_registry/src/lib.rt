@@ -1,6 +1,6 @@
 //! The registry of pins: which pins are live, and which versions they hold.
 #![tactic(auto)]
 
-pub mod pins;
+mod pins;
 
 pub use pins::Pins;

@@ -4,8 +4,7 @@ ghost use Rattle.std.specs.List.{list_any};
 ghost use Rattle.pin_registry.specs.Counts.{count_at};
 ghost use Rattle.pin_registry.specs.Registry.{IsLive, with_pin, without_pin};
 
-use netlist_schema::NoMemory;
-use netlist_schema::limits::MOST_EVENTS;
+use netlist_schema::{MOST_EVENTS, NoMemory};
 use std::alloc::Global;
 use std::collections::BTreeMap;
 use std::marker::Model;

@@ -3,7 +3,7 @@ use Rattle.std.proofs.Common.{◌≡◌, ◌∙◌, ℕ, suc, ◌+◌, ◌<◌, 
 use Rattle.std.specs.Prelude.{◌↔◌, IfOk, MatchOption, Option, Some, None, Result, Ok, Err, IsTrue}
 use Rattle.std.proofs.Math.Seq.{drop-cons}
 use Rattle.std.proofs.lemmas.List.{append_cancel_left, drop_all}
-use Rattle.joint_spec.specs.Written.{numbered_text, numbered_texts}
+use Rattle.script_run_spec.specs.Written.{numbered_text, numbered_texts}
 
 -- ---- a part behind a front
 

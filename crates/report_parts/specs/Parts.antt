@@ -3,7 +3,7 @@ use Rattle.std.specs.Prelude.{◌≡◌, ◌<◌, ℕ, List, [], ◌∷◌, ◌+
 use Rattle.netlist_schema.specs.Design.{Design}
 use Rattle.edif_spec.specs.Arranged.{canonical_text}
 use Rattle.script_spec.specs.Texts.{line}
-use Rattle.joint_spec.specs.Written.{numbered_texts}
+use Rattle.script_run_spec.specs.Written.{numbered_texts}
 use Rattle.history_check_spec.specs.Heads.{begins_with_r, head_text}
 use Rattle.report_parts.specs.declared.heads.Next.{Next}
 

@@ -2,7 +2,7 @@
 ghost use Rattle.std.specs.Prelude.{◌≡◌, ◌↔◌, ◌∷◌, ◌++◌, [], IfOk, IsTrue, List, ℕ, MatchOption, codes, decimal};
 ghost use Rattle.edif_spec.specs.Arranged.{canonical_text};
 ghost use Rattle.script_spec.specs.Texts.{line};
-ghost use Rattle.joint_spec.specs.Written.{numbered_text, numbered_texts};
+ghost use Rattle.script_run_spec.specs.Written.{numbered_text, numbered_texts};
 ghost use Rattle.report_parts.specs.Parts.{rest_text};
 
 use crate::heads::after;

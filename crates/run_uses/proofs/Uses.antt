@@ -5,18 +5,19 @@ use Rattle.netlist_schema.specs.Design.{Design}
 use Rattle.netdb_outside.specs.Outside.{Appends, AppendsFront}
 use Rattle.netdb_outside.specs.declared.write_error.WriteError.{WriteError}
 use Rattle.netdb_outside.specs.declared.write_error.WriteError.TheVariants.{NoMemory, WriteFault}
-use Rattle.history_spec.specs.declared.event.Event.{Event}
+use Rattle.db_spec.specs.declared.event.Event.{Event}
 use Rattle.script_spec.specs.Report.{last_design}
 use Rattle.script_spec.specs.declared.script.Step.{Step}
 use Rattle.db_version.specs.Shot.{Shot}
 use Rattle.db_core.specs.Story.{Story}
-use Rattle.joint_spec.specs.Laws.{EndedIsPrinted}
-use Rattle.joint_spec.specs.Written.{written_report}
-use Rattle.last_uses.specs.LastUses.{last_uses_text}
+use Rattle.script_run_spec.specs.JointLaws.{EndedIsPrinted}
+use Rattle.script_run_spec.specs.Written.{written_report}
+use Rattle.used_spec.specs.LastUses.{last_uses_text}
 use Rattle.script_run_all.specs.Run.{HaveRun}
 use Rattle.script_run_all.specs.declared.ended.RunEnd.TheVariants.{Whole, LogFull}
 use Rattle.script_run_all.proofs.Reports.{Printed, printed, ends_in, text_of}
-use Rattle.run_uses.specs.Written.{IsFullUses, IsUses, IsUsesFront, UsesWrite}
+use Rattle.used_spec.specs.UsesReports.{IsFullUses, IsUses, IsUsesFront}
+use Rattle.run_uses.specs.Written.{UsesWrite}
 
 -- both texts of a run on a design
 abbrev both_of : Design → Story → List (List ℕ) → List ℕ

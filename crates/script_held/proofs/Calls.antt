@@ -1,14 +1,14 @@
 -- What the calls of a pass make of its part of the history.
 use Rattle.std.proofs.Common.{◌≡◌, ◌∙◌, ℕ, List, [], ◌∷◌, ◌++◌, Some, None, map, refl, ap, sym, subst, append-nil}
-use Rattle.history_spec.specs.declared.event.Answer.{Answer}
-use Rattle.history_spec.specs.declared.event.Call.{Call}
-use Rattle.history_spec.specs.declared.event.Answer.TheVariants.{Released}
-use Rattle.history_spec.specs.declared.event.Call.TheVariants.{Release}
-use Rattle.history_spec.specs.declared.event.Event.{Event}
+use Rattle.db_spec.specs.declared.event.Answer.{Answer}
+use Rattle.db_spec.specs.declared.event.Call.{Call}
+use Rattle.db_spec.specs.declared.event.Answer.TheVariants.{Released}
+use Rattle.db_spec.specs.declared.event.Call.TheVariants.{Release}
+use Rattle.db_spec.specs.declared.event.Event.{Event}
 use Rattle.turn_cell.specs.Seats.{entries_of}
 use Rattle.script_spec.specs.Session.{Exchange, Told, last_release, release}
-use Rattle.run_spec.specs.Calls.{Makes}
-use Rattle.run_spec.proofs.OneLine.{makes_nothing}
+use Rattle.script_run_spec.specs.Calls.{Makes}
+use Rattle.script_run_spec.proofs.OneLine.{makes_nothing}
 use Rattle.edit_tx.specs.Facts.{PinFacts}
 use Rattle.db_core.specs.Calls.{event_of}
 use Rattle.db_share.specs.Passes.{Shared, Pass, HasPin, IsReady, maker}

@@ -1,7 +1,7 @@
 //! What a script holds between two of its lines, and why it stops before its end.
 ghost use Rattle.std.specs.Prelude.{◌≡◌};
 ghost use Rattle.script_spec.specs.Session.{last_release};
-ghost use Rattle.run_spec.specs.Calls.{Makes};
+ghost use Rattle.script_run_spec.specs.Calls.{Makes};
 ghost use Rattle.db_share.specs.Passes.{IsReady};
 ghost use Rattle.db_share.specs.Calls.{GoesOn};
 ghost use Rattle.script_held.specs.Holding.{IsHeldBy, ended_full, filled, held_of, left_held, pin_held, told};

@@ -1,6 +1,6 @@
 //! What a script holds between two of its lines, and its release at the end.
 #![tactic(auto)]
 
-pub mod held;
+mod held;
 
 pub use held::{Block, Held, Stop, filled, settle, told};

@@ -2,7 +2,7 @@
 use Rattle.std.specs.Prelude.{ℕ, List, [], ◌∷◌, ◌++◌, Option, None, Some, codes, decimal}
 use Rattle.edit_spec.specs.declared.ops.Op.{Op}
 use Rattle.edit_rules_spec.specs.declared.reply.Reply.{Reply}
-use Rattle.history_spec.specs.declared.event.Event.{Event}
+use Rattle.db_spec.specs.declared.event.Event.{Event}
 use Rattle.netlist_schema.specs.Design.{Design}
 use Rattle.script_spec.specs.Texts.{answer_words, call_words, reply_text}
 use Rattle.script_texts.specs.Parts.{behind_blanks, op_words}

@@ -8,12 +8,12 @@ ghost use Rattle.script_spec.specs.Texts.{answer_words, call_words, conflict_wor
 ghost use Rattle.script_texts.specs.Parts.{behind_blanks};
 ghost use Rattle.script_lang.specs.Parts.{event_words, op_line, told_text};
 
+use db_spec::{Answer, Call, Event};
 use edit_spec::{Op, Reply};
-use history_spec::{Answer, Call, Event};
 use netlist_schema::{NoMemory, Object, Shown};
-use script_texts::ops::push_op;
-use script_texts::texts::{push_object, push_reply, push_size};
-use script_texts::words::{push_count, push_digits, push_number, push_word};
+use script_texts::{
+    push_count, push_digits, push_number, push_object, push_op, push_reply, push_size, push_word,
+};
 use std::alloc::Global;
 
 /// Appends an event with its number in the history: who called, the call and the answer in a line, and below it each operation of
@@ -70,7 +70,7 @@ fn push_pinned(pin: u64, version: u64, out: &mut Vec<u8>) -> Result<(), NoMemory
 }
 
 /// Appends a conflict, each word behind a blank. After `NoMemory` some bytes may stand behind those before.
-pub fn push_conflict<S: Shown>(
+fn push_conflict<S: Shown>(
     design: &S,
     object: Object,
     version: u64,

@@ -9,8 +9,7 @@ ghost use Rattle.script_words.specs.declared.unread.Unread.TheVariants.{Bad};
 use crate::pieces::{inst, leaf, path};
 use edit_spec::{CellName, EndName, Target};
 use netlist_schema::{Ident, Row};
-use script_words::atoms::{name, number};
-use script_words::unread::Unread;
+use script_words::{Unread, name, number};
 use std::alloc::Global;
 
 /// The first word, and the others. `Bad` where there is none.
@@ -24,7 +23,7 @@ pub fn first<'a>(words: &'a [&'a [u8]]) -> Result<(&'a [u8], &'a [&'a [u8]]), Un
 }
 
 /// Takes an identifier.
-pub fn take_name<'a>(
+pub(crate) fn take_name<'a>(
     alloc: Global,
     words: &'a [&'a [u8]],
 ) -> Result<(Ident, &'a [&'a [u8]]), Unread>
@@ -35,7 +34,7 @@ pub fn take_name<'a>(
 }
 
 /// Takes the name of an end's instance.
-pub fn take_inst<'a>(
+fn take_inst<'a>(
     alloc: Global,
     words: &'a [&'a [u8]],
 ) -> Result<(Option<Ident>, &'a [&'a [u8]]), Unread>
@@ -46,7 +45,7 @@ pub fn take_inst<'a>(
 }
 
 /// Takes a path.
-pub fn take_path<'a>(
+pub(crate) fn take_path<'a>(
     alloc: Global,
     words: &'a [&'a [u8]],
 ) -> Result<(Row<Ident>, &'a [&'a [u8]]), Unread>
@@ -57,7 +56,7 @@ pub fn take_path<'a>(
 }
 
 /// Takes `leaf` or `empty`.
-pub fn take_leaf<'a>(words: &'a [&'a [u8]]) -> Result<(bool, &'a [&'a [u8]]), Unread>
+pub(crate) fn take_leaf<'a>(words: &'a [&'a [u8]]) -> Result<(bool, &'a [&'a [u8]]), Unread>
     ensures { TakesFront (λ is_leaf. said (leaf_word is_leaf) ∷ []) words.now result }
 {
     let (word, others) = first(words)?;
@@ -73,7 +72,7 @@ pub fn take_number<'a>(words: &'a [&'a [u8]], most: u64) -> Result<(u64, &'a [&'
 }
 
 /// Takes a cell's names.
-pub fn take_cell<'a>(
+pub(crate) fn take_cell<'a>(
     alloc: Global,
     words: &'a [&'a [u8]],
 ) -> Result<(CellName, &'a [&'a [u8]]), Unread>
@@ -104,7 +103,7 @@ pub fn only<'a>(words: &'a [&'a [u8]]) -> Result<&'a [u8], Unread>
 }
 
 /// Reads an end: the names of the instance and the port, and the bit.
-pub fn end<'a>(alloc: Global, words: &'a [&'a [u8]]) -> Result<EndName, Unread>
+pub(crate) fn end<'a>(alloc: Global, words: &'a [&'a [u8]]) -> Result<EndName, Unread>
     ensures { Reads (λ e. SpellPieces (lent words.now) (end_pieces e)) result }
 {
     let (inst, others) = take_inst(alloc, words)?;
@@ -125,7 +124,7 @@ fn bit(words: &[&[u8]]) -> Result<u32, Unread>
 }
 
 /// Takes what a property is set of.
-pub fn take_target<'a>(
+pub(crate) fn take_target<'a>(
     alloc: Global,
     words: &'a [&'a [u8]],
 ) -> Result<(Target, &'a [&'a [u8]]), Unread>

@@ -1,8 +1,12 @@
 //! Reads the operation that the words of a line say.
 #![tactic(auto)]
 
-pub mod front;
-pub mod ops;
+mod front;
+mod ops;
 mod pieces;
 mod values;
-pub mod verbs;
+mod verbs;
+
+pub use front::{finished, first, only};
+pub use ops::read_op;
+pub use verbs::{Bare, Inside, OpVerb, Verb, find_verb};

@@ -12,7 +12,7 @@ use crate::values::property;
 use crate::verbs::{Inside, OpVerb};
 use edit_spec::{CellName, Op};
 use netlist_schema::Ident;
-use script_words::unread::Unread;
+use script_words::Unread;
 use std::alloc::Global;
 
 /// A cell alone.

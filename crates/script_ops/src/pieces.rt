@@ -10,14 +10,12 @@ ghost use Rattle.script_words.specs.declared.unread.Unread.TheVariants.{Bad};
 
 use crate::front::first;
 use edit_spec::PortDecl;
-use netlist_schema::limits::MOST_WIDTH;
-use netlist_schema::{Direction, Ident, Row, Width};
-use script_words::atoms::{name, number};
-use script_words::unread::Unread;
+use netlist_schema::{Direction, Ident, MOST_WIDTH, Row, Width};
+use script_words::{Unread, name, number};
 use std::alloc::{AllocError, Global};
 
 /// `leaf` or `empty`.
-pub fn leaf(word: &[u8]) -> Result<bool, Unread>
+pub(crate) fn leaf(word: &[u8]) -> Result<bool, Unread>
     ensures { Reads (λ is_leaf. word.now ≡ leaf_word is_leaf) result }
 {
     if word == b"leaf".as_slice() {
@@ -30,7 +28,7 @@ pub fn leaf(word: &[u8]) -> Result<bool, Unread>
 }
 
 /// The name of an end's instance, or `-` for the cell's own port.
-pub fn inst(alloc: Global, word: &[u8]) -> Result<Option<Ident>, Unread>
+pub(crate) fn inst(alloc: Global, word: &[u8]) -> Result<Option<Ident>, Unread>
     ensures { Reads (λ id. SpellsPiece word.now (inst_piece id)) result }
 {
     if word == b"-".as_slice() {
@@ -84,7 +82,7 @@ fn names(alloc: Global, parts: &[&[u8]]) -> Result<Vec<Ident>, Unread>
 }
 
 /// A path.
-pub fn path(alloc: Global, word: &[u8]) -> Result<Row<Ident>, Unread>
+pub(crate) fn path(alloc: Global, word: &[u8]) -> Result<Row<Ident>, Unread>
     ensures { Reads (λ ids. SpellsPiece word.now (path_piece ids)) result }
 {
     let parts = slash_parts(alloc, word)?;
@@ -143,7 +141,7 @@ fn port(alloc: Global, word: &[u8]) -> Result<PortDecl, Unread>
 }
 
 /// Ports, one a word.
-pub fn ports(alloc: Global, words: &[&[u8]]) -> Result<Row<PortDecl>, Unread>
+pub(crate) fn ports(alloc: Global, words: &[&[u8]]) -> Result<Row<PortDecl>, Unread>
     ensures { Reads (λ decls. SpellPieces (lent words.now) (map port_piece decls)) result }
 {
     let mut decls = Vec::new(alloc);

@@ -8,8 +8,7 @@ ghost use Rattle.script_ops.specs.Verbs.{HasBytes};
 
 use crate::front::{finished, first, only, take_name};
 use netlist_schema::{Name, Num, Property, Value};
-use script_words::atoms::{exponent, integer, quoted};
-use script_words::unread::Unread;
+use script_words::{Unread, exponent, integer, quoted};
 use std::alloc::Global;
 
 /// Which value a line gives, by its first word.
@@ -98,7 +97,7 @@ fn value(alloc: Global, words: &[&[u8]]) -> Result<Value, Unread>
 }
 
 /// A property: its key and its value.
-pub fn property(alloc: Global, words: &[&[u8]]) -> Result<Property, Unread>
+pub(crate) fn property(alloc: Global, words: &[&[u8]]) -> Result<Property, Unread>
     ensures spelled { Reads (λ p. SpellPieces (lent words.now) (property_pieces p)) result }
     ensures plain { IfOk result IsPlainProperty }
     ensures bytes { IfOk result (λ p. HasBytes p.value) }

@@ -5,7 +5,7 @@ use Rattle.std.specs.List.{after_first, before_first, list_all, onto_first, posi
 use Rattle.std.proofs.lemmas.Bool.{eqb-true, ltb-false}
 use Rattle.std.proofs.lemmas.List.{drop_all, drop_at, take_all}
 use Rattle.std.proofs.lemmas.List.Sums.{passes_at_first, split_at_first}
-use Rattle.edif_strings.proofs.CutLemmas.{cond_none, position_cases}
+use Rattle.edif_lexer.proofs.CutLemmas.{cond_none, position_cases}
 use Rattle.std.proofs.lemmas.List.Splits.{length-slice_split}
 use Rattle.edif_spelling_spec.specs.Bytes.{is_quote}
 use Rattle.edif_spelling_spec.specs.Names.{is_empty}

@@ -22,21 +22,21 @@ fn is_blank(byte: u8) -> bool
 }
 
 /// The parts of a text between line feeds.
-pub fn line_parts(alloc: Global, text: &[u8]) -> Result<Vec<&[u8]>, AllocError>
+fn line_parts(alloc: Global, text: &[u8]) -> Result<Vec<&[u8]>, AllocError>
     ensures { IfOk result (λ parts. map (λ x. x.now) parts.items ≡ slice_split is_line_feed text.now) }
 {
     text.split(|b| is_line_feed(*b)).collect(alloc)
 }
 
 /// The parts of a line between blanks.
-pub fn blank_parts(alloc: Global, line: &[u8]) -> Result<Vec<&[u8]>, AllocError>
+pub(crate) fn blank_parts(alloc: Global, line: &[u8]) -> Result<Vec<&[u8]>, AllocError>
     ensures { IfOk result (λ parts. map (λ x. x.now) parts.items ≡ slice_split is_blank line.now) }
 {
     line.split(|b| is_blank(*b)).collect(alloc)
 }
 
 /// A line without a carriage return at its end.
-pub fn without_return(line: &[u8]) -> &[u8]
+fn without_return(line: &[u8]) -> &[u8]
     ensures { result.now ≡ without_return line.now }
 {
     match line.split_last() {
@@ -67,7 +67,7 @@ fn push_last<'a>(part: &'a [u8], lines: &mut Vec<&'a [u8]>) -> Result<(), NoMemo
 }
 
 /// The lines of a text: they end with a line feed, which the last may lack, and a carriage return before it is dropped.
-pub fn cut_lines(alloc: Global, text: &[u8]) -> Result<Vec<&[u8]>, NoMemory>
+pub(crate) fn cut_lines(alloc: Global, text: &[u8]) -> Result<Vec<&[u8]>, NoMemory>
     ensures { IfOk result (λ lines. map (λ x. x.now) lines.items ≡ lines_of text.now) }
 {
     let parts = line_parts(alloc, text)?;
@@ -81,7 +81,7 @@ pub fn cut_lines(alloc: Global, text: &[u8]) -> Result<Vec<&[u8]>, NoMemory>
 }
 
 /// The bytes without the blanks at their end.
-pub fn trimmed(bytes: &[u8]) -> &[u8]
+pub(crate) fn trimmed(bytes: &[u8]) -> &[u8]
     ensures { result.now ≡ trimmed bytes.now }
 {
     let mut left = bytes;

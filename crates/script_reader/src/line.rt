@@ -11,7 +11,7 @@ use crate::cut::{blank_parts, trimmed};
 use crate::steps::read_step;
 use netlist_schema::NoMemory;
 use script_spec::Step;
-use script_words::unread::Unread;
+use script_words::Unread;
 use std::alloc::Global;
 
 /// The place of the first quote.
@@ -74,7 +74,7 @@ fn is_comment(words: &[&[u8]]) -> bool
 }
 
 /// The step that a line says, or `None` for a comment. `Bad` where it is neither.
-pub fn read_line(alloc: Global, line: &[u8]) -> Result<Option<Step>, Unread>
+pub(crate) fn read_line(alloc: Global, line: &[u8]) -> Result<Option<Step>, Unread>
     ensures { ReadsLine line.now result }
 {
     let words = line_words(alloc, line)?;

@@ -12,7 +12,7 @@ use crate::cut::cut_lines;
 use crate::line::read_line;
 use netlist_schema::{NoMemory, Row};
 use script_spec::{Script, ScriptLine, Step};
-use script_words::unread::Unread;
+use script_words::Unread;
 use std::alloc::Global;
 
 /// Why a text was not read as a script.

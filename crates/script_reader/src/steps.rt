@@ -7,12 +7,9 @@ ghost use Rattle.script_words.specs.Reading.{lent, Reads};
 ghost use Rattle.script_reader.specs.Steps.{IsStepOf, limit_pieces, ReadsStep, SaysRetries};
 ghost use Rattle.script_ops.specs.declared.verbs.Verb.TheVariants as verbs;
 
-use script_ops::front::{finished, first, only};
-use script_ops::ops::read_op;
-use script_ops::verbs::{Bare, OpVerb, Verb, find_verb};
+use script_ops::{Bare, OpVerb, Verb, find_verb, finished, first, only, read_op};
 use script_spec::Step;
-use script_words::atoms::number;
-use script_words::unread::Unread;
+use script_words::{Unread, number};
 use std::alloc::Global;
 
 /// `retry` and a number.
@@ -124,7 +121,7 @@ fn read_behind(alloc: Global, verb: Verb, words: &[&[u8]]) -> Result<Step, Unrea
 }
 
 /// The step that the words of a line say. `Bad` where they say none.
-pub fn read_step(alloc: Global, words: &[&[u8]]) -> Result<Step, Unread>
+pub(crate) fn read_step(alloc: Global, words: &[&[u8]]) -> Result<Step, Unread>
     ensures said { Reads (λ step. SayStep (lent words.now) step) result }
     ensures sayable { IfOk result IsSayable }
 {

@@ -3,9 +3,9 @@ use Rattle.std.proofs.Common.{◌≡◌, ◌<◌, ◌+◌, ℕ, List, [], ◌∷
 use Rattle.std.proofs.lemmas.List.{length-take-le}
 use Rattle.std.proofs.lemmas.Grind.{take_at_read}
 use Rattle.netlist_schema.specs.Design.{Design}
-use Rattle.history_spec.specs.declared.event.Event.{Event}
+use Rattle.db_spec.specs.declared.event.Event.{Event}
 use Rattle.script_spec.specs.Texts.{event_text, event_texts}
-use Rattle.joint_spec.specs.Written.{numbered_text, numbered_texts}
+use Rattle.script_run_spec.specs.Written.{numbered_text, numbered_texts}
 
 -- one event more
 event_texts-push : (d : Design) (number : ℕ) (events : List Event) (event : Event)

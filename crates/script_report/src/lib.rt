@@ -2,7 +2,7 @@
 #![tactic(auto)]
 
 mod lines;
-pub mod report;
+mod report;
 
 pub use netdb_outside::WriteError;
 pub use report::write_report;

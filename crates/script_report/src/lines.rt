@@ -2,9 +2,9 @@
 ghost use Rattle.std.specs.Prelude.{◌≡◌};
 ghost use Rattle.netdb_outside.specs.Buffered.{Writes};
 ghost use Rattle.script_spec.specs.Texts.{event_text as text_of_event, event_texts};
-ghost use Rattle.joint_spec.specs.Written.{numbered_text, numbered_texts};
+ghost use Rattle.script_run_spec.specs.Written.{numbered_text, numbered_texts};
 
-use history_spec::Event;
+use db_spec::Event;
 use itoa::Buffer;
 use netdb_outside::{BufferedSink, Sink};
 use netlist_schema::{Shown, Text};
@@ -12,7 +12,7 @@ use script_lang::event_text;
 use std::alloc::Global;
 
 /// Writes events, numbered from 0. The design tells the names of what conflicts.
-pub fn put_events<S: Shown, K: Sink>(
+pub(crate) fn put_events<S: Shown, K: Sink>(
     alloc: Global,
     design: &S,
     events: &[Event],
@@ -58,7 +58,7 @@ fn put_event<S: Shown, K: Sink>(
 }
 
 /// Writes transcripts, numbered from 0.
-pub fn put_transcripts<K: Sink>(transcripts: &[Text], page: &mut BufferedSink, out: &mut K)
+pub(crate) fn put_transcripts<K: Sink>(transcripts: &[Text], page: &mut BufferedSink, out: &mut K)
     ensures { Writes K.written K.faults out.old page.old out.new page.new (numbered_texts 0 transcripts.now) }
 {
     for number in 0..transcripts.len() {

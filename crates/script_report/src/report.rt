@@ -2,11 +2,11 @@
 ghost use Rattle.std.specs.Prelude.{◌≡◌, ◌≤◌, OnErr, OnOk, IsErrOf};
 ghost use Rattle.netdb_outside.specs.declared.write_error.WriteError.TheVariants.{WriteFault};
 ghost use Rattle.netdb_outside.specs.Outside.{Appends, AppendsFront, Rose};
-ghost use Rattle.joint_spec.specs.Written.{report_lines, written_report};
+ghost use Rattle.script_run_spec.specs.Written.{report_lines, written_report};
 
 use crate::lines::{put_events, put_transcripts};
+use db_spec::Event;
 use edif_writer::write_design;
-use history_spec::Event;
 use netdb_outside::{BufferedSink, Sink, WriteError};
 use netlist_schema::{Shown, Text};
 use std::alloc::Global;

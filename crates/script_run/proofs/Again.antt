@@ -8,21 +8,21 @@ use Rattle.edit_spec.specs.Step.{run, step as stepped}
 use Rattle.edit_spec.specs.declared.ops.Op.{Op}
 use Rattle.edit_spec.proofs.Overlaid.{replies_push}
 use Rattle.edit_tx.specs.Facts.{PinFacts}
-use Rattle.history_spec.specs.History.{version_at}
-use Rattle.history_spec.specs.declared.event.Answer.TheVariants as answer
-use Rattle.history_spec.specs.declared.event.Call.TheVariants as call
-use Rattle.history_spec.specs.declared.event.Event.{Event}
+use Rattle.db_spec.specs.History.{version_at}
+use Rattle.db_spec.specs.declared.event.Answer.TheVariants as answer
+use Rattle.db_spec.specs.declared.event.Call.TheVariants as call
+use Rattle.db_spec.specs.declared.event.Event.{Event}
 use Rattle.script_spec.specs.Report.{transcript}
 use Rattle.script_spec.specs.Session.{Began, Conflict, LogFull, Replied, Word, Exchange, Goes, Held as SessionHeld, Nothing, OnPin, InBlock, On, Stop as Stopped, Told, last_release, release, replied, reply_behind}
 use Rattle.script_spec.specs.Texts.{line, reply_text}
 use Rattle.script_spec.specs.declared.script.Step.TheVariants as step
-use Rattle.run_spec.specs.Calls.{HoldsJust, Makes, Writes}
-use Rattle.run_spec.specs.Lines.{Begins, GoesOn, IsBroken, IsFilled}
-use Rattle.run_spec.proofs.Blocks.{again_broken, again_filled, again_goes, gives_up_goes, writes_both}
-use Rattle.run_spec.proofs.Endings.{both_makes}
-use Rattle.run_spec.proofs.OneLine.{makes_nothing}
-use Rattle.run_spec.proofs.Pins.{held_is_live, live_is_there}
-use Rattle.run_spec.proofs.Places.{commit_full}
+use Rattle.script_run_spec.specs.Calls.{HoldsJust, Makes, Writes}
+use Rattle.script_run_spec.specs.Lines.{Begins, GoesOn, IsBroken, IsFilled}
+use Rattle.script_run_spec.proofs.Blocks.{again_broken, again_filled, again_goes, gives_up_goes, writes_both}
+use Rattle.script_run_spec.proofs.Endings.{both_makes}
+use Rattle.script_run_spec.proofs.OneLine.{makes_nothing}
+use Rattle.script_run_spec.proofs.Pins.{held_is_live, live_is_there}
+use Rattle.script_run_spec.proofs.Places.{commit_full}
 use Rattle.db_share.specs.Passes.{Shared, Pass, HasPin, IsReady}
 use Rattle.db_share.specs.Calls.{GoesOn as PassGoesOn}
 use Rattle.script_held.specs.Holding.{block_of, held_of}

@@ -1,7 +1,7 @@
 -- A call that was not made, and what is held then.
 use Rattle.std.proofs.Common.{◌≡◌, ◌∙◌, ℕ, List, [], sym, subst, append-nil}
 use Rattle.script_spec.specs.Session.{Exchange}
-use Rattle.run_spec.specs.Calls.{HoldsJust, Makes}
+use Rattle.script_run_spec.specs.Calls.{HoldsJust, Makes}
 use Rattle.db_share.specs.Passes.{Shared, Pass, IsReady}
 use Rattle.db_share.specs.Calls.{GoesOn, Looks}
 use Rattle.script_held.specs.Holding.{IsHeldBy, held_of}

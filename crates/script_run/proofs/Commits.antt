@@ -8,28 +8,28 @@ use Rattle.edit_rules_spec.specs.Objects.{IsThere}
 use Rattle.edit_rules_spec.specs.declared.reply.Reply.{Reply}
 use Rattle.edit_spec.specs.declared.ops.Op.{Op}
 use Rattle.edit_tx.specs.Facts.{PinFacts, TxFacts}
-use Rattle.history_spec.specs.Answers.{IsConflict}
-use Rattle.history_spec.specs.History.{Legal, state_after, version_at}
-use Rattle.history_spec.specs.State.{State, IsLive, LivePin, head}
-use Rattle.history_spec.specs.declared.event.Answer.{Answer}
-use Rattle.history_spec.specs.declared.event.Answer.TheVariants as answer
-use Rattle.history_spec.specs.declared.event.Call.TheVariants as call
-use Rattle.history_spec.specs.declared.event.Event.{Event}
-use Rattle.history_spec.proofs.Histories.{state_after-push, version_stays}
-use Rattle.history_spec.proofs.Promised.{valid_at}
-use Rattle.history_spec.proofs.Sound.{kept_up_after, one_pin}
+use Rattle.db_spec.specs.Answers.{IsConflict}
+use Rattle.db_spec.specs.History.{Legal, state_after, version_at}
+use Rattle.db_spec.specs.State.{State, IsLive, LivePin, head}
+use Rattle.db_spec.specs.declared.event.Answer.{Answer}
+use Rattle.db_spec.specs.declared.event.Answer.TheVariants as answer
+use Rattle.db_spec.specs.declared.event.Call.TheVariants as call
+use Rattle.db_spec.specs.declared.event.Event.{Event}
+use Rattle.db_spec.proofs.Histories.{state_after-push, version_stays}
+use Rattle.db_spec.proofs.Promised.{valid_at}
+use Rattle.db_spec.proofs.Sound.{kept_up_after, one_pin}
 use Rattle.script_spec.specs.Report.{transcript}
 use Rattle.script_spec.specs.Session.{Conflict, Exchange, Nothing, OnPin, Told, Word, release}
 use Rattle.script_spec.specs.Texts.{conflict_words, line}
 use Rattle.script_spec.specs.declared.script.Step.TheVariants as step
-use Rattle.run_spec.specs.Calls.{HoldsJust, Makes, Writes}
-use Rattle.run_spec.proofs.Along.{behind_both}
-use Rattle.run_spec.proofs.Blocks.{accepted_broken, accepted_goes, commit_broken, commit_filled, refused_released_broken}
-use Rattle.run_spec.proofs.Endings.{both_makes}
-use Rattle.run_spec.proofs.Named.{conflict_is_named}
-use Rattle.run_spec.proofs.OneLine.{writes_one}
-use Rattle.run_spec.proofs.Pins.{held_is_live, holds_after, live_is_there, one_released}
-use Rattle.read_spec.proofs.Pinned.{conflicts_are_pinned}
+use Rattle.script_run_spec.specs.Calls.{HoldsJust, Makes, Writes}
+use Rattle.script_run_spec.proofs.Along.{behind_both}
+use Rattle.script_run_spec.proofs.Blocks.{accepted_broken, accepted_goes, commit_broken, commit_filled, refused_released_broken}
+use Rattle.script_run_spec.proofs.Endings.{both_makes}
+use Rattle.script_run_spec.proofs.Named.{conflict_is_named}
+use Rattle.script_run_spec.proofs.OneLine.{writes_one}
+use Rattle.script_run_spec.proofs.Pins.{held_is_live, holds_after, live_is_there, one_released}
+use Rattle.db_spec.proofs.Pinned.{conflicts_are_pinned}
 use Rattle.db_core.specs.Calls.{commit_of, event_of}
 use Rattle.db_core.specs.declared.errors.CommitError.TheVariants.{LogFull as CommitFull, Conflict as Conflicted, NoMemory as CommitNoMemory}
 use Rattle.db_share.specs.Passes.{Shared, Pass, HasPin}

@@ -4,18 +4,18 @@ use Rattle.std.specs.Prelude.{OnOk, codes, decimal}
 use Rattle.netlist_schema.specs.Design.{Design}
 use Rattle.edit_spec.specs.declared.ops.Op.{Op}
 use Rattle.edit_tx.specs.Facts.{HasRun, PinFacts, TxFacts}
-use Rattle.history_spec.specs.History.{state_after}
-use Rattle.history_spec.specs.State.{head}
-use Rattle.history_spec.specs.declared.event.Answer.TheVariants as answer
-use Rattle.history_spec.specs.declared.event.Call.TheVariants as call
+use Rattle.db_spec.specs.History.{state_after}
+use Rattle.db_spec.specs.State.{head}
+use Rattle.db_spec.specs.declared.event.Answer.TheVariants as answer
+use Rattle.db_spec.specs.declared.event.Call.TheVariants as call
 use Rattle.flat_lines_spec.specs.Lines.{flattening_text}
 use Rattle.script_spec.specs.Session.{Abandoned, NoPin, Released, Replied, Walked, Nothing, OffPin, OnPin, InBlock, On, release, reply_behind}
 use Rattle.script_spec.specs.Texts.{line, reply_text}
 use Rattle.script_spec.specs.declared.script.Step.TheVariants as step
-use Rattle.run_spec.specs.Calls.{HoldsJust}
-use Rattle.run_spec.specs.Lines.{GoesOn, IsNoBlock}
-use Rattle.run_spec.proofs.OneLine.{abandon_goes, broken, collect_broken, collect_filled, collect_goes, collected_broken, makes_nothing, off_release_goes, off_walk_goes, op_goes, release_goes, walk_goes}
-use Rattle.run_spec.proofs.Pins.{held_is_live, holds_after, live_is_there, one_released}
+use Rattle.script_run_spec.specs.Calls.{HoldsJust}
+use Rattle.script_run_spec.specs.Lines.{GoesOn, IsNoBlock}
+use Rattle.script_run_spec.proofs.OneLine.{abandon_goes, broken, collect_broken, collect_filled, collect_goes, collected_broken, makes_nothing, off_release_goes, off_walk_goes, op_goes, release_goes, walk_goes}
+use Rattle.script_run_spec.proofs.Pins.{held_is_live, holds_after, live_is_there, one_released}
 use Rattle.db_core.specs.declared.errors.CollectError.TheVariants.{LogFull as CollectFull, NoMemory as CollectNoMemory}
 use Rattle.db_share.specs.Passes.{Shared, Pass, HasPin, KeepsPins}
 use Rattle.db_share.specs.Calls.{HasReleased, IsFull, LacksMemory, Makes}

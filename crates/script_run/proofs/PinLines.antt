@@ -3,17 +3,17 @@ use Rattle.std.proofs.Common.{◌≡◌, ◌∙◌, ℕ, List, [], ◌∷◌, �
 use Rattle.std.specs.Prelude.{OnOk, codes, decimal}
 use Rattle.netlist_schema.specs.Design.{Design}
 use Rattle.edit_tx.specs.Facts.{PinFacts, TxFacts, started}
-use Rattle.history_spec.specs.Answers.{HasPlaces}
-use Rattle.history_spec.specs.declared.event.Answer.TheVariants as answer
-use Rattle.history_spec.specs.declared.event.Call.{Call}
-use Rattle.history_spec.specs.declared.event.Call.TheVariants as call
+use Rattle.db_spec.specs.Answers.{HasPlaces}
+use Rattle.db_spec.specs.declared.event.Answer.TheVariants as answer
+use Rattle.db_spec.specs.declared.event.Call.{Call}
+use Rattle.db_spec.specs.declared.event.Call.TheVariants as call
 use Rattle.script_spec.specs.Session.{Began, Gone, LogFull, NoVersion, Pinned, Goes, Nothing, OffPin, OnPin, InBlock, On, Stop as Stopped, Told}
 use Rattle.script_spec.specs.Texts.{line}
 use Rattle.script_spec.specs.declared.script.Step.{Step}
 use Rattle.script_spec.specs.declared.script.Step.TheVariants as step
-use Rattle.run_spec.specs.Lines.{Begins, GoesOn, IsBroken}
-use Rattle.run_spec.proofs.OneLine.{begin_goes, broken, gone_goes, no_version_goes, pin_at_goes, pin_filled, pin_goes}
-use Rattle.run_spec.proofs.Pins.{holds_after}
+use Rattle.script_run_spec.specs.Lines.{Begins, GoesOn, IsBroken}
+use Rattle.script_run_spec.proofs.OneLine.{begin_goes, broken, gone_goes, no_version_goes, pin_at_goes, pin_filled, pin_goes}
+use Rattle.script_run_spec.proofs.Pins.{holds_after}
 use Rattle.db_share.specs.Passes.{Shared, Pass, HasPin, known}
 use Rattle.db_share.specs.Calls.{IsFull, LacksMemory, Looks, Makes, Pins}
 use Rattle.script_held.specs.Holding.{filled, told}

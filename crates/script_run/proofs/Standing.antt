@@ -10,10 +10,10 @@ use Rattle.script_spec.specs.declared.script.ScriptLine.{ScriptLine}
 use Rattle.script_spec.specs.declared.script.Step.{Step}
 use Rattle.script_spec.specs.declared.script.Step.TheVariants.{Collect, Walk}
 use Rattle.edit_tx.specs.Facts.{PinFacts}
-use Rattle.history_spec.specs.History.{state_after}
-use Rattle.history_spec.specs.State.{State, opening}
-use Rattle.history_spec.proofs.Histories.{goes_on_from}
-use Rattle.history_spec.proofs.Versions.{follows_after, grown_on}
+use Rattle.db_spec.specs.History.{state_after}
+use Rattle.db_spec.specs.State.{State, opening}
+use Rattle.db_spec.proofs.Histories.{goes_on_from}
+use Rattle.db_spec.proofs.Versions.{follows_after, grown_on}
 use Rattle.db_share.specs.Passes.{Shared, Pass}
 use Rattle.script_held.specs.declared.held.Held.TheVariants.{OnPin}
 use Rattle.script_run.specs.Coming.{step_at}

@@ -1,18 +1,18 @@
 -- A script, from its first line to its end.
 use Rattle.std.proofs.Common.{◌≡◌, ◌∙◌, ℕ, ◌+◌, ◌<◌, Bool, true, false, List, [], ◌∷◌, length, drop, get_or, map, Result, Ok, Err, ap, sym, subst}
-use Rattle.history_spec.specs.declared.event.Event.{Event}
+use Rattle.db_spec.specs.declared.event.Event.{Event}
 use Rattle.netlist_schema.specs.declared.memory.NoMemory.{NoMemory}
 use Rattle.script_spec.specs.Headline.{CanWalk, Ran}
 use Rattle.script_spec.specs.ScriptText.{ArePlaced, Free, steps_of}
 use Rattle.script_spec.specs.Session.{last_release}
 use Rattle.script_spec.specs.declared.script.ScriptLine.{ScriptLine}
 use Rattle.script_spec.specs.declared.script.Step.{Step}
-use Rattle.run_spec.specs.Along.{HasCome}
-use Rattle.run_spec.specs.Calls.{Makes}
-use Rattle.run_spec.specs.Lines.{place_of}
-use Rattle.run_spec.specs.Whole.{IsBrokenOff}
-use Rattle.run_spec.proofs.Along.{comes_further, comes_to_begin}
-use Rattle.run_spec.proofs.Endings.{comes_to_break, comes_to_end, comes_to_full}
+use Rattle.script_run_spec.specs.Along.{HasCome}
+use Rattle.script_run_spec.specs.Calls.{Makes}
+use Rattle.script_run_spec.specs.Lines.{place_of}
+use Rattle.script_run_spec.specs.Whole.{IsBrokenOff}
+use Rattle.script_run_spec.proofs.Along.{comes_further, comes_to_begin}
+use Rattle.script_run_spec.proofs.Endings.{comes_to_break, comes_to_end, comes_to_full}
 use Rattle.db_share.specs.Passes.{Shared, Pass, IsReady}
 use Rattle.db_share.specs.Calls.{GoesOn}
 use Rattle.db_share.proofs.Opened.{goes_on_twice}

@@ -4,10 +4,10 @@ use Rattle.std.specs.List.{flat_map}
 use Rattle.edit_rules_spec.specs.declared.reply.Reply.{Reply}
 use Rattle.edit_spec.specs.declared.ops.Op.{Op}
 use Rattle.edit_tx.specs.Facts.{started}
-use Rattle.history_spec.specs.History.{version_at}
-use Rattle.history_spec.specs.declared.event.Answer.TheVariants as answer
-use Rattle.history_spec.specs.declared.event.Call.TheVariants as call
-use Rattle.history_spec.specs.declared.event.Event.{Event}
+use Rattle.db_spec.specs.History.{version_at}
+use Rattle.db_spec.specs.declared.event.Answer.TheVariants as answer
+use Rattle.db_spec.specs.declared.event.Call.TheVariants as call
+use Rattle.db_spec.specs.declared.event.Event.{Event}
 use Rattle.netlist_schema.specs.Types.{Object}
 use Rattle.script_spec.specs.Headline.{Ran}
 use Rattle.script_spec.specs.Session.{Began, Conflict, Held as SessionHeld, Nothing, Told, last_release, release, replied}
@@ -17,9 +17,9 @@ use Rattle.script_spec.specs.declared.script.Step.TheVariants.{Begin, Collect, C
 use Rattle.script_spec.specs.declared.script.ScriptLine.{ScriptLine}
 use Rattle.script_spec.specs.ScriptText.{Place, behind}
 use Rattle.std.specs.Option.{option_map_or}
-use Rattle.run_spec.specs.Calls.{Makes, Writes}
-use Rattle.run_spec.specs.Lines.{GoesOn, IsBroken, IsFilled, RunsAgain}
-use Rattle.run_spec.specs.Whole.{IsBrokenOff}
+use Rattle.script_run_spec.specs.Calls.{Makes, Writes}
+use Rattle.script_run_spec.specs.Lines.{GoesOn, IsBroken, IsFilled, RunsAgain}
+use Rattle.script_run_spec.specs.Whole.{IsBrokenOff}
 use Rattle.db_share.specs.Passes.{Shared, Pass}
 use Rattle.script_held.specs.Holding.{IsHeldBy, block_of, held_of}
 use Rattle.script_held.specs.declared.held.Block.{Block}

@@ -1,5 +1,5 @@
 -- What holds between two lines of a script.
-use Rattle.run_spec.specs.Calls.{HoldsJust}
+use Rattle.script_run_spec.specs.Calls.{HoldsJust}
 use Rattle.db_share.specs.Passes.{Shared, Pass, IsReady}
 use Rattle.script_held.specs.Holding.{IsHeldBy, held_of}
 use Rattle.script_held.specs.declared.held.Held.{Held}

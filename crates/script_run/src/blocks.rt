@@ -22,7 +22,7 @@ use std::alloc::Global;
 use std::sync::Wait;
 
 /// Runs an operation and says its reply. The pin stays; after `NoMemory` the operation was run or not.
-pub fn try_op(alloc: Global, tx: &mut Tx, op: &Op, out: &mut Vec<u8>) -> Result<(), NoMemory>
+pub(crate) fn try_op(alloc: Global, tx: &mut Tx, op: &Op, out: &mut Vec<u8>) -> Result<(), NoMemory>
     ensures run { OnOk result (HasRun tx.old tx.new op.now) }
     ensures said { OnOk result (out.new.items ≡ out.old.items ++ line (reply_text (reply_behind tx.old.pin.design tx.old.ops op.now) ∷ [])) }
     ensures pin { tx.new.pin ≡ tx.old.pin }
@@ -224,7 +224,7 @@ fn try_block<G: Gate>(
 }
 
 /// Commits a block, which is run again after a conflict while retries are left. The gate is called again for each of its lines then.
-pub fn commit_block<G: Gate>(
+pub(crate) fn commit_block<G: Gate>(
     rt: &impl Wait,
     alloc: Global,
     db: &Db,

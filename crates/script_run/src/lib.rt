@@ -4,6 +4,6 @@
 mod blocks;
 mod lines;
 mod places;
-pub mod run;
+mod run;
 
 pub use run::{Transcript, run_script};

@@ -2,7 +2,7 @@
 ghost use Rattle.std.specs.Prelude.{◌≡◌, ◌++◌, None, OnOk};
 ghost use Rattle.flat_lines_spec.specs.Lines.{flattening_text};
 ghost use Rattle.script_spec.specs.Session.{Nothing, OnPin};
-ghost use Rattle.run_spec.specs.Lines.{IsNoBlock};
+ghost use Rattle.script_run_spec.specs.Lines.{IsNoBlock};
 ghost use Rattle.db_share.specs.Calls.{GoesOn};
 ghost use Rattle.script_held.specs.Holding.{block_of, held_of};
 ghost use Rattle.script_run.specs.Coming.{Comes, Starts};
@@ -20,7 +20,7 @@ use std::alloc::Global;
 use std::sync::Wait;
 
 /// Pins the last version.
-pub fn pin_line(
+pub(crate) fn pin_line(
     rt: &impl Wait,
     alloc: Global,
     db: &Db,
@@ -42,7 +42,7 @@ pub fn pin_line(
 }
 
 /// Pins a version.
-pub fn pin_at_line(
+pub(crate) fn pin_at_line(
     rt: &impl Wait,
     alloc: Global,
     db: &Db,
@@ -67,7 +67,7 @@ pub fn pin_at_line(
 }
 
 /// Drops the versions that nobody holds, while no transaction is held.
-pub fn collect_line(
+pub(crate) fn collect_line(
     rt: &impl Wait,
     alloc: Global,
     db: &Db,
@@ -88,7 +88,7 @@ pub fn collect_line(
 }
 
 /// Ends a pin.
-pub fn release_line(
+pub(crate) fn release_line(
     rt: &impl Wait,
     db: &Db,
     pass: &mut Pass,
@@ -104,7 +104,12 @@ pub fn release_line(
 }
 
 /// Says the items of the pinned version.
-pub fn show(alloc: Global, pin: &Pin, limit: Option<u64>, out: &mut Vec<u8>) -> Result<(), NoMemory>
+pub(crate) fn show(
+    alloc: Global,
+    pin: &Pin,
+    limit: Option<u64>,
+    out: &mut Vec<u8>,
+) -> Result<(), NoMemory>
     requires { ¬ (pin.now.design.top ≡ None) }
     ensures { OnOk result (out.new.items ≡ out.old.items ++ flattening_text pin.now.design limit) }
 {
@@ -113,7 +118,7 @@ pub fn show(alloc: Global, pin: &Pin, limit: Option<u64>, out: &mut Vec<u8>) -> 
 }
 
 /// Begins a transaction on a pin of the last version. Its line stands at this place among the lines of the script.
-pub fn start_block(
+pub(crate) fn start_block(
     rt: &impl Wait,
     alloc: Global,
     db: &Db,
@@ -141,7 +146,7 @@ pub fn start_block(
 }
 
 /// Ends a transaction without a commit.
-pub fn abandon_line(
+pub(crate) fn abandon_line(
     rt: &impl Wait,
     db: &Db,
     pass: &mut Pass,

@@ -3,7 +3,7 @@ ghost use Rattle.std.specs.Prelude.{◌≡◌, ◌<◌, None, length};
 ghost use Rattle.script_spec.specs.Headline.{IsWalk};
 ghost use Rattle.script_spec.specs.ScriptText.{Block as InsideBlock, Free, Holding};
 ghost use Rattle.script_spec.specs.Session.{Nothing, OffPin, OnPin};
-ghost use Rattle.run_spec.specs.Lines.{place_of};
+ghost use Rattle.script_run_spec.specs.Lines.{place_of};
 ghost use Rattle.db_share.specs.Calls.{GoesOn};
 ghost use Rattle.script_held.specs.Holding.{block_of, held_of};
 ghost use Rattle.script_run.specs.Coming.{Comes, MayStand, step_at};
@@ -126,7 +126,7 @@ fn off_line(
 }
 
 /// The line at this place of the script.
-pub fn run_line<G: Gate>(
+pub(crate) fn run_line<G: Gate>(
     rt: &impl Wait,
     alloc: Global,
     db: &Db,

@@ -2,7 +2,7 @@
 ghost use Rattle.std.specs.Prelude.{◌≡◌, ◌∷◌, [], IfOk, OnErr};
 ghost use Rattle.script_spec.specs.Headline.{CanWalk, Ran};
 ghost use Rattle.script_spec.specs.ScriptText.{ArePlaced, Free, steps_of};
-ghost use Rattle.run_spec.specs.Whole.{IsBrokenOff};
+ghost use Rattle.script_run_spec.specs.Whole.{IsBrokenOff};
 ghost use Rattle.db_share.specs.Passes.{IsReady};
 ghost use Rattle.db_share.specs.Calls.{GoesOn};
 ghost use Rattle.script_run.specs.Coming.{Ends};

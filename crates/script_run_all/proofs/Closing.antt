@@ -5,7 +5,7 @@ use Rattle.std.proofs.lemmas.List.{get_or-map, length-map}
 use Rattle.std.specs.Prelude.{IfOk, Ok, Result}
 use Rattle.netlist_schema.specs.Design.{Design}
 use Rattle.netlist_schema.specs.declared.memory.NoMemory.{NoMemory}
-use Rattle.history_spec.specs.declared.event.Event.{Event}
+use Rattle.db_spec.specs.declared.event.Event.{Event}
 use Rattle.script_spec.specs.Headline.{Ran}
 use Rattle.script_spec.specs.Session.{Told, exchanges}
 use Rattle.script_spec.specs.ScriptText.{Parts, steps_of}
@@ -16,8 +16,8 @@ use Rattle.db_core.specs.Story.{Story}
 use Rattle.db_share.specs.Passes.{Shared, Pass, IsReady, maker}
 use Rattle.db_share.specs.Calls.{Closes, Opens}
 use Rattle.db_share.proofs.Own.{rest_own}
-use Rattle.joint_spec.specs.Ended.{Ended, HasEnded, HaveEnded, met_full}
-use Rattle.joint_spec.specs.Scripts.{all_steps}
+use Rattle.script_run_spec.specs.Ended.{Ended, HasEnded, HaveEnded, met_full}
+use Rattle.script_run_spec.specs.Scripts.{all_steps}
 use Rattle.script_run_all.specs.Run.{HaveRun}
 use Rattle.script_run_all.specs.Workers.{IsDone, end_of}
 use Rattle.script_run_all.specs.declared.workers.Done.{Done}

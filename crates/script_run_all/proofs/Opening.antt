@@ -10,7 +10,7 @@ use Rattle.script_spec.specs.declared.script.Step.{Step}
 use Rattle.turn_cell.proofs.Rows.{got_at}
 use Rattle.db_share.specs.Passes.{Shared, Pass, IsReady, new_pass}
 use Rattle.db_share.specs.Calls.{GoesOn, Opens}
-use Rattle.joint_spec.specs.Scripts.{all_steps}
+use Rattle.script_run_spec.specs.Scripts.{all_steps}
 use Rattle.script_run_all.specs.Workers.{IsDone, IsFresh}
 
 -- the steps of the script at a place

@@ -10,19 +10,20 @@ use Rattle.netdb_outside.specs.declared.write_error.WriteError.TheVariants.{NoMe
 use Rattle.edif_spec.specs.Arranged.{arranged}
 use Rattle.edif_spec.specs.Canonical.{tree_of}
 use Rattle.edif_spec.proofs.ReadBack.{text_meant_back, text_spelled_back}
-use Rattle.history_spec.specs.History.{Legal, state_after}
-use Rattle.history_spec.specs.State.{head}
-use Rattle.history_spec.specs.declared.event.Event.{Event}
-use Rattle.history_spec.proofs.Promised.{valid_at}
+use Rattle.db_spec.specs.History.{Legal, state_after}
+use Rattle.db_spec.specs.State.{head}
+use Rattle.db_spec.specs.declared.event.Event.{Event}
+use Rattle.db_spec.proofs.Promised.{valid_at}
 use Rattle.script_spec.specs.Headline.{IsWhole, SomeFull, WritesReportFront}
 use Rattle.script_spec.specs.Report.{Prints, last_design}
 use Rattle.script_spec.specs.declared.script.Step.{Step}
 use Rattle.db_version.specs.Shot.{Shot}
 use Rattle.db_core.specs.Story.{Story, shot, state}
-use Rattle.joint_spec.specs.Laws.{EndedIsPrinted}
-use Rattle.joint_spec.specs.Written.{report_lines, written_report}
+use Rattle.script_run_spec.specs.JointLaws.{EndedIsPrinted}
+use Rattle.script_run_spec.specs.Written.{report_lines, written_report}
 use Rattle.script_run_all.specs.Run.{HaveRun}
-use Rattle.script_run_all.specs.Written.{EndsIn, IsFullReport, IsReport, RunWrites}
+use Rattle.script_run_spec.specs.Reports.{EndsIn, IsFullReport, IsReport}
+use Rattle.script_run_all.specs.Written.{RunWrites}
 use Rattle.script_run_all.specs.declared.ended.RunEnd.TheVariants.{Whole, LogFull}
 
 -- the text that is written of a run

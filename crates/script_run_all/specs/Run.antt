@@ -4,7 +4,7 @@ use Rattle.std.specs.List.{All}
 use Rattle.netlist_schema.specs.Design.{Design}
 use Rattle.script_spec.specs.declared.script.Step.{Step}
 use Rattle.db_core.specs.Story.{Story, IsHistory}
-use Rattle.joint_spec.specs.Ended.{Ended, HaveEnded, met_full}
+use Rattle.script_run_spec.specs.Ended.{Ended, HaveEnded, met_full}
 
 -- The scripts were run beside each other on a database of the design, each as the caller of its number. The history of the database is
 -- legal and has no other callers; each script came to its end there, with one of these transcripts; and this says whether one met a full log.

@@ -4,8 +4,8 @@ use Rattle.script_spec.specs.Headline.{CanWalk, Ran}
 use Rattle.script_spec.specs.ScriptText.{Parts}
 use Rattle.script_spec.specs.declared.script.Step.{Step}
 use Rattle.db_share.specs.Passes.{Shared, Pass, IsReady}
-use Rattle.joint_spec.specs.Ended.{Ended}
-use Rattle.joint_spec.specs.Scripts.{all_steps}
+use Rattle.script_run_spec.specs.Ended.{Ended}
+use Rattle.script_run_spec.specs.Scripts.{all_steps}
 use Rattle.script_run_all.specs.declared.workers.Done.{Done}
 
 -- a pass with which no call was made yet, of the number of one of the scripts

@@ -1,41 +1,13 @@
 -- What is written of a run.
-use Rattle.std.specs.Prelude.{◌≡◌, ◌⊎◌, ℕ, List, ◌++◌, Option, Result, Ok, Err}
+use Rattle.std.specs.Prelude.{◌≡◌, ◌⊎◌, ℕ, List, Option, Result, Ok, Err}
 use Rattle.netlist_schema.specs.Design.{Design}
-use Rattle.netdb_outside.specs.Outside.{Appends}
 use Rattle.netdb_outside.specs.declared.write_error.WriteError.{WriteError}
 use Rattle.netdb_outside.specs.declared.write_error.WriteError.TheVariants.{NoMemory, WriteFault}
-use Rattle.edif_spelling_spec.specs.Spelling.{Spells}
-use Rattle.edif_spelling_spec.specs.Tree.{Bare}
-use Rattle.edif_spec.specs.Arranged.{arranged, canonical_text}
-use Rattle.edif_spec.specs.Means.{MeansFile}
 use Rattle.script_spec.specs.declared.script.Step.{Step}
-use Rattle.script_spec.specs.Headline.{WritesFullReport, WritesReport, WritesReportFront}
-use Rattle.script_spec.specs.Report.{last_design}
+use Rattle.script_spec.specs.Headline.{WritesReportFront}
+use Rattle.script_run_spec.specs.Reports.{IsFullReport, IsReport, WritesSome}
 use Rattle.script_run_all.specs.declared.ended.RunEnd.{RunEnd}
 use Rattle.script_run_all.specs.declared.ended.RunEnd.TheVariants.{Whole, LogFull}
-
--- the last part of the text is the canonical text of the design, which spells a tree that means the design with the cells of each
--- library in the order in which they are written
-pub record EndsIn (text : List ℕ) (d : Design) : Type 0 where
-  pub front : List ℕ
-  pub parts : text ≡ front ++ canonical_text d
-  pub tree : Bare
-  pub spelled : Spells (canonical_text d) tree
-  pub means : MeansFile tree (arranged d)
-
--- the report of a run in which each script ended by its last line, and it ends in the last version
-pub record IsReport (d : Design) (scripts : List (List Step)) (text : List ℕ) : Type 0 where
-  pub report : WritesReport d scripts text
-  pub last : EndsIn text (last_design d report.history)
-
--- the report of a run in which some script met a full log, and it ends in the last version
-pub record IsFullReport (d : Design) (scripts : List (List Step)) (text : List ℕ) : Type 0 where
-  pub report : WritesFullReport d scripts text
-  pub last : EndsIn text (last_design d report.history)
-
--- a text of which this holds was written
-abbrev pub WritesSome : (List ℕ → Type 0) → Option (List ℕ) → Option (List ℕ) → Type 0
-WritesSome P old new = (text : List ℕ) × P text × Appends old new text
 
 -- what a run wrote, by how it ended: its report; after a fault in writing a front of its report; and after want of memory that or nothing
 abbrev pub RunWrites : Design → List (List Step) → Option (List ℕ) → Option (List ℕ) → Result RunEnd WriteError → Type 0

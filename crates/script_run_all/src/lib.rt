@@ -1,10 +1,10 @@
 //! Scripts that are run beside each other, each by a worker of its own, and the report of their run, on its way to a sink.
 #![tactic(auto)]
 
-pub mod ended;
-pub mod report;
-pub mod run;
-pub mod workers;
+mod ended;
+mod report;
+mod run;
+mod workers;
 
 pub use ended::RunEnd;
 pub use netdb_outside::WriteError;

@@ -4,16 +4,16 @@ ghost use Rattle.netlist_schema.specs.Design.{Design as DesignFacts};
 ghost use Rattle.netdb_outside.specs.Outside.{Rose};
 ghost use Rattle.script_spec.specs.Headline.{CanWalk};
 ghost use Rattle.script_spec.specs.declared.script.Step.{Step};
-ghost use Rattle.joint_spec.specs.Scripts.{all_steps};
+ghost use Rattle.script_run_spec.specs.Scripts.{all_steps};
 ghost use Rattle.script_run_all.specs.Run.{HaveRun};
 ghost use Rattle.script_run_all.specs.Written.{RunWrites};
 
 use crate::ended::RunEnd;
 use crate::run::{Closed, run_scripts};
-use joint_spec::laws::ended_is_printed;
 use netdb_outside::{Gate, Sink, WriteError};
 use netlist_schema::Design;
 use script_report::write_report;
+use script_run_spec::ended_is_printed;
 use script_spec::Script;
 use std::alloc::Global;
 use std::sync::Wait;

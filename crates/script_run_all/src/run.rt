@@ -1,7 +1,7 @@
 //! Scripts beside each other on one database.
 ghost use Rattle.std.specs.Prelude.{◌≡◌, ◌≤◌, IfOk, length};
 ghost use Rattle.script_spec.specs.Headline.{CanWalk};
-ghost use Rattle.joint_spec.specs.Scripts.{all_steps};
+ghost use Rattle.script_run_spec.specs.Scripts.{all_steps};
 ghost use Rattle.script_run_all.specs.Run.{HaveRun};
 
 use crate::workers::{parts_of, run_all, some_met_full};

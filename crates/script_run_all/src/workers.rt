@@ -2,7 +2,7 @@
 ghost use Rattle.std.specs.Prelude.{◌≡◌, ◌<◌, ℕ, IfOk, Ok, map, slice_index_or, vec_len};
 ghost use Rattle.std.specs.List.{All, list_any};
 ghost use Rattle.db_share.specs.Passes.{Pass as PassFacts};
-ghost use Rattle.joint_spec.specs.Scripts.{all_steps};
+ghost use Rattle.script_run_spec.specs.Scripts.{all_steps};
 ghost use Rattle.script_run_all.specs.Workers.{IsDone, IsFresh};
 
 use db_share::{Db, Pass};
@@ -75,7 +75,7 @@ fn all_of(alloc: Global, tries: Vec<Result<Done, NoMemory>>) -> Result<Vec<Done>
 }
 
 /// Runs the scripts beside each other, each with the pass of its number.
-pub fn run_all<R: Threads + Wait + Sync, G: Gate + Sync>(
+pub(crate) fn run_all<R: Threads + Wait + Sync, G: Gate + Sync>(
     rt: &R,
     alloc: Global,
     db: &Db,
@@ -93,14 +93,14 @@ pub fn run_all<R: Threads + Wait + Sync, G: Gate + Sync>(
 }
 
 /// Whether some script met a full log.
-pub fn some_met_full(all: &[Done]) -> bool
+pub(crate) fn some_met_full(all: &[Done]) -> bool
     ensures { result ≡ list_any (λ done. done.transcript.log_full) all.now }
 {
     all.iter().any(|done| done.transcript.log_full)
 }
 
 /// The passes, and the transcripts.
-pub fn parts_of(alloc: Global, all: Vec<Done>) -> Result<(Vec<Pass>, Vec<Text>), NoMemory>
+pub(crate) fn parts_of(alloc: Global, all: Vec<Done>) -> Result<(Vec<Pass>, Vec<Text>), NoMemory>
     ensures passes { IfOk result (λ parts. parts.0.items ≡ map (λ done. done.pass) all.items) }
     ensures texts { IfOk result (λ parts. parts.1.items ≡ map (λ done. done.transcript.text) all.items) }
 {

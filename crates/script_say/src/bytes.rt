@@ -8,7 +8,7 @@ use itoa::Buffer;
 use netlist_schema::NoMemory;
 
 /// Appends bytes. After `NoMemory` the bytes are as before.
-pub fn push_bytes(bytes: &[u8], out: &mut Vec<u8>) -> Result<(), NoMemory>
+pub(crate) fn push_bytes(bytes: &[u8], out: &mut Vec<u8>) -> Result<(), NoMemory>
     ensures ok { OnOk result (out.new.items ≡ out.old.items ++ bytes.now) }
     ensures grows { Grows out.old.items out.new.items }
 {
@@ -27,7 +27,7 @@ fn push_digits(number: u64, out: &mut Vec<u8>) -> Result<(), NoMemory>
 }
 
 /// Appends a line of a word and a number. After `NoMemory` some bytes may stand behind those before.
-pub fn push_numbered(word: &[u8], number: u64, out: &mut Vec<u8>) -> Result<(), NoMemory>
+pub(crate) fn push_numbered(word: &[u8], number: u64, out: &mut Vec<u8>) -> Result<(), NoMemory>
     ensures ok { OnOk result (out.new.items ≡ out.old.items ++ line (word.now ∷ decimal number ∷ [])) }
     ensures grows { Grows out.old.items out.new.items }
 {

@@ -2,8 +2,8 @@
 #![tactic(auto)]
 
 mod bytes;
-pub mod lines;
-pub mod walks;
+mod lines;
+mod walks;
 
 pub use lines::{
     say_abandoned, say_begin, say_collected, say_committed, say_conflict, say_gone, say_log_full,

@@ -1,8 +1,8 @@
 -- A history has one report that its scripts fit.
 use Rattle.std.proofs.Common.{◌≡◌, ◌∙◌, ℕ, ◌+◌, List, [], ◌∷◌, refl, ap, sym}
 use Rattle.netlist_schema.specs.Design.{Design}
-use Rattle.history_spec.specs.History.{version_at}
-use Rattle.history_spec.specs.declared.event.Event.{Event}
+use Rattle.db_spec.specs.History.{version_at}
+use Rattle.db_spec.specs.declared.event.Event.{Event}
 use Rattle.script_spec.specs.declared.script.Step.{Step}
 use Rattle.script_spec.specs.Report.{Prints, Story, Sessions, report}
 use Rattle.script_spec.specs.Session.{Nothing, exchanges}

@@ -18,13 +18,13 @@ use Rattle.flat_spec.specs.Representatives.{representative}
 use Rattle.flat_spec.specs.Trees.{tree}
 use Rattle.flat_spec.specs.Types.{Item}
 use Rattle.flat_spec.specs.declared.item.Item.TheVariants.{Enter}
-use Rattle.history_spec.specs.Answers.{HasNoConflict}
-use Rattle.history_spec.specs.Example.{event, in_w}
-use Rattle.history_spec.specs.History.{Legal, version_at}
-use Rattle.history_spec.specs.State.{State, opening, after, IsWritten}
-use Rattle.history_spec.specs.declared.event.Answer.TheVariants as answer
-use Rattle.history_spec.specs.declared.event.Call.TheVariants as call
-use Rattle.history_spec.specs.declared.event.Event.{Event}
+use Rattle.db_spec.specs.Answers.{HasNoConflict}
+use Rattle.db_spec.specs.Example.{event, in_w}
+use Rattle.db_spec.specs.History.{Legal, version_at}
+use Rattle.db_spec.specs.State.{State, opening, after, IsWritten}
+use Rattle.db_spec.specs.declared.event.Answer.TheVariants as answer
+use Rattle.db_spec.specs.declared.event.Call.TheVariants as call
+use Rattle.db_spec.specs.declared.event.Event.{Event}
 use Rattle.edif_spelling_spec.proofs.RowLemmas.{identifier-from_is_name}
 use Rattle.flat_lines_spec.specs.Lines.{flattening_text, item_lines, last_line, shown_items}
 use Rattle.script_spec.specs.Example.{board, text_of}

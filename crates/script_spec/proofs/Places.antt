@@ -7,9 +7,9 @@ use Rattle.std.proofs.lemmas.List.{length-append}
 use Rattle.std.proofs.lemmas.List.Elements.{All-from_recursion, All-head, All-tail}
 use Rattle.netlist_schema.specs.Design.{Design}
 use Rattle.edit_spec.specs.declared.ops.Op.{Op}
-use Rattle.history_spec.specs.Answers.{most_events}
-use Rattle.history_spec.specs.History.{version_at}
-use Rattle.history_spec.specs.declared.event.Event.{Event}
+use Rattle.db_spec.specs.Answers.{most_events}
+use Rattle.db_spec.specs.History.{version_at}
+use Rattle.db_spec.specs.declared.event.Event.{Event}
 use Rattle.script_spec.specs.Headline.{IsWhole, RoomSuffices, all_places, script_places, step_places}
 use Rattle.script_spec.specs.Report.{HasFilled, Sessions, Story}
 use Rattle.script_spec.specs.Session.{Word, Held, Nothing, OnPin, OffPin, InBlock, Ending, Whole, Full, Outcome, On, Stop, Exchange, Told, Refused, Does, BeginsAgain, Commits, Goes, Runs, exchanges, last_release}

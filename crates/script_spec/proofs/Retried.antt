@@ -11,13 +11,13 @@ use Rattle.netlist_schema.specs.Types.{Object}
 use Rattle.edit_spec.specs.Needs.{Reads}
 use Rattle.edit_rules_spec.specs.declared.reply.Reply.TheVariants.{Done}
 use Rattle.flat_spec.specs.ExampleParts.{id_of}
-use Rattle.history_spec.specs.Answers.{IsConflict, HasNoConflict}
-use Rattle.history_spec.specs.Example.{event}
-use Rattle.history_spec.specs.History.{Legal, version_at}
-use Rattle.history_spec.specs.State.{State, opening, after}
-use Rattle.history_spec.specs.declared.event.Answer.TheVariants as answer
-use Rattle.history_spec.specs.declared.event.Call.TheVariants as call
-use Rattle.history_spec.specs.declared.event.Event.{Event}
+use Rattle.db_spec.specs.Answers.{IsConflict, HasNoConflict}
+use Rattle.db_spec.specs.Example.{event}
+use Rattle.db_spec.specs.History.{Legal, version_at}
+use Rattle.db_spec.specs.State.{State, opening, after}
+use Rattle.db_spec.specs.declared.event.Answer.TheVariants as answer
+use Rattle.db_spec.specs.declared.event.Call.TheVariants as call
+use Rattle.db_spec.specs.declared.event.Event.{Event}
 use Rattle.script_spec.specs.Example.{board}
 use Rattle.script_spec.specs.ExampleRetry.{set_k, sets, scripts, retry_history, retry_lines, stories}
 use Rattle.script_spec.specs.Objects.{face_object}

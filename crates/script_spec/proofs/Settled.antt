@@ -13,17 +13,17 @@ use Rattle.edit_rules_spec.specs.declared.reply.Reply.{Reply}
 use Rattle.edit_spec.specs.Step.{run}
 use Rattle.edit_spec.specs.declared.ops.Op.{Op}
 use Rattle.edit_spec.proofs.Shown.{outside_there}
-use Rattle.history_spec.specs.Answers.{Answers}
-use Rattle.history_spec.specs.History.{IsLegalFrom, Legal, state_after, state_from, version_at}
-use Rattle.history_spec.specs.State.{State, head, opening}
-use Rattle.history_spec.specs.declared.event.Answer.{Answer}
-use Rattle.history_spec.specs.declared.event.Answer.TheVariants as answer
-use Rattle.history_spec.specs.declared.event.Call.{Call}
-use Rattle.history_spec.specs.declared.event.Call.TheVariants as call
-use Rattle.history_spec.specs.declared.event.Event.{Event}
-use Rattle.history_spec.proofs.Histories.{goes_on_from, legal-left, legal-right, state_from-append, version_stays}
-use Rattle.history_spec.proofs.Made.{conflict_is_there}
-use Rattle.history_spec.proofs.Versions.{follows_after, grown_on}
+use Rattle.db_spec.specs.Answers.{Answers}
+use Rattle.db_spec.specs.History.{IsLegalFrom, Legal, state_after, state_from, version_at}
+use Rattle.db_spec.specs.State.{State, head, opening}
+use Rattle.db_spec.specs.declared.event.Answer.{Answer}
+use Rattle.db_spec.specs.declared.event.Answer.TheVariants as answer
+use Rattle.db_spec.specs.declared.event.Call.{Call}
+use Rattle.db_spec.specs.declared.event.Call.TheVariants as call
+use Rattle.db_spec.specs.declared.event.Event.{Event}
+use Rattle.db_spec.proofs.Histories.{goes_on_from, legal-left, legal-right, state_from-append, version_stays}
+use Rattle.db_spec.proofs.Made.{conflict_is_there}
+use Rattle.db_spec.proofs.Versions.{follows_after, grown_on}
 use Rattle.flat_lines_spec.specs.Lines.{cell_text, flattening_text, lib_text, spaced}
 use Rattle.script_spec.specs.Laws.{ConflictsAreThere, ObjectsStay, TranscriptStays}
 use Rattle.script_spec.specs.Report.{last_design, transcript, word_text}

@@ -6,15 +6,15 @@ use Rattle.std.proofs.lemmas.List.{length-append}
 use Rattle.netlist_schema.specs.Design.{Design}
 use Rattle.edit_spec.specs.declared.ops.Op.{Op}
 use Rattle.edif_spec.proofs.CellPlaces.{all_append_parts}
-use Rattle.history_spec.specs.Answers.{Answers}
-use Rattle.history_spec.specs.History.{IsLegalFrom, state_after, state_from, version_at}
-use Rattle.history_spec.specs.State.{State, after, head, opening}
-use Rattle.history_spec.specs.declared.event.Answer.{Answer}
-use Rattle.history_spec.specs.declared.event.Answer.TheVariants as answer
-use Rattle.history_spec.specs.declared.event.Call.{Call}
-use Rattle.history_spec.specs.declared.event.Call.TheVariants as call
-use Rattle.history_spec.specs.declared.event.Event.{Event}
-use Rattle.history_spec.proofs.Histories.{GoesOn, goes_on_from, legal-left, version_stays}
+use Rattle.db_spec.specs.Answers.{Answers}
+use Rattle.db_spec.specs.History.{IsLegalFrom, state_after, state_from, version_at}
+use Rattle.db_spec.specs.State.{State, after, head, opening}
+use Rattle.db_spec.specs.declared.event.Answer.{Answer}
+use Rattle.db_spec.specs.declared.event.Answer.TheVariants as answer
+use Rattle.db_spec.specs.declared.event.Call.{Call}
+use Rattle.db_spec.specs.declared.event.Call.TheVariants as call
+use Rattle.db_spec.specs.declared.event.Event.{Event}
+use Rattle.db_spec.proofs.Histories.{GoesOn, goes_on_from, legal-left, version_stays}
 use Rattle.script_spec.specs.Laws.{SessionStays}
 use Rattle.script_spec.specs.Session.{Word, Replied, Began, Held, Nothing, OnPin, OffPin, InBlock, Ending, Outcome, On, Stop, Exchange, Told, Commits, Goes, Runs, exchanges, replied, reply_behind}
 use Rattle.script_spec.specs.declared.script.Step.{Step}

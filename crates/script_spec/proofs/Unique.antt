@@ -4,10 +4,10 @@ use Rattle.std.specs.Prelude.{◌⊎◌}
 use Rattle.netlist_schema.specs.Design.{Design}
 use Rattle.netlist_schema.specs.Types.{Object}
 use Rattle.edit_spec.specs.declared.ops.Op.{Op}
-use Rattle.history_spec.specs.declared.event.Answer.{Answer}
-use Rattle.history_spec.specs.declared.event.Answer.TheVariants as answer
-use Rattle.history_spec.specs.declared.event.Call.{Call}
-use Rattle.history_spec.specs.declared.event.Call.TheVariants as call
+use Rattle.db_spec.specs.declared.event.Answer.{Answer}
+use Rattle.db_spec.specs.declared.event.Answer.TheVariants as answer
+use Rattle.db_spec.specs.declared.event.Call.{Call}
+use Rattle.db_spec.specs.declared.event.Call.TheVariants as call
 use Rattle.script_spec.specs.Session.{Word, Began, Held, Nothing, OnPin, OffPin, InBlock, Outcome, On, Stop, Exchange, Told, release, last_release, Refused, Accepts, GivesUp, BeginsAgain, Commits, replied}
 
 -- where the session stops nothing is left

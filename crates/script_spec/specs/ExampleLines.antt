@@ -4,7 +4,7 @@ use Rattle.edit_spec.specs.Worked.{ShownReply, worked_replies, ungroup_replies}
 use Rattle.edit_spec.specs.declared.ops.Op.TheVariants.{SetProp}
 use Rattle.edit_spec.specs.declared.ops.Target.TheVariants as targets
 use Rattle.flat_spec.specs.ExampleParts.{says}
-use Rattle.history_spec.specs.Example.{in_w}
+use Rattle.db_spec.specs.Example.{in_w}
 use Rattle.script_spec.specs.Example.{text_of}
 use Rattle.script_spec.specs.ScriptText.{IsFirstBad, Says, lines_of}
 use Rattle.script_spec.specs.declared.script.Step.TheVariants.{Begin, Run}

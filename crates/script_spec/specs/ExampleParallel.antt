@@ -4,10 +4,10 @@ use Rattle.edif_spec.specs.Arranged.{canonical_text}
 use Rattle.edit_spec.specs.declared.ops.Op.{Op}
 use Rattle.edit_spec.specs.declared.ops.Op.TheVariants.{AddNet}
 use Rattle.edit_rules_spec.specs.declared.reply.Reply.TheVariants.{Done}
-use Rattle.history_spec.specs.Example.{event, in_w}
-use Rattle.history_spec.specs.declared.event.Answer.TheVariants as answer
-use Rattle.history_spec.specs.declared.event.Call.TheVariants as call
-use Rattle.history_spec.specs.declared.event.Event.{Event}
+use Rattle.db_spec.specs.Example.{event, in_w}
+use Rattle.db_spec.specs.declared.event.Answer.TheVariants as answer
+use Rattle.db_spec.specs.declared.event.Call.TheVariants as call
+use Rattle.db_spec.specs.declared.event.Event.{Event}
 use Rattle.script_spec.specs.declared.script.Step.{Step}
 use Rattle.script_spec.specs.declared.script.Step.TheVariants.{Begin, Run, Commit, Pin, Walk, Release}
 use Rattle.script_spec.specs.Example.{text_of, at_line, story, board}

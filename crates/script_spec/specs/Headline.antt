@@ -2,10 +2,10 @@
 use Rattle.std.specs.Prelude.{◌≡◌, ◌⊎◌, ◌≤◌, ℕ, ◌+◌, ◌*◌, List, [], ◌∷◌, ◌++◌, None, length, Bool, IsTrue, ◌↔◌}
 use Rattle.std.specs.List.{All}
 use Rattle.netlist_schema.specs.Design.{Design}
-use Rattle.history_spec.specs.Answers.{HasPlaces, most_events}
-use Rattle.history_spec.specs.History.{state_after}
-use Rattle.history_spec.specs.State.{IsLive}
-use Rattle.history_spec.specs.declared.event.Event.{Event}
+use Rattle.db_spec.specs.Answers.{HasPlaces, most_events}
+use Rattle.db_spec.specs.History.{state_after}
+use Rattle.db_spec.specs.State.{IsLive}
+use Rattle.db_spec.specs.declared.event.Event.{Event}
 use Rattle.script_spec.specs.declared.script.Step.{Step}
 use Rattle.script_spec.specs.declared.script.Step.TheVariants.{Begin, Pin, PinAt, Walk, Collect}
 use Rattle.script_spec.specs.ScriptText.{Parts, IsScriptText, steps_of}

@@ -5,10 +5,10 @@ use Rattle.netlist_schema.specs.Design.{Design}
 use Rattle.netlist_schema.specs.Types.{Object}
 use Rattle.edit_rules_spec.specs.Objects.{IsThere}
 use Rattle.edit_spec.specs.declared.ops.Op.{Op}
-use Rattle.history_spec.specs.History.{Legal}
-use Rattle.history_spec.specs.declared.event.Answer.TheVariants.{Conflict}
-use Rattle.history_spec.specs.declared.event.Call.TheVariants.{Commit}
-use Rattle.history_spec.specs.declared.event.Event.{Event}
+use Rattle.db_spec.specs.History.{Legal}
+use Rattle.db_spec.specs.declared.event.Answer.TheVariants.{Conflict}
+use Rattle.db_spec.specs.declared.event.Call.TheVariants.{Commit}
+use Rattle.db_spec.specs.declared.event.Event.{Event}
 use Rattle.script_spec.specs.declared.script.Step.{Step}
 use Rattle.script_spec.specs.declared.script.Step.TheVariants.{Run}
 use Rattle.script_spec.specs.Lines.{IsSayable, IsSayableOp, op_text}

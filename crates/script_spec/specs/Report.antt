@@ -3,10 +3,10 @@ use Rattle.std.specs.Prelude.{◌≡◌, ℕ, ◌+◌, ◌<◌, List, [], ◌∷
 use Rattle.std.specs.List.{All, flat_map}
 use Rattle.netlist_schema.specs.Design.{Design}
 use Rattle.edif_spec.specs.Arranged.{canonical_text}
-use Rattle.history_spec.specs.Answers.{most_events}
-use Rattle.history_spec.specs.History.{Legal, state_after, version_at}
-use Rattle.history_spec.specs.State.{head}
-use Rattle.history_spec.specs.declared.event.Event.{Event}
+use Rattle.db_spec.specs.Answers.{most_events}
+use Rattle.db_spec.specs.History.{Legal, state_after, version_at}
+use Rattle.db_spec.specs.State.{head}
+use Rattle.db_spec.specs.declared.event.Event.{Event}
 use Rattle.flat_lines_spec.specs.Lines.{flattening_text}
 use Rattle.script_spec.specs.declared.script.Step.{Step}
 use Rattle.script_spec.specs.Session.{Word, Began, Replied, Committed, Conflict, Abandoned, Pinned, NoVersion, Gone, Walked, Released, NoPin, Collected, LogFull, Ending, Whole, Full, Session}

@@ -5,12 +5,12 @@ use Rattle.netlist_schema.specs.Types.{Object}
 use Rattle.edit_spec.specs.Step.{run, step as stepped}
 use Rattle.edit_spec.specs.declared.ops.Op.{Op}
 use Rattle.edit_rules_spec.specs.declared.reply.Reply.{Reply}
-use Rattle.history_spec.specs.declared.event.Answer.{Answer}
-use Rattle.history_spec.specs.declared.event.Answer.TheVariants as answer
-use Rattle.history_spec.specs.declared.event.Call.{Call}
-use Rattle.history_spec.specs.declared.event.Call.TheVariants as call
-use Rattle.history_spec.specs.declared.event.Event.{Event}
-use Rattle.history_spec.specs.History.{version_at}
+use Rattle.db_spec.specs.declared.event.Answer.{Answer}
+use Rattle.db_spec.specs.declared.event.Answer.TheVariants as answer
+use Rattle.db_spec.specs.declared.event.Call.{Call}
+use Rattle.db_spec.specs.declared.event.Call.TheVariants as call
+use Rattle.db_spec.specs.declared.event.Event.{Event}
+use Rattle.db_spec.specs.History.{version_at}
 use Rattle.script_spec.specs.declared.script.Step.{Step}
 use Rattle.script_spec.specs.declared.script.Step.TheVariants.{Begin, Run, Commit, Abandon, Pin, PinAt, Walk, Release, Collect}
 

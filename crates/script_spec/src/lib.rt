@@ -2,8 +2,13 @@
 //! algorithm.
 #![tactic(auto)]
 
-pub mod laws;
-pub mod script;
-pub mod worked;
+mod laws;
+mod script;
+mod worked;
 
+pub use laws::{
+    lines_are_read, lines_differ, objects_stay, one_bad_line, one_report, one_script, one_step,
+    one_transcript, room_suffices, script_or_bad, session_stays, transcript_stays,
+};
 pub use script::{Script, ScriptLine, Step};
+pub use worked::{bad_lines, operations_are_shown, parallel_run, read_alike, retried_run};

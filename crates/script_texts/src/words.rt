@@ -50,7 +50,7 @@ pub fn push_count(word: &[u8], number: u64, out: &mut Vec<u8>) -> Result<(), NoM
 }
 
 /// Appends a blank and an integer. After `NoMemory` some bytes may stand behind those before.
-pub fn push_integer(alloc: Global, integer: i64, out: &mut Vec<u8>) -> Result<(), NoMemory>
+pub(crate) fn push_integer(alloc: Global, integer: i64, out: &mut Vec<u8>) -> Result<(), NoMemory>
     ensures ok { OnOk result (out.new.items ≡ out.old.items ++ behind_blanks (signed_decimal integer ∷ [])) }
     ensures grows { Grows out.old.items out.new.items }
 {
@@ -60,7 +60,7 @@ pub fn push_integer(alloc: Global, integer: i64, out: &mut Vec<u8>) -> Result<()
 
 /// Appends the names of a cell's library and of the cell, each behind a blank. After `NoMemory` some bytes may stand behind those
 /// before.
-pub fn push_cell(cell: &CellName, out: &mut Vec<u8>) -> Result<(), NoMemory>
+pub(crate) fn push_cell(cell: &CellName, out: &mut Vec<u8>) -> Result<(), NoMemory>
     ensures ok { OnOk result (out.new.items ≡ out.old.items ++ behind_blanks (cell.now.lib ∷ cell.now.cell ∷ [])) }
     ensures grows { Grows out.old.items out.new.items }
 {
@@ -69,7 +69,11 @@ pub fn push_cell(cell: &CellName, out: &mut Vec<u8>) -> Result<(), NoMemory>
 }
 
 /// Appends properties, each behind a blank, as items show them. After `NoMemory` some bytes may stand behind those before.
-pub fn push_shown(alloc: Global, properties: &[Property], out: &mut Vec<u8>) -> Result<(), NoMemory>
+pub(crate) fn push_shown(
+    alloc: Global,
+    properties: &[Property],
+    out: &mut Vec<u8>,
+) -> Result<(), NoMemory>
     ensures ok { OnOk result (out.new.items ≡ out.old.items ++ behind_blanks (map property_text properties.now)) }
     ensures grows { Grows out.old.items out.new.items }
 {
@@ -81,7 +85,7 @@ pub fn push_shown(alloc: Global, properties: &[Property], out: &mut Vec<u8>) -> 
 }
 
 /// Appends names, each behind a mark. After `NoMemory` some bytes may stand behind those before.
-pub fn push_marked(mark: u8, names: &[Ident], out: &mut Vec<u8>) -> Result<(), NoMemory>
+pub(crate) fn push_marked(mark: u8, names: &[Ident], out: &mut Vec<u8>) -> Result<(), NoMemory>
     ensures ok { OnOk result (out.new.items ≡ out.old.items ++ behind mark names.now) }
     ensures grows { Grows out.old.items out.new.items }
 {

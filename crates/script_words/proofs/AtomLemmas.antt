@@ -14,7 +14,7 @@ use Rattle.edif_spelling_spec.proofs.IntegerLemmas.{digits_test}
 use Rattle.edif_spelling_spec.proofs.RowLemmas.{integer_spells, integer_word}
 use Rattle.edif_spelling_spec.proofs.TextLemmas.{stands_value, value_stands}
 use Rattle.edif_spelling_spec.proofs.ParseLemmas.{IsAscii-from_word}
-use Rattle.edif_strings.proofs.CodeLemmas.{IsAscii-from_digits}
+use Rattle.edif_lexer.proofs.CodeLemmas.{IsAscii-from_digits}
 use Rattle.script_words.specs.Reading.{IsBetween}
 
 -- ---- numbers

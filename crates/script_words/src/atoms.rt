@@ -6,7 +6,7 @@ ghost use Rattle.script_spec.specs.Pieces.{Exponent, Integer, Named, Number, Quo
 ghost use Rattle.script_words.specs.Reading.{IsBodyOf, IsNumberOf, Reads};
 
 use crate::unread::Unread;
-use edif_strings::decode;
+use edif_lexer::decode;
 use netlist_schema::{Ident, Text};
 use std::alloc::Global;
 use std::str;

@@ -1,5 +1,8 @@
 //! Reads a word of a script.
 #![tactic(auto)]
 
-pub mod atoms;
-pub mod unread;
+mod atoms;
+mod unread;
+
+pub use atoms::{exponent, integer, name, number, quoted};
+pub use unread::Unread;

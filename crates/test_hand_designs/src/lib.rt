@@ -2,6 +2,9 @@
 #![tactic(auto)]
 
 mod parts;
-pub mod plans;
+mod plans;
 
-pub use plans::{CellPlan, Inside, Plan, design};
+pub use plans::{
+    CellPlan, EndPlan, Inside, InstPlan, NetPlan, NotePlan, Plan, PortPlan, PropertyPlan, TopPlan,
+    design,
+};

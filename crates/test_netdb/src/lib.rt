@@ -12,7 +12,11 @@ mod eco;
 #[cfg(test)]
 mod eco_texts;
 #[cfg(test)]
+mod faults;
+#[cfg(test)]
 mod further;
+#[cfg(test)]
+mod gates;
 #[cfg(test)]
 mod generated;
 #[cfg(test)]
@@ -21,5 +25,7 @@ mod rows;
 mod runs;
 #[cfg(test)]
 mod texts;
+#[cfg(test)]
+mod tower;
 #[cfg(test)]
 mod workers;

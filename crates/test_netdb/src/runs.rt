@@ -32,7 +32,7 @@ fn passes<R: Abort + Threads + Wait + Sync>(
 }
 
 /// Checks a call whose callers are held.
-fn check_held<R: Abort + Threads + Wait + Sync>(
+pub fn check_held<R: Abort + Threads + Wait + Sync>(
     rt: &R,
     alloc: Global,
     holds: &[Hold],
@@ -88,7 +88,8 @@ fn scripts_run_beside_each_other(rt: HostRuntime) -> Result<(), Fail> {
     check_held(&rt, rt.alloc(), &THREE_HOLDS, &THREE)
 }
 
-static TWO_HOLDS: [Hold; 2] = [
+/// The first caller is held at the end of its block until the second one has ended.
+pub static TWO_HOLDS: [Hold; 2] = [
     Hold {
         caller: 1,
         line: 1,
@@ -104,7 +105,7 @@ static TWO_HOLDS: [Hold; 2] = [
 ];
 
 /// The second to commit meets a conflict, and its block is run again.
-static RETRIED: Case<'static> = Case {
+pub static RETRIED: Case<'static> = Case {
     files: &[
         ("F", &[PAIR]),
         ("0", &["begin retry 1\nset-prop w A cell K int 1\ncommit\n"]),
@@ -358,5 +359,6 @@ fn is_told(
 fn statuses_are_told(rt: HostRuntime) -> Result<(), Fail> {
     let bad = Status::BadScript { word: 2, line: 17 };
     is_told(&rt, rt.alloc(), &bad, (7, Some(2)), "bad script at line 17")?;
-    is_told(&rt, rt.alloc(), &Status::LogFull, (10, None), "log full")
+    is_told(&rt, rt.alloc(), &Status::LogFull, (10, None), "log full")?;
+    is_told(&rt, rt.alloc(), &Status::NoMemory, (11, None), "no memory")
 }

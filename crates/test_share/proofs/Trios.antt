@@ -2,7 +2,7 @@
 use Rattle.std.proofs.Common.{◌≡◌, ◌<◌, ℕ, zero, suc, List, [], ◌∷◌, ◌++◌, All, length, length-append, get_or, slice_get, Some, None, ap, sym, ◌∙◌, subst, arith}
 use Rattle.std.proofs.lemmas.List.Elements.{All-cons, All-head, All-nil, All-tail}
 use Rattle.netlist_schema.specs.Design.{Design}
-use Rattle.history_spec.proofs.Lists.{in_head, in_tail}
+use Rattle.db_spec.proofs.Lists.{in_head, in_tail}
 use Rattle.turn_cell.specs.Seats.{HasEachSeat, HasSeat}
 use Rattle.turn_cell.proofs.Facts.{some_same}
 use Rattle.db_share.specs.Passes.{Shared, Pass, IsReady, new_pass}

@@ -4,10 +4,6 @@ use Rattle.edit_tx.specs.Facts.{PinFacts, TxFacts}
 use Rattle.db_core.specs.Story.{Story, IsPinOf}
 use Rattle.db_share.specs.Passes.{Shared, Pass, HasPin, IsReady}
 
--- the pass is ready for its next call, and has its number
-abbrev pub Stays : Shared → Pass → Pass → Type 0
-Stays db old new = IsReady db new × (new.number ≡ old.number)
-
 -- the pin of the transaction, where there is one, is the pass's own
 abbrev pub HasOpen : Shared → Pass → Option TxFacts → Type 0
 HasOpen db pass held = IfSome held (λ tx. HasPin db pass tx.pin)

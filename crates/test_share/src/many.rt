@@ -1,7 +1,8 @@
 //! Many callers at once, each in a thread of its own.
 ghost use Rattle.std.specs.Prelude.{◌≡◌, ◌≤◌, ◌<◌, ℕ, All, IfOk, slice_index_or, vec_len};
 ghost use Rattle.db_share.specs.Passes.{IsReady};
-ghost use Rattle.test_share.specs.Callers.{GoesTo, HasOpen, Stays};
+ghost use Rattle.db_share.specs.Calls.{Stays};
+ghost use Rattle.test_share.specs.Callers.{GoesTo, HasOpen};
 
 use crate::callers::Caller;
 use crate::designs::{Edit, two_cells};

@@ -1,6 +1,6 @@
 //! What a log says.
+use db_spec::{Answer, Event};
 use edit_spec::Reply;
-use history_spec::{Answer, Event};
 use netlist_schema::Object;
 
 /// An answer, with no row in it.

@@ -1,8 +1,8 @@
 //! The uses of the last version of a history.
 use crate::said::{script_of, uses_of};
 use crate::texts::SMALL;
+use db_spec::{Answer, Call, Event};
 use edit_spec::Op;
-use history_spec::{Answer, Call, Event};
 use last_uses::write_last_uses;
 use netdb_outside::{MemSink, WriteError};
 use netlist_schema::{Copied, Object, Row};

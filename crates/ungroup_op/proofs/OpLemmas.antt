@@ -34,7 +34,7 @@ use Rattle.ungroup_spec.specs.Groups.{Site}
 use Rattle.ungroup_spec.specs.MovedNotes.{changed_notes}
 use Rattle.ungroup_spec.specs.Needs.{IsForInst}
 use Rattle.ungroup_spec.specs.Ungroup.{edits_at, edits_if, inside_inst, notes_seen, site_of}
-use Rattle.net_groups.specs.Heads.{AreSound}
+use Rattle.ungroup_plans.specs.Heads.{AreSound}
 use Rattle.ungroup_plans.specs.Moved.{notes_moved}
 use Rattle.ungroup_plans.specs.Planned.{IsMade, IsPlanned, refusals_of}
 use Rattle.ungroup_plans.specs.declared.plan.Ungrouped.{Ungrouped}

@@ -14,7 +14,7 @@ use Rattle.ungroup_spec.specs.Groups.{ends_of_net}
 use Rattle.ungroup_spec.proofs.FreshLemmas.{All-member, member-All}
 use Rattle.ungroup_spec.proofs.PlaceLemmas.{slice_get-member}
 use Rattle.ungroup_spec.proofs.AtLemmas.{contents-body}
-use Rattle.net_groups.specs.Heads.{AreSound, IsLow}
+use Rattle.ungroup_plans.specs.Heads.{AreSound, IsLow}
 
 found : (nets : List Net) (n : ℕ) (e : End) → Member (ends_of_net nets n) e → (net : Net) × (slice_get nets n ≡ Some net) × Member net.ends e
 found nets n e m = go (slice_get nets n) m

@@ -10,8 +10,7 @@ ghost use Rattle.eco_reads.specs.Named.{AreNamed};
 ghost use Rattle.ungroup_op.specs.Crossing.{crossing, crossings, first_place, is_inst};
 ghost use Rattle.ungroup_op.specs.Read.{AreRead};
 
-use eco_reads::NamedInsts;
-use eco_reads::find::inst_place;
+use eco_reads::{NamedInsts, inst_place};
 use edit_cells::Cells;
 use netlist_schema::{CellId, Contents, Copied, Ident, NoMemory, Note, Row};
 use std::alloc::Global;
@@ -24,7 +23,7 @@ pub struct ReadNotes {
 }
 
 /// The cell of the instance with this name.
-pub fn cell_of_inst(contents: Option<&Contents>, name: &Ident) -> Option<CellId>
+pub(crate) fn cell_of_inst(contents: Option<&Contents>, name: &Ident) -> Option<CellId>
     ensures { result ≡ option_map (λ inst. inst.of) (inst_named name.now (insts_in (option_copied contents.entry))) }
 {
     let contents = contents?;
@@ -143,7 +142,7 @@ fn copy_notes<C: Cells>(alloc: Global, cells: &mut C) -> Result<Row<Note>, NoMem
 }
 
 /// Reads the notes, and what is inside the cells that their paths reach.
-pub fn read_notes<C: Cells>(
+pub(crate) fn read_notes<C: Cells>(
     alloc: Global,
     cells: &mut C,
     cell: CellId,

@@ -5,9 +5,7 @@ ghost use Rattle.eco_reads.specs.Done.{IsDone, IsDoneOrFails};
 
 use crate::notes::read_notes;
 use crate::reads::{read_inst, read_within};
-use eco_reads::Plan;
-use eco_reads::read::read_named;
-use eco_reads::write::put_planned;
+use eco_reads::{Plan, put_planned, read_named};
 use edit_cells::Cells;
 use edit_spec::{CellName, Reply};
 use netlist_schema::{Ident, NoMemory};

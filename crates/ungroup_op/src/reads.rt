@@ -14,7 +14,7 @@ use netlist_schema::{CellId, Contents, Copied, Ident, NoMemory};
 use std::alloc::Global;
 
 /// The cell of the instance with a name in a cell.
-pub fn read_inst<C: Cells>(
+pub(crate) fn read_inst<C: Cells>(
     cells: &mut C,
     cell: CellId,
     name: &Ident,
@@ -57,7 +57,7 @@ fn copy_inside<C: Cells>(
 }
 
 /// A copy of what is inside a cell, where there is one; it is looked at from outside too.
-pub fn read_within<C: Cells>(
+pub(crate) fn read_within<C: Cells>(
     alloc: Global,
     cells: &mut C,
     cell: Option<CellId>,

@@ -10,9 +10,9 @@ use Rattle.edit_rules_spec.specs.declared.reply.Reply.TheVariants.{TooMany}
 use Rattle.ungroup_spec.specs.Dissolved.{children, contents_after, insts_after, inst_name, joined, kept, loose, nets_after, net_name, new_nets, with_inst_name, with_net_name}
 use Rattle.ungroup_spec.specs.Groups.{Site, inner, outer}
 use Rattle.ungroup_spec.specs.Names.{named_up, name_up}
-use Rattle.net_groups.specs.Grouped.{AreGrouped}
-use Rattle.net_groups.specs.Heads.{site}
-use Rattle.net_groups.specs.declared.groups.Grouped.{Grouped}
+use Rattle.ungroup_plans.specs.Grouped.{AreGrouped}
+use Rattle.ungroup_plans.specs.Heads.{site}
+use Rattle.ungroup_plans.specs.declared.groups.Grouped.{Grouped}
 use Rattle.ungroup_plans.specs.Planned.{IsDissolved, limits_of}
 use Rattle.ungroup_plans.proofs.Named.{length-named_up}
 use Rattle.ungroup_plans.proofs.Steps.{drop_first}

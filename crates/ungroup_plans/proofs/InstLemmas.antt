@@ -5,7 +5,7 @@ use Rattle.std.proofs.lemmas.Option.{get_or_from_slice_get}
 use Rattle.netlist_schema.specs.Types.{Contents, Inst, Name}
 use Rattle.ungroup_spec.specs.Dissolved.{children, insts_after, inst_name, with_inst_name}
 use Rattle.ungroup_spec.specs.Names.{named_up}
-use Rattle.net_groups.specs.Heads.{site}
+use Rattle.ungroup_plans.specs.Heads.{site}
 
 -- what stands at the place is the instance
 pub item_is : (insts around : List Inst) (place : ℕ) (item inst : Inst) → insts ≡ around → item ≡ get_or insts place item → slice_get around place ≡ Some inst → item ≡ inst

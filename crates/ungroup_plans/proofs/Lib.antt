@@ -1,6 +1,14 @@
+pub mod BitLemmas
 pub mod Counts
+pub mod EndsLemmas
+pub mod GroupedLemmas
+pub mod HeadLemmas
 pub mod InstLemmas
+pub mod LinkLemmas
+pub mod ListsLemmas
 pub mod MovedLemmas
 pub mod Named
 pub mod PlanLemmas
+pub mod RunLemmas
 pub mod Steps
+pub mod TakenLemmas

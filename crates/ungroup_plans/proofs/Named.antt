@@ -7,7 +7,7 @@ use Rattle.flat_spec.proofs.RunLemmas.{all_found}
 use Rattle.edit_rules_spec.specs.Find.{is_name}
 use Rattle.netlist_schema.specs.Types.{Name}
 use Rattle.ungroup_spec.specs.Names.{named_up, name_up}
-use Rattle.free_names.specs.Taken.{IsNamedUp, IsOf, lower}
+use Rattle.ungroup_plans.specs.Taken.{IsNamedUp, IsOf, lower}
 use Rattle.ungroup_plans.proofs.Steps.{drop_first}
 
 -- ---- sets of names, in whatever order

@@ -13,7 +13,7 @@ use Rattle.ungroup_spec.specs.Dissolved.{children, contents_after, insts_after, 
 use Rattle.ungroup_spec.specs.Groups.{Site}
 use Rattle.ungroup_spec.specs.Names.{named_up}
 use Rattle.ungroup_spec.specs.Ungroup.{site_of}
-use Rattle.net_groups.specs.Heads.{site}
+use Rattle.ungroup_plans.specs.Heads.{site}
 use Rattle.ungroup_plans.specs.Moved.{notes_moved}
 use Rattle.ungroup_plans.specs.Planned.{IsDissolved, IsMade, limits_of, refusals_of}
 use Rattle.ungroup_plans.specs.declared.plan.Ungrouped.{Ungrouped}

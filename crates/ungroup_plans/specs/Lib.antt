@@ -1,2 +1,9 @@
+pub mod Bits
+pub mod Ends
+pub mod Grouped
+pub mod Heads
+pub mod Links
+pub mod Lists
 pub mod Moved
 pub mod Planned
+pub mod Taken

@@ -1,20 +1,20 @@
 //! The contents afterwards.
 ghost use Rattle.std.specs.Prelude.{◌≡◌, ◌<◌, IfOk, Some, length, slice_get};
 ghost use Rattle.netlist_schema.specs.Types.{Inst as InstType};
-ghost use Rattle.net_groups.specs.Heads.{AreSound, site};
+ghost use Rattle.ungroup_plans.specs.Heads.{AreSound, site};
 ghost use Rattle.ungroup_plans.specs.Planned.{IsDissolved};
 
+use crate::groups::group_nets;
 use crate::insts::insts_after;
 use crate::limits::{over_insts, over_nets};
 use crate::nets::nets_after;
 use edit_spec::Reply;
-use net_groups::group_nets;
 use netlist_schema::{Contents, NoMemory};
 use std::alloc::Global;
 
 /// The contents after the instance at a place is dissolved into them, or the first limit that they would pass: of instances, nets,
 /// ends.
-pub fn dissolved(
+pub(crate) fn dissolved(
     alloc: Global,
     around: &Contents,
     place: u32,

@@ -1,13 +1,13 @@
 //! The instances afterwards.
 ghost use Rattle.std.specs.Prelude.{◌≡◌, ◌<◌, ◌≤◌, ◌+◌, ◌++◌, ◌^◌, List, ℕ, IfOk, OnOk, Some, drop, length, map, slice_get, take};
-ghost use Rattle.free_names.specs.Taken.{IsOf};
+ghost use Rattle.ungroup_plans.specs.Taken.{IsOf};
 ghost use Rattle.netlist_schema.specs.Types.{Inst as InstType};
 ghost use Rattle.netlist_schema.specs.declared.limits.TheConstants.{MOST_INSTS};
-ghost use Rattle.net_groups.specs.Heads.{site};
+ghost use Rattle.ungroup_plans.specs.Heads.{site};
 ghost use Rattle.ungroup_spec.specs.Dissolved.{insts_after, inst_name, with_inst_name};
 ghost use Rattle.ungroup_spec.specs.Names.{named_up};
 
-use free_names::Taken;
+use crate::taken::Taken;
 use netlist_schema::{Contents, Copied, Inst, Name, NoMemory, Row, Shared};
 use std::alloc::Global;
 
@@ -69,7 +69,7 @@ fn add_children(
 }
 
 /// The instances afterwards: the children stand in the place of the instance, under their new names.
-pub fn insts_after(
+pub(crate) fn insts_after(
     alloc: Global,
     around: &Contents,
     place: u32,

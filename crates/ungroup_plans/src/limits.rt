@@ -4,10 +4,9 @@ ghost use Rattle.std.specs.List.{flat_map};
 ghost use Rattle.netlist_schema.specs.declared.limits.TheConstants.{MOST_ENDS, MOST_INSTS, MOST_NETS};
 ghost use Rattle.edit_rules_spec.specs.Rule.{first, refuse};
 
+use crate::groups::Grouped;
 use edit_spec::Reply;
-use net_groups::Grouped;
-use netlist_schema::limits::{MOST_ENDS, MOST_INSTS, MOST_NETS};
-use netlist_schema::{Net, Shared};
+use netlist_schema::{MOST_ENDS, MOST_INSTS, MOST_NETS, Net, Shared};
 
 /// The ends of nets, added to a count; the greatest number of 64 bits stands for more.
 fn count_ends(nets: &[Shared<Net>], count: u64) -> u64
@@ -21,7 +20,7 @@ fn count_ends(nets: &[Shared<Net>], count: u64) -> u64
 }
 
 /// The refusal of so many instances.
-pub fn over_insts(around: usize, within: usize) -> Option<Reply>
+pub(crate) fn over_insts(around: usize, within: usize) -> Option<Reply>
     requires { 0 < around }
     ensures { result ≡ refuse (nat_lt MOST_INSTS (around - 1 + within)) (Reply.TooMany MOST_INSTS) }
 {
@@ -35,7 +34,7 @@ pub fn over_insts(around: usize, within: usize) -> Option<Reply>
 }
 
 /// The refusal of so many nets, or of so many ends.
-pub fn over_nets(grouped: &Grouped) -> Option<Reply>
+pub(crate) fn over_nets(grouped: &Grouped) -> Option<Reply>
     ensures { result ≡ first (refuse (nat_lt MOST_NETS (length grouped.now.kept + length grouped.now.loose)) (Reply.TooMany MOST_NETS)
         ∷ refuse (nat_lt MOST_ENDS (length (flat_map (λ net. net.ends) grouped.now.kept) + length (flat_map (λ net. net.ends) grouped.now.loose))) (Reply.TooMany MOST_ENDS) ∷ []) }
 {

@@ -1,14 +1,14 @@
 //! The nets afterwards.
 ghost use Rattle.std.specs.Prelude.{◌≡◌, ◌<◌, ◌≤◌, ◌+◌, ◌++◌, ◌^◌, List, ℕ, IfOk, OnOk, length, map};
 ghost use Rattle.netlist_schema.specs.declared.limits.TheConstants.{MOST_NETS};
-ghost use Rattle.free_names.specs.Taken.{IsOf};
-ghost use Rattle.net_groups.specs.Grouped.{AreGrouped};
+ghost use Rattle.ungroup_plans.specs.Taken.{IsOf};
+ghost use Rattle.ungroup_plans.specs.Grouped.{AreGrouped};
 ghost use Rattle.ungroup_spec.specs.Dissolved.{net_name, nets_after, with_net_name};
 ghost use Rattle.ungroup_spec.specs.Groups.{Site};
 ghost use Rattle.ungroup_spec.specs.Names.{named_up};
 
-use free_names::Taken;
-use net_groups::Grouped;
+use crate::groups::Grouped;
+use crate::taken::Taken;
 use netlist_schema::{Copied, Name, Net, NoMemory, Row, Shared};
 use std::alloc::Global;
 
@@ -55,7 +55,7 @@ fn add_new(
 }
 
 /// The nets afterwards: those that stay, and then the new ones under their new names.
-pub fn nets_after(
+pub(crate) fn nets_after(
     alloc: Global,
     around: &[Shared<Net>],
     inst: &Name,

@@ -8,7 +8,7 @@ ghost use Rattle.netlist_schema.specs.Types.{Inst as InstType};
 ghost use Rattle.netlist_schema.specs.declared.limits.TheConstants.{MOST_INSTS};
 ghost use Rattle.ungroup_plans.specs.Moved.{new_id, note_moved, notes_moved, path_moved};
 
-use eco_reads::places::places_by_name;
+use eco_reads::places_by_name;
 use indexmap::IndexMap;
 use netlist_schema::{Copied, Ident, Inst, NoMemory, Note, Row, Shared};
 use std::alloc::Global;
@@ -114,7 +114,7 @@ fn has_place(places: &[Option<usize>]) -> bool
 
 /// The notes afterwards, where the path of one goes through the instance: for each note stands the place of the step that is the
 /// instance, if there is one. A note whose path ends there is gone; any other path has that step and the one behind it as one.
-pub fn moved_notes(
+pub(crate) fn moved_notes(
     alloc: Global,
     notes: &[Note],
     places: &[Option<usize>],

@@ -1,12 +1,12 @@
 //! What is planned for an instance that is dissolved.
 ghost use Rattle.std.specs.Prelude.{◌≡◌, IfOk, IfSome, length};
 ghost use Rattle.std.specs.Option.{option_copied};
-ghost use Rattle.net_groups.specs.Heads.{AreSound};
+ghost use Rattle.ungroup_plans.specs.Heads.{AreSound};
 ghost use Rattle.ungroup_plans.specs.Planned.{IsPlanned};
 
 use crate::contents::dissolved;
 use crate::notes::moved_notes;
-use eco_reads::find::inst_place;
+use eco_reads::inst_place;
 use edit_spec::Reply;
 use netlist_schema::{Contents, Ident, NoMemory, Note, Row};
 use std::alloc::Global;

@@ -14,8 +14,8 @@ use Rattle.flat_spec.proofs.OccurrenceLemmas.{occurrences_go_down}
 use Rattle.uniquify_spec.specs.Blocks.{blocks, blocks_below, is_block, root_of}
 use Rattle.uniquify_spec.proofs.Unfolded.{below, below_are}
 use Rattle.uniquify_spec.proofs.Agreed.{insts_inside}
-use Rattle.cell_copies.specs.declared.spot.Step.{Step}
-use Rattle.block_kids.specs.Kids.{kids_of, step_of}
+use Rattle.uniquify_copies.specs.declared.spot.Step.{Step}
+use Rattle.uniquify_blocks.specs.Kids.{kids_of, step_of}
 use Rattle.uniquify_op.specs.Walks.{all_under}
 
 -- one level of the occurrences below a cell

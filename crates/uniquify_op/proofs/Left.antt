@@ -9,9 +9,9 @@ use Rattle.netlist_schema.specs.Valid.{IsValid}
 use Rattle.netlist_schema.proofs.Lists.{drop_past, drop_next}
 use Rattle.flat_spec.specs.Occurrences.{Occurrence, under}
 use Rattle.uniquify_spec.specs.Blocks.{blocks_below, root_of}
-use Rattle.cell_copies.specs.declared.spot.Step.{Step}
-use Rattle.path_copies.proofs.Walking.{prefixed-under}
-use Rattle.block_kids.specs.Kids.{kids_of}
+use Rattle.uniquify_copies.specs.declared.spot.Step.{Step}
+use Rattle.uniquify_blocks.proofs.Walking.{prefixed-under}
+use Rattle.uniquify_blocks.specs.Kids.{kids_of}
 use Rattle.uniquify_op.specs.Frames.{row_at}
 use Rattle.uniquify_op.specs.Walks.{IsFrame, all_under, below_path, left_in, left_of, path_at}
 use Rattle.uniquify_op.specs.declared.frame.Frame.{Frame}

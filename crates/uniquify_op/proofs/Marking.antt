@@ -7,7 +7,7 @@ use Rattle.netlist_schema.specs.Valid.{IsValid}
 use Rattle.flat_spec.specs.Occurrences.{Occurrence}
 use Rattle.uniquify_spec.specs.Blocks.{blocks_below, is_first}
 use Rattle.uniquify_spec.proofs.ForCode.{firsts_have_none_before}
-use Rattle.cell_copies.specs.Drafts.{Marked, copied_of, kept_of, occurrences_of}
+use Rattle.uniquify_copies.specs.Drafts.{Marked, copied_of, kept_of, occurrences_of}
 use Rattle.uniquify_op.specs.Marks.{came_before, marks_after, marked}
 
 pub marks_append : (before xs ys : List Occurrence) → marks_after before (xs ++ ys) ≡ marks_after before xs ++ marks_after (before ++ xs) ys

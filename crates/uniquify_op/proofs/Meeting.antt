@@ -12,9 +12,9 @@ use Rattle.edit_rules_spec.specs.Paths.{same_cell}
 use Rattle.edit_rules_spec.proofs.Levels.{is_same_cell}
 use Rattle.flat_spec.specs.Occurrences.{Occurrence}
 use Rattle.uniquify_spec.specs.Blocks.{is_block}
-use Rattle.cell_copies.specs.declared.spot.Step.{Step}
-use Rattle.copy_names.proofs.Stems.{is_eq-then, number_at}
-use Rattle.block_kids.specs.Kids.{kids_of}
+use Rattle.uniquify_copies.specs.declared.spot.Step.{Step}
+use Rattle.uniquify_copies.proofs.Stems.{is_eq-then, number_at}
+use Rattle.uniquify_blocks.specs.Kids.{kids_of}
 use Rattle.uniquify_op.specs.Frames.{row_at}
 use Rattle.uniquify_op.specs.Marks.{came_before}
 use Rattle.uniquify_op.specs.Visited.{AreMet}

@@ -6,7 +6,7 @@ use Rattle.std.proofs.lemmas.Option.{slice_get_past}
 use Rattle.netlist_schema.proofs.Lists.{get_front}
 use Rattle.flat_spec.specs.Occurrences.{Occurrence}
 use Rattle.edit_rules_spec.proofs.Edits.{last_of}
-use Rattle.cell_copies.specs.declared.spot.Step.{Step}
+use Rattle.uniquify_copies.specs.declared.spot.Step.{Step}
 use Rattle.uniquify_op.specs.Frames.{row_at}
 use Rattle.uniquify_op.specs.Walks.{path_at}
 

@@ -20,11 +20,11 @@ use Rattle.uniquify_spec.specs.Split.{Split}
 use Rattle.uniquify_spec.proofs.BlockSplit.{PathBefore-never, block_parts, block_reached}
 use Rattle.uniquify_spec.proofs.SplitEdits.{block_is_cell}
 use Rattle.uniquify_spec.proofs.Unfolded.{below, below_ascends, below_has_step}
-use Rattle.cell_copies.proofs.DraftSeats.{draft_seats, draft_split, split_for}
-use Rattle.cell_copies.specs.Changes.{AreSeats}
-use Rattle.cell_copies.specs.Drafts.{IsDraft, has_no_room, made_for, occurrences_of}
-use Rattle.cell_copies.specs.Seats.{copies_of, seats, split_of}
-use Rattle.cell_copies.specs.declared.draft.Draft.{Draft}
+use Rattle.uniquify_copies.proofs.DraftSeats.{draft_seats, draft_split, split_for}
+use Rattle.uniquify_copies.specs.Changes.{AreSeats}
+use Rattle.uniquify_copies.specs.Drafts.{IsDraft, has_no_room, made_for, occurrences_of}
+use Rattle.uniquify_copies.specs.Seats.{copies_of, seats, split_of}
+use Rattle.uniquify_copies.specs.declared.draft.Draft.{Draft}
 use Rattle.uniquify_op.specs.Marks.{marked}
 use Rattle.uniquify_op.proofs.Marking.{marked_copied, marked_kept, marks_occurrences}
 

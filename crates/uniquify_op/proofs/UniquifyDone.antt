@@ -22,10 +22,10 @@ use Rattle.edit_cells.specs.State.{State, HasRead, HasReadSome}
 use Rattle.eco_reads.specs.Done.{IsDone, IsDoneOrFails}
 use Rattle.eco_reads.specs.Plan.{IsGood}
 use Rattle.eco_reads.proofs.Reading.{done_made, done_read, read_nothing, read_some}
-use Rattle.path_copies.specs.Plans.{IsPlan, IsPlanned, IsPut}
-use Rattle.path_copies.specs.declared.plan.Plan.{Plan}
-use Rattle.path_copies.proofs.PathDone.{top_of}
-use Rattle.block_kids.specs.Below.{IsForAllBelow}
+use Rattle.uniquify_blocks.specs.Plans.{IsPlan, IsPlanned, IsPut}
+use Rattle.uniquify_blocks.specs.declared.plan.Plan.{Plan}
+use Rattle.uniquify_blocks.proofs.PathDone.{top_of}
+use Rattle.uniquify_blocks.specs.Below.{IsForAllBelow}
 
 -- ---- what is needed
 

@@ -20,13 +20,13 @@ use Rattle.uniquify_spec.specs.Blocks.{blocks_below, root_of}
 use Rattle.uniquify_spec.specs.Copies.{Copy, copies_after, copy_after}
 use Rattle.uniquify_spec.proofs.ForCode.{copies_go_on}
 use Rattle.uniquify_spec.proofs.SplitEdits.{block_is_cell}
-use Rattle.cell_copies.specs.Drafts.{IsCopied, IsDraft, IsMoreDraft, Marked, copied_of, has_no_room, made_for, occurrences_of, placed_in}
-use Rattle.cell_copies.specs.Seats.{occurrence_of, seats}
-use Rattle.cell_copies.specs.declared.draft.Draft.{Draft}
-use Rattle.cell_copies.specs.declared.spot.Step.{Step}
-use Rattle.cell_copies.proofs.SeatLists.{seats_length}
-use Rattle.path_copies.proofs.Walking.{prefixed-nil}
-use Rattle.block_kids.specs.Kids.{kids_of}
+use Rattle.uniquify_copies.specs.Drafts.{IsCopied, IsDraft, IsMoreDraft, Marked, copied_of, has_no_room, made_for, occurrences_of, placed_in}
+use Rattle.uniquify_copies.specs.Seats.{occurrence_of, seats}
+use Rattle.uniquify_copies.specs.declared.draft.Draft.{Draft}
+use Rattle.uniquify_copies.specs.declared.spot.Step.{Step}
+use Rattle.uniquify_copies.proofs.SeatLists.{seats_length}
+use Rattle.uniquify_blocks.proofs.Walking.{prefixed-nil}
+use Rattle.uniquify_blocks.specs.Kids.{kids_of}
 use Rattle.uniquify_op.specs.Frames.{IsTaken, row_at}
 use Rattle.uniquify_op.specs.Marks.{came_before, marks_after}
 use Rattle.uniquify_op.specs.Visited.{AreMet, IsPut, IsPutAt, IsVisited}

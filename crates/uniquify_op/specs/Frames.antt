@@ -1,6 +1,6 @@
 -- Occurrences whose blocks are gone through.
 use Rattle.std.specs.Prelude.{◌≡◌, ◌+◌, ◌++◌, ℕ, List, [], ◌∷◌, Some, None, slice_get, unwrap_or}
-use Rattle.cell_copies.specs.declared.spot.Step.{Step}
+use Rattle.uniquify_copies.specs.declared.spot.Step.{Step}
 use Rattle.uniquify_op.specs.declared.frame.Frame.{Frame}
 use Rattle.uniquify_op.specs.declared.frame.Next.{Next}
 use Rattle.uniquify_op.specs.declared.frame.Next.TheVariants.{End, Back, Block}

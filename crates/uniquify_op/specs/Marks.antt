@@ -6,8 +6,8 @@ use Rattle.netlist_schema.specs.Types.{CellId}
 use Rattle.edit_rules_spec.specs.Paths.{same_cell}
 use Rattle.flat_spec.specs.Occurrences.{Occurrence}
 use Rattle.uniquify_spec.specs.Blocks.{blocks_below}
-use Rattle.cell_copies.specs.Drafts.{IsDraft, Marked, has_no_room, made_for}
-use Rattle.cell_copies.specs.declared.draft.Draft.{Draft}
+use Rattle.uniquify_copies.specs.Drafts.{IsDraft, Marked, has_no_room, made_for}
+use Rattle.uniquify_copies.specs.declared.draft.Draft.{Draft}
 
 -- one of these occurrences is of the cell
 abbrev pub came_before : List Occurrence → CellId → Bool

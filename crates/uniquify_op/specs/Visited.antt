@@ -8,9 +8,9 @@ use Rattle.netlist_schema.specs.declared.limits.TheConstants.{MOST_CELLS}
 use Rattle.flat_spec.specs.Occurrences.{Occurrence}
 use Rattle.uniquify_spec.specs.Blocks.{is_block}
 use Rattle.uniquify_spec.specs.Copies.{copy_after}
-use Rattle.cell_copies.specs.Drafts.{IsDraft, made_for}
-use Rattle.cell_copies.specs.declared.spot.Step.{Step}
-use Rattle.block_kids.specs.Kids.{kids_of}
+use Rattle.uniquify_copies.specs.Drafts.{IsDraft, made_for}
+use Rattle.uniquify_copies.specs.declared.spot.Step.{Step}
+use Rattle.uniquify_blocks.specs.Kids.{kids_of}
 use Rattle.uniquify_op.specs.Frames.{row_at}
 use Rattle.uniquify_op.specs.Marks.{came_before, marks_after}
 use Rattle.uniquify_op.specs.declared.met.Met.{Met}

@@ -6,8 +6,8 @@ use Rattle.netlist_schema.specs.Design.{Design}
 use Rattle.netlist_schema.specs.Types.{CellId}
 use Rattle.flat_spec.specs.Occurrences.{Occurrence, under}
 use Rattle.uniquify_spec.specs.Blocks.{blocks_below, root_of}
-use Rattle.cell_copies.specs.Drafts.{IsDraft, IsNumbered, has_no_room, made_for, placed_in}
-use Rattle.cell_copies.specs.declared.spot.Step.{Step}
+use Rattle.uniquify_copies.specs.Drafts.{IsDraft, IsNumbered, has_no_room, made_for, placed_in}
+use Rattle.uniquify_copies.specs.declared.spot.Step.{Step}
 use Rattle.uniquify_op.specs.Frames.{row_at}
 use Rattle.uniquify_op.specs.Marks.{marks_after}
 use Rattle.uniquify_op.specs.Visited.{IsVisited}

@@ -6,10 +6,10 @@ ghost use Rattle.uniquify_op.specs.Marks.{AreBlocksDrafted};
 
 use crate::visits::Visits;
 use crate::walk::{Turn, Walk};
-use cell_copies::Draft;
 use edit_cells::Cells;
 use netlist_schema::{CellId, NoMemory};
 use std::alloc::Global;
+use uniquify_copies::Draft;
 
 /// The draft of a walk.
 fn draft_of(walk: Walk) -> Draft
@@ -23,7 +23,7 @@ fn draft_of(walk: Walk) -> Draft
 /// The occurrences of blocks below a top in path order, each later one of a cell with a copy; `None` where a library has no
 /// room for one. It goes no further than to the first copy without room, so it comes to no more occurrences than there are
 /// blocks and places in libraries.
-pub fn draft_blocks<C: Cells>(
+pub(crate) fn draft_blocks<C: Cells>(
     alloc: Global,
     cells: &mut C,
     top: CellId,

@@ -2,8 +2,8 @@
 ghost use Rattle.std.specs.Prelude.{◌≡◌, ◌+◌, ◌<◌, ◌^◌, IfOk, IfSome, slice_get};
 ghost use Rattle.uniquify_op.specs.Frames.{IsTaken, row_at};
 
-use cell_copies::Step;
 use netlist_schema::{NoMemory, Row};
+use uniquify_copies::Step;
 
 /// An occurrence whose blocks are gone through, in order.
 #[derive(Clone, Copy)]
@@ -42,7 +42,7 @@ fn block_at(rows: &[Row<Step>], row: usize, place: usize) -> Option<Step>
 }
 
 /// Takes the next block of the last occurrence, or puts that aside where all of its blocks were taken.
-pub fn take_next(rows: &[Row<Step>], stack: &mut Vec<Frame>) -> Result<Next, NoMemory>
+pub(crate) fn take_next(rows: &[Row<Step>], stack: &mut Vec<Frame>) -> Result<Next, NoMemory>
     ensures { IfOk result (IsTaken rows.now stack.old.items stack.new.items) }
 {
     let Some(frame) = stack.pop() else {

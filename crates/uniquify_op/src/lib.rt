@@ -1,4 +1,4 @@
-//! Uniquify over cells: each occurrence of a block gets a cell of its own.
+//! Uniquify over cells: each occurrence of a block gets a cell of its own; and unique-path, by which those along a path do.
 #![tactic(auto)]
 
 mod blocks;
@@ -9,3 +9,4 @@ mod visits;
 mod walk;
 
 pub use op::uniquify;
+pub use uniquify_blocks::unique_path;

@@ -4,10 +4,10 @@ ghost use Rattle.std.specs.BTreeMap.{get, is_at};
 ghost use Rattle.netlist_schema.specs.Order.{cell_cmp};
 ghost use Rattle.netlist_schema.specs.Types.{CellId};
 
-use cell_copies::Step;
 use netlist_schema::{CellId, NoMemory, Row};
 use std::alloc::Global;
 use std::collections::BTreeMap;
+use uniquify_copies::Step;
 
 /// Cells that were met, and the blocks that stand in cells.
 #[derive(Drop)]

@@ -4,15 +4,14 @@ ghost use Rattle.netlist_schema.specs.Valid.{IsValid};
 ghost use Rattle.edit_cells.specs.State.{HasReadSome};
 ghost use Rattle.uniquify_spec.specs.Blocks.{each_block};
 ghost use Rattle.eco_reads.specs.Done.{IsDone, IsDoneOrFails};
-ghost use Rattle.path_copies.specs.Plans.{IsPlanned};
+ghost use Rattle.uniquify_blocks.specs.Plans.{IsPlanned};
 
 use crate::blocks::draft_blocks;
-use block_kids::read_below;
 use edit_cells::Cells;
 use edit_spec::{Op, Reply};
 use netlist_schema::{CellId, NoMemory};
-use path_copies::{Plan, plan_of, put_plan};
 use std::alloc::Global;
+use uniquify_blocks::{Plan, plan_of, put_plan, read_below};
 
 /// The plan for the blocks below a top, or none where a library has no room. It may read.
 fn try_plan<C: Cells>(alloc: Global, cells: &mut C, top: CellId) -> Result<Option<Plan>, NoMemory>

@@ -6,16 +6,16 @@ ghost use Rattle.netlist_schema.specs.Order.{cell_cmp};
 ghost use Rattle.netlist_schema.specs.Types.{CellId};
 ghost use Rattle.flat_spec.specs.Occurrences.{Occurrence};
 ghost use Rattle.edit_cells.specs.State.{HasReadSome};
-ghost use Rattle.cell_copies.specs.Drafts.{IsNumbered, placed_in};
+ghost use Rattle.uniquify_copies.specs.Drafts.{IsNumbered, placed_in};
 ghost use Rattle.uniquify_op.specs.Marks.{marks_after};
 ghost use Rattle.uniquify_op.specs.Visited.{IsPut, IsPutAt, IsVisited};
 
 use crate::met::Met;
-use block_kids::block_kids;
-use cell_copies::{Draft, Step};
 use edit_cells::Cells;
 use netlist_schema::NoMemory;
 use std::alloc::Global;
+use uniquify_blocks::block_kids;
+use uniquify_copies::{Draft, Step};
 
 /// Occurrences of blocks on a list, with the copies that they get, and the cells that were met among them.
 #[derive(Drop)]

@@ -11,11 +11,11 @@ ghost use Rattle.uniquify_op.specs.Walks.{IsSomeWalk, IsTurned, IsWaiting, IsWal
 use crate::frame::{Frame, Next, take_next};
 use crate::met::Met;
 use crate::visits::Visits;
-use block_kids::block_kids;
-use cell_copies::{Draft, Step};
 use edit_cells::Cells;
 use netlist_schema::{CellId, NoMemory};
 use std::alloc::Global;
+use uniquify_blocks::block_kids;
+use uniquify_copies::{Draft, Step};
 
 /// A walk over the occurrences of blocks below a top, in path order. Each occurrence keeps its cell where it is the first of it,
 /// and else gets a copy.

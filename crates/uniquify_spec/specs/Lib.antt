@@ -1,7 +1,7 @@
 pub mod Alike
 pub mod Blocks
 pub mod Copies
-pub mod Counts
+pub mod OnePass
 pub mod Erased
 pub mod ExampleCapital
 pub mod ExamplePair

@@ -1,6 +1,6 @@
 //! What holds of the operations. A law is what a function without parameters ensures; there is nothing to run.
 ghost use Rattle.uniquify_spec.specs.Alike.{AlikeFlattenAlike};
-ghost use Rattle.uniquify_spec.specs.Counts.{CopiesGoOn, CountsGoByCells, CountsGoByParents, FirstsHaveNoneBefore, FreeNumberNeverFalls};
+ghost use Rattle.uniquify_spec.specs.OnePass.{CopiesGoOn, FirstsHaveNoneBefore};
 ghost use Rattle.uniquify_spec.specs.ExampleCapital.{CapitalIsUnique, PathIsUnique};
 ghost use Rattle.uniquify_spec.specs.ExamplePair.{PairIsUnique};
 ghost use Rattle.std.specs.Prelude.{List, ℕ};
@@ -86,11 +86,8 @@ pub fn too_many_is_too_full()
     ensures { TooManyIsTooFull }
 {}
 
-/// What a program can rest on that goes over the occurrences once, and counts by cells before that.
+/// What a program can rest on that goes over the occurrences once.
 pub fn copies_are_made_in_one_pass()
-    ensures counts { CountsGoByParents }
-    ensures cells { CountsGoByCells }
     ensures copies { CopiesGoOn }
     ensures firsts { FirstsHaveNoneBefore }
-    ensures numbers { FreeNumberNeverFalls }
 {}

@@ -2,8 +2,8 @@
 #![tactic(auto)]
 
 mod cells;
-pub mod error;
-pub mod keep;
+mod error;
+mod keep;
 mod places;
 
 pub use error::KeepError;

@@ -3,7 +3,7 @@
 
 mod lines;
 mod names;
-pub mod write;
+mod write;
 
 pub use netdb_outside::WriteError;
 pub use write::write_uses;

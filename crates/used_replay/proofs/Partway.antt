@@ -6,7 +6,7 @@ use Rattle.netlist_schema.specs.Design.{Design}
 use Rattle.edit_spec.specs.Step.{run, step}
 use Rattle.edit_spec.specs.declared.ops.Op.{Op}
 use Rattle.edit_spec.proofs.Overlaid.{run_push}
-use Rattle.history_spec.specs.declared.event.Event.{Event}
+use Rattle.db_spec.specs.declared.event.Event.{Event}
 use Rattle.used_replay.specs.Replayed.{IsPartway, accepted, accepted_in, redone, replayed}
 
 pub on_err : {T E : Type 0} (r : Result T E) (P : Type 0) → P → OnErr r P

@@ -3,13 +3,13 @@ use Rattle.std.specs.Prelude.{◌≡◌, List, [], ◌∷◌, ◌++◌}
 use Rattle.netlist_schema.specs.Design.{Design}
 use Rattle.edit_spec.specs.Step.{run}
 use Rattle.edit_spec.specs.declared.ops.Op.{Op}
-use Rattle.history_spec.specs.History.{state_after, version_at}
-use Rattle.history_spec.specs.State.{head}
-use Rattle.history_spec.specs.declared.event.Answer.{Answer}
-use Rattle.history_spec.specs.declared.event.Answer.TheVariants.{Committed}
-use Rattle.history_spec.specs.declared.event.Call.{Call}
-use Rattle.history_spec.specs.declared.event.Call.TheVariants.{Commit}
-use Rattle.history_spec.specs.declared.event.Event.{Event}
+use Rattle.db_spec.specs.History.{state_after, version_at}
+use Rattle.db_spec.specs.State.{head}
+use Rattle.db_spec.specs.declared.event.Answer.{Answer}
+use Rattle.db_spec.specs.declared.event.Answer.TheVariants.{Committed}
+use Rattle.db_spec.specs.declared.event.Call.{Call}
+use Rattle.db_spec.specs.declared.event.Call.TheVariants.{Commit}
+use Rattle.db_spec.specs.declared.event.Event.{Event}
 
 -- the operations of an accepted commit, and none of another call
 abbrev pub accepted_in : Call → Answer → List Op

@@ -3,10 +3,10 @@ ghost use Rattle.std.specs.Prelude.{◌≡◌, OnErr, OnOk};
 ghost use Rattle.edit_spec.specs.Step.{run};
 ghost use Rattle.used_replay.specs.Replayed.{IsPartway, accepted, accepted_in, redone, replayed};
 
+use db_spec::{Answer, Call, Event};
 use edit_cells::Cells;
 use edit_spec::Op;
 use edit_tx::apply_op;
-use history_spec::{Answer, Call, Event};
 use netlist_schema::NoMemory;
 use std::alloc::Global;
 

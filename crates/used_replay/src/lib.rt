@@ -1,7 +1,8 @@
 //! The accepted commits of a history, done again on cells.
 #![tactic(auto)]
 
-pub mod again;
-pub mod laws;
+mod again;
+mod laws;
 
 pub use again::replay;
+pub use laws::{replayed_is_last, replayed_runs};

@@ -1,6 +1,8 @@
 pub mod ExampleUsed
 pub mod Kept
+pub mod LastUses
 pub mod Laws
 pub mod Lines
 pub mod Named
 pub mod Uses
+pub mod UsesReports

@@ -2,8 +2,13 @@
 //! contracts cite, worked designs, and laws.
 #![tactic(auto)]
 
-pub mod laws;
-pub mod used_at;
-pub mod worked;
+mod laws;
+mod used_at;
+mod worked;
 
+pub use laws::{
+    index_has_each_cell, kept_are_below, kept_stand_anew, kept_stays, kept_stays_kept,
+    users_are_instances,
+};
 pub use used_at::UsedAt;
+pub use worked::{large_is_used, small_is_used, topless_stays};

@@ -1,9 +1,9 @@
 //! A persistent table: a finite map from slots to shared items, kept in pages. A change leaves the table that it starts from.
 #![tactic(auto)]
 
-pub mod entries;
+mod entries;
 mod pages;
-pub mod table;
+mod table;
 
 pub use entries::Entry;
 pub use table::Table;

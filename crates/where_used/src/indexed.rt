@@ -16,8 +16,7 @@ use crate::moves::{Move, drop_news, drop_olds, moves_of, put_news};
 use crate::used::Used;
 use cell_puts::put_in_place;
 use design_copy::top_of;
-use edit_cells::patch::patched;
-use edit_cells::{CellChange, Change};
+use edit_cells::{CellChange, Change, patched};
 use flat_lookup::{inst_at, insts_at};
 use netlist_schema::{
     CellBody, CellId, Contents, Copied, Design, Lib, LibId, NoMemory, Note, Row, Shown,

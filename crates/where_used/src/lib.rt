@@ -2,11 +2,11 @@
 #![tactic(auto)]
 
 mod build;
-pub mod indexed;
+mod indexed;
 mod moves;
 mod rows;
-pub mod used;
-pub mod watched;
+mod used;
+mod watched;
 
 pub use used::Used;
 pub use used_spec::UsedAt;

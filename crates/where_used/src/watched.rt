@@ -5,9 +5,10 @@ ghost use Rattle.used_spec.specs.Uses.{uses};
 
 use crate::indexed::Indexed;
 use crate::used::Used;
-use edit_cells::look::{contents_of, face_of, object_for};
-use edit_cells::seek::{cell_in, is_free, lib_named};
-use edit_cells::{Cells, Change, Face, Marks, contents_object, face_object};
+use edit_cells::{
+    Cells, Change, Face, Marks, cell_in, contents_object, contents_of, face_object, face_of,
+    is_free, lib_named, object_for,
+};
 use netlist_schema::{
     CellBody, CellId, Contents, Design, Ident, LibHead, LibId, NoMemory, Note, Object, Row, Shown,
 };

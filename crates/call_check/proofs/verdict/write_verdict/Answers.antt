@@ -1,5 +1,5 @@
 use Rattle.std.proofs.Common.{inl, inr}
-use Rattle.joint_spec.specs.Scripts.{all_steps}
+use Rattle.script_run_spec.specs.Scripts.{all_steps}
 use Rattle.call_check.proofs.Telling.{told}
 use Rattle.call_check.proofs.verdict.write_verdict.Goals as goal
 

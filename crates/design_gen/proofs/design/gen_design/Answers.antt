@@ -3,7 +3,7 @@ use Rattle.std.specs.Prelude.{codes}
 use Rattle.netlist_schema.specs.Types.{Lib, Name, Note, Property}
 use Rattle.netlist_schema.specs.Valid.{IsValid}
 use Rattle.flat_spec.specs.ExampleParts.{named, id_of}
-use Rattle.design_gen.specs.Generated.{generated}
+use Rattle.gen_spec.specs.Generated.{generated}
 use Rattle.design_gen.proofs.Valid.{generated_is_valid}
 use Rattle.design_gen.proofs.design.gen_design.Goals as goal
 

@@ -1,6 +1,6 @@
 use Rattle.std.proofs.Common.{◌∙◌, ap, []}
 use Rattle.flat_spec.specs.ExampleParts.{id_of, inst}
-use Rattle.design_gen.specs.Generated.{inverter_at}
+use Rattle.gen_spec.specs.Generated.{inverter_at}
 use Rattle.design_gen.proofs.Numbers.{more_in_row}
 use Rattle.design_gen.proofs.design.inverters.Goals as goal
 

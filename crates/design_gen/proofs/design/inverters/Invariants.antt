@@ -1,5 +1,5 @@
 use Rattle.std.proofs.Common.{◌≡◌}
-use Rattle.design_gen.specs.Generated.{inverters}
+use Rattle.gen_spec.specs.Generated.{inverters}
 use Rattle.design_gen.proofs.design.inverters.Given as goal
 
 abbrev pub invariant-loop-number : goal.invariant-loop-number

@@ -1,5 +1,5 @@
 use Rattle.std.proofs.Common.{◌≡◌, refl, ◌∙◌}
-use Rattle.design_gen.specs.Generated.{net_at}
+use Rattle.gen_spec.specs.Generated.{net_at}
 use Rattle.design_gen.proofs.Numbers.{more_in_row}
 use Rattle.design_gen.proofs.design.row_nets.Goals as goal
 

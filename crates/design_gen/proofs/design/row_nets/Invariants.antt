@@ -1,6 +1,6 @@
 use Rattle.std.proofs.Common.{◌≡◌, map}
 use Rattle.std.specs.List.{range_with_len}
-use Rattle.design_gen.specs.Generated.{net_at}
+use Rattle.gen_spec.specs.Generated.{net_at}
 use Rattle.design_gen.proofs.design.row_nets.Given as goal
 
 abbrev pub invariant-loop-number : goal.invariant-loop-number

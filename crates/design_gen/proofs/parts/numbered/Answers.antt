@@ -1,6 +1,6 @@
 use Rattle.std.proofs.Common.{◌≡◌, refl, sym, subst, arith}
 use Rattle.netlist_schema.specs.Ident.{IsIdentifier}
-use Rattle.design_gen.specs.Generated.{numbered as numbered_of}
+use Rattle.gen_spec.specs.Generated.{numbered as numbered_of}
 use Rattle.design_gen.proofs.Numbers.{numbered_is_identifier}
 use Rattle.design_gen.proofs.parts.numbered.Goals as goal
 

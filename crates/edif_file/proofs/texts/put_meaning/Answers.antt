@@ -1,5 +1,5 @@
 use Rattle.std.proofs.Common.{ap, codes}
-use Rattle.edif_file.specs.FaultText.{at_place}
+use Rattle.edif_spec.specs.FaultText.{at_place}
 use Rattle.edif_file.proofs.TextLemmas.{then_put}
 use Rattle.edif_file.proofs.texts.put_meaning.Goals as goal
 

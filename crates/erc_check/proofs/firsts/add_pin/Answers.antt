@@ -1,5 +1,5 @@
 use Rattle.std.proofs.Common.{sym, ap, subst, refl, ◌∙◌}
-use Rattle.walk_items.specs.Lent.{net_of}
+use Rattle.flat_items.specs.Lent.{net_of}
 use Rattle.erc_check.specs.Firsts.{IsSearched, one_pin_more}
 use Rattle.erc_check.proofs.FirstLemmas.{none_is_there, one_noted}
 use Rattle.erc_check.proofs.firsts.add_pin.Goals as goal

@@ -1,7 +1,7 @@
 use Rattle.std.proofs.Common.{◌≡◌, true, sym, ap, ◌∙◌}
 use Rattle.flat_spec.specs.ConnectionTest.{same_net}
 use Rattle.flat_spec.proofs.TestLemmas.{same_net-true}
-use Rattle.walk_items.specs.Lent.{net_of}
+use Rattle.flat_items.specs.Lent.{net_of}
 use Rattle.erc_check.specs.declared.firsts.FirstNet.{FirstNet}
 use Rattle.erc_check.proofs.OrderLemmas.{get_or-any}
 use Rattle.erc_check.proofs.firsts.near_place.Goals as goal

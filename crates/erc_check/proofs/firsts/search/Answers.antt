@@ -1,5 +1,5 @@
 use Rattle.std.proofs.Common.{◌+◌, ◌-◌, ◌/◌, ◌<◌, length, arith, sym, ap, ◌∙◌}
-use Rattle.walk_items.specs.Lent.{net_of}
+use Rattle.flat_items.specs.Lent.{net_of}
 use Rattle.erc_check.specs.declared.firsts.FirstNet.{FirstNet}
 use Rattle.erc_check.proofs.OrderLemmas.{get_or-any, order_equal, stands_before, stands_behind}
 use Rattle.erc_check.proofs.firsts.search.Goals as goal

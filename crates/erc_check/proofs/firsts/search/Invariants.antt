@@ -1,7 +1,7 @@
 use Rattle.std.proofs.Common.{ℕ, ◌<◌, ◌≤◌, ◌-◌, length}
 use Rattle.std.specs.List.{AllPairs}
 use Rattle.flat_spec.specs.PathOrder.{NetBefore}
-use Rattle.walk_items.specs.Lent.{net_of}
+use Rattle.flat_items.specs.Lent.{net_of}
 use Rattle.erc_check.specs.Firsts.{IsPlaceOf}
 use Rattle.erc_check.proofs.firsts.search.Given as goal
 

@@ -4,7 +4,7 @@ use Rattle.std.proofs.lemmas.Result.{on_ok_weaker}
 use Rattle.edif_spec.specs.PropertyText.{property_text}
 use Rattle.flat_lines_spec.specs.Lines.{cell_text, lib_text, path_text}
 use Rattle.flat_report.specs.Parts.{behind_blanks}
-use Rattle.walk_items.specs.Lent.{properties_of}
+use Rattle.flat_items.specs.Lent.{properties_of}
 use Rattle.flat_report.proofs.LineLemmas.{one_word, more_words}
 use Rattle.flat_report.proofs.items.push_enter.Goals as goal
 

@@ -4,9 +4,10 @@ use Rattle.std.specs.Fmt.{decimal}
 use Rattle.std.specs.Option.{option_map, option_map_or}
 use Rattle.std.proofs.lemmas.Result.{on_ok_weaker}
 use Rattle.netlist_schema.specs.Types.{Port}
+use Rattle.flat_spec.specs.Paths.{port_of_cell}
 use Rattle.flat_lines_spec.specs.Lines.{net_words, path_text, port_text}
-use Rattle.flat_report.specs.Parts.{behind_blanks, port_in}
-use Rattle.walk_items.specs.Lent.{net_of}
+use Rattle.flat_report.specs.Parts.{behind_blanks}
+use Rattle.flat_items.specs.Lent.{net_of}
 use Rattle.flat_report.proofs.LineLemmas.{one_word, more_words}
 use Rattle.flat_report.proofs.items.push_pin.Goals as goal
 
@@ -22,7 +23,7 @@ returns-clause-ok g c =
     let port = port_text d c.args.path.now c.args.port in
     let bit = decimal c.args.bit in
     let joined = option_map_or (net_words d) (option_map net_of c.args.first) (codes "-" ∷ []) in
-    let is = c.port_name.ensures ∙ ap (λ cell. option_map_or (λ (p : Port). p.name.id) (port_in d cell c.args.port) []) c.in_ok-cell.ensures.cell in
+    let is = c.port_name.ensures ∙ ap (λ cell. option_map_or (λ (p : Port). p.name.id) (port_of_cell d cell c.args.port) []) c.in_ok-cell.ensures.cell in
     let place = more_words old begun placed (codes "pin") [] (path ∷ []) c.in_ok-extend_from_slice.ensures.items (c.in_ok-cell.ensures.text ∙ ap (λ text. begun ++ text) (one_word path)) in
     let names = more_words old placed named (codes "pin") (path ∷ []) (port ∷ bit ∷ []) place (c.in_ok-push_bit.ensures.ok ∙ ap (λ name. placed ++ behind_blanks (name ∷ bit ∷ [])) is) in
     on_ok_weaker c.push_joined.result

@@ -1,5 +1,5 @@
 use Rattle.netdb_outside.specs.Buffered.{Writes}
-use Rattle.walk_items.specs.Lent.{item_of}
+use Rattle.flat_items.specs.Lent.{item_of}
 use Rattle.flat_writer.proofs.GivenLemmas.{given_ahead}
 use Rattle.flat_writer.proofs.flat.put_ahead.Goals as goal
 

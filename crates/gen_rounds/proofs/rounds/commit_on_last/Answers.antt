@@ -1,5 +1,5 @@
 use Rattle.gen_rounds.proofs.Commits.{has_committed_where, tried_is_last, tried_is_pin}
-use Rattle.history_spec.specs.State.{head}
+use Rattle.db_spec.specs.State.{head}
 use Rattle.db_core.specs.Story.{state}
 use Rattle.gen_rounds.proofs.rounds.commit_on_last.Goals as goal
 

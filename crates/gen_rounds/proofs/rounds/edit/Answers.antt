@@ -1,6 +1,6 @@
 use Rattle.std.proofs.Common.{◌≤◌, ◌∙◌, sym, arith}
-use Rattle.design_gen.specs.Generated.{generated}
-use Rattle.history_spec.specs.History.{version_at}
+use Rattle.gen_spec.specs.Generated.{generated}
+use Rattle.db_spec.specs.History.{version_at}
 use Rattle.gen_rounds.proofs.Ends.{back_is_live, commit_places, round_committed, round_pin, round_pinned, round_places, round_released}
 use Rattle.gen_rounds.proofs.rounds.edit.Goals as goal
 

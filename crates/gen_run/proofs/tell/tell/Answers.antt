@@ -1,6 +1,6 @@
 use Rattle.std.proofs.Common.{◌≡◌, ◌≤◌, List, ap, sym, subst, ◌∙◌, length}
 use Rattle.std.specs.List.{count_by, sum_by}
-use Rattle.history_spec.specs.declared.event.Event.{Event}
+use Rattle.db_spec.specs.declared.event.Event.{Event}
 use Rattle.gen_spec.specs.Summary.{dropped_by, is_accepted}
 use Rattle.gen_run.proofs.Told.{is_told}
 use Rattle.gen_run.proofs.tell.tell.Goals as goal

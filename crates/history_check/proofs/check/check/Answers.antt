@@ -1,5 +1,5 @@
 use Rattle.std.proofs.Common.{arith, Bor, List, ℕ, refl, subst, sym, ◌∙◌}
-use Rattle.joint_spec.specs.Scripts.{all_steps}
+use Rattle.script_run_spec.specs.Scripts.{all_steps}
 use Rattle.script_spec.specs.Headline.{CanWalk}
 use Rattle.report_parts.proofs.Comparing.{if_ok_on}
 use Rattle.history_check.proofs.Seating.{begins_here, begins_none, behind_here, only_of, open_here, verdict_of}

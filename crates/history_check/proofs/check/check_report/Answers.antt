@@ -1,6 +1,6 @@
 use Rattle.std.proofs.Common.{subst}
 use Rattle.std.specs.Prelude.{Ok}
-use Rattle.joint_spec.specs.Scripts.{all_steps}
+use Rattle.script_run_spec.specs.Scripts.{all_steps}
 use Rattle.history_check.specs.Verdicts.{Checks}
 use Rattle.history_check.specs.declared.check.Verdict.TheVariants.{No}
 use Rattle.history_check.proofs.Seating.{verdict_no}

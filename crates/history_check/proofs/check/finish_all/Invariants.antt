@@ -1,6 +1,6 @@
 use Rattle.std.proofs.Common.{◌≡◌, ◌<◌, ◌++◌, [], List, ℕ, length}
 use Rattle.std.specs.Prelude.{slice_index_or, vec_len}
-use Rattle.joint_spec.specs.Scripts.{all_steps}
+use Rattle.script_run_spec.specs.Scripts.{all_steps}
 use Rattle.history_turns.specs.declared.seats.Seat.{Seat}
 use Rattle.history_check.proofs.Seating.{Finishes}
 use Rattle.history_check.proofs.check.finish_all.Given as goal

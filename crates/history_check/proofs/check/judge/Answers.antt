@@ -3,7 +3,7 @@ use Rattle.std.specs.Prelude.{◌↔◌, IsTrue}
 use Rattle.netlist_schema.specs.Design.{Design}
 use Rattle.db_version.specs.Shot.{Shot}
 use Rattle.report_parts.specs.Parts.{rest_text}
-use Rattle.joint_spec.specs.Scripts.{all_steps}
+use Rattle.script_run_spec.specs.Scripts.{all_steps}
 use Rattle.history_check.specs.Follow.{AllEnd}
 use Rattle.history_check.proofs.Wholes.{whole_same}
 use Rattle.report_parts.proofs.Comparing.{if_ok_on}

@@ -1,4 +1,4 @@
-use Rattle.joint_spec.specs.Scripts.{all_steps}
+use Rattle.script_run_spec.specs.Scripts.{all_steps}
 use Rattle.history_check.proofs.Seating.{has_a_top, has_no_top, some_copied}
 use Rattle.history_check.proofs.check.lacks_top.Goals as goal
 

@@ -1,6 +1,6 @@
 use Rattle.std.proofs.Common.{refl, ap, ◌-◌, ◌∙◌}
 use Rattle.script_spec.specs.ScriptText.{steps_of}
-use Rattle.joint_spec.specs.Scripts.{all_steps}
+use Rattle.script_run_spec.specs.Scripts.{all_steps}
 use Rattle.history_check.specs.Follow.{said_by}
 use Rattle.history_check.proofs.Seating.{is_called_so, is_halted, known_steps, lines_at, stands_at, top_here, within_lines}
 use Rattle.history_check.proofs.replay.call.Goals as goal

@@ -1,7 +1,7 @@
 use Rattle.std.proofs.Common.{Bor, List, ℕ, length, refl, ap, ◌∙◌}
 use Rattle.db_core.specs.Calls.{event_of}
 use Rattle.script_spec.specs.Report.{last_design}
-use Rattle.joint_spec.specs.Scripts.{all_steps}
+use Rattle.script_run_spec.specs.Scripts.{all_steps}
 use Rattle.history_check.proofs.Replaying.{behind_one}
 use Rattle.history_check.proofs.Seating.{behind_none, behind_some, called_so, heads_none, none_of, none_so, only_of, only_so, other_so, rest_so, shorter_behind, stopped_so}
 use Rattle.history_check.proofs.replay.replay.Goals as goal

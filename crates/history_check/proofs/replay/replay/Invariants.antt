@@ -1,5 +1,5 @@
 use Rattle.std.proofs.Common.{◌≡◌, List, ℕ, length}
-use Rattle.joint_spec.specs.Scripts.{all_steps}
+use Rattle.script_run_spec.specs.Scripts.{all_steps}
 use Rattle.history_check.specs.Follow.{AllStand, IsBehind, IsRestOf}
 use Rattle.history_check.proofs.replay.replay.Given as goal
 

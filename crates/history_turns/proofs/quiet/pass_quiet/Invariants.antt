@@ -1,5 +1,5 @@
 use Rattle.std.proofs.Common.{◌≤◌, ℕ, drop}
-use Rattle.history_spec.specs.History.{Legal}
+use Rattle.db_spec.specs.History.{Legal}
 use Rattle.db_core.specs.Story.{Story}
 use Rattle.script_spec.specs.ScriptText.{steps_of}
 use Rattle.history_turns.specs.Moves.{Passes}

@@ -4,7 +4,7 @@ use Rattle.netlist_schema.specs.Design.{Design}
 use Rattle.netdb_outside.specs.Outside.{Appends, AppendsFront}
 use Rattle.netdb_outside.proofs.Appending.{front_none}
 use Rattle.used_spec.specs.Lines.{uses_text}
-use Rattle.last_uses.specs.LastUses.{last_uses_text}
+use Rattle.used_spec.specs.LastUses.{last_uses_text}
 use Rattle.last_uses.proofs.write.write_last_uses.Goals as goal
 
 pub returns-in-Ok-clause-ok : goal.returns-in-Ok-clause-ok

@@ -1,8 +1,10 @@
 use Rattle.std.proofs.Common.{subst}
-use Rattle.call_words.specs.Command.{Request, request_of, spelled}
-use Rattle.netdb_cli.specs.Outcome.{Gives}
+use Rattle.netdb_spec.specs.Command.{Request, request_of, spelled}
+use Rattle.netdb_spec.specs.Outcome.{Gives}
 use Rattle.netdb_cli.proofs.OutcomeLemmas.{never_usage}
 use Rattle.netdb_cli.proofs.WordLemmas.{asked_once}
+use Rattle.netdb_spec.specs.Visits.{Adds, CommandReads}
+use Rattle.netdb_spec.specs.Reads.{LeavesFiles, files_of}
 use Rattle.netdb_cli.proofs.run.run_netdb.Goals as goal
 
 pub returns-in-Some-clause-usage : goal.returns-in-Some-clause-usage
@@ -29,3 +31,19 @@ returns-in-Some-clause-due g c = λ request asked.
     c.run_command.ensures.files
     (subst (λ (r : Request). Gives r (g.F.Files.told c.run_command.new.files) (g.K.Sink.written c.args.out.now) (g.K.Sink.written c.run_command.new.out) c.run_command.result)
     (asked_once (spelled c.args.words.now) (request_of c.in-Some.command) request c.in-Some.ensures asked) c.run_command.ensures.gives)
+
+pub returns-in-Some-clause-visited : goal.returns-in-Some-clause-visited
+returns-in-Some-clause-visited g c = λ request asked.
+    subst (λ (r : Request). Adds (g.F.Files.visits c.args.files.now) (g.F.Files.visits c.run_command.new.files) (CommandReads (files_of r) 1 c.run_command.result))
+    (asked_once (spelled c.args.words.now) (request_of c.in-Some.command) request c.in-Some.ensures asked) c.run_command.ensures.visited
+
+pub returns-in-Some-clause-untouched : goal.returns-in-Some-clause-untouched
+returns-in-Some-clause-untouched g c = λ request asked.
+    subst (λ (r : Request). LeavesFiles r (g.F.Files.told c.args.files.now) (g.F.Files.told c.run_command.new.files) (g.F.Files.faults c.args.files.now) (g.F.Files.faults c.run_command.new.files))
+    (asked_once (spelled c.args.words.now) (request_of c.in-Some.command) request c.in-Some.ensures asked) c.run_command.ensures.untouched
+
+pub returns-in-None-clause-visited : goal.returns-in-None-clause-visited
+returns-in-None-clause-visited g c = λ request asked. absurd (c.in-None.ensures (request, asked))
+
+pub returns-in-None-clause-untouched : goal.returns-in-None-clause-untouched
+returns-in-None-clause-untouched g c = λ request asked. absurd (c.in-None.ensures (request, asked))

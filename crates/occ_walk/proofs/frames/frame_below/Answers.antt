@@ -7,8 +7,8 @@ use Rattle.net_classes.specs.Joints.{IsNotBehind}
 use Rattle.net_classes.specs.declared.joints.Joint.{Joint}
 use Rattle.net_names.specs.Names.{AreHanded, first_of, name_in}
 use Rattle.net_names.specs.declared.names.Name.{Name}
-use Rattle.walk_items.specs.Stand.{top_of}
-use Rattle.walk_items.specs.declared.place.Frame.{Frame}
+use Rattle.flat_items.specs.Stand.{top_of}
+use Rattle.flat_items.specs.declared.place.Frame.{Frame}
 use Rattle.occ_walk.proofs.BelowLemmas.{firsts_in, frame_is_below, joints_are_named, joints_in_order, next_is_small, path_is_short}
 use Rattle.occ_walk.proofs.frames.frame_below.Goals as goal
 

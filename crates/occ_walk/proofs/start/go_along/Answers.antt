@@ -1,7 +1,7 @@
 use Rattle.std.proofs.Common.{◌≡◌, ◌+◌, ◌++◌, ◌∷◌, [], ℕ, List, get_or, take, sym, subst}
 use Rattle.std.proofs.lemmas.List.{take_all, take_more}
 use Rattle.occ_walk.specs.Starts.{IsAtStart}
-use Rattle.walk_items.specs.Stand.{stand_of}
+use Rattle.flat_items.specs.Stand.{stand_of}
 use Rattle.occ_walk.proofs.StartLemmas.{step_there}
 use Rattle.occ_walk.proofs.start.go_along.Goals as goal
 

@@ -1,6 +1,6 @@
 use Rattle.std.proofs.Common.{take}
 use Rattle.occ_walk.specs.Starts.{IsAtStart}
-use Rattle.walk_items.specs.Stand.{stand_of}
+use Rattle.flat_items.specs.Stand.{stand_of}
 use Rattle.occ_walk.proofs.start.go_along.Given as goal
 
 abbrev pub invariant-loop-step : goal.invariant-loop-step

@@ -1,4 +1,4 @@
-use Rattle.walk_items.specs.Stand.{stand_of}
+use Rattle.flat_items.specs.Stand.{stand_of}
 use Rattle.occ_walk.proofs.StartLemmas.{down_at, none_down}
 use Rattle.occ_walk.proofs.start.go_down.Goals as goal
 

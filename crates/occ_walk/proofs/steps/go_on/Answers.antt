@@ -1,6 +1,6 @@
 use Rattle.std.proofs.Common.{◌∙◌, ap, arith}
-use Rattle.walk_items.specs.Left.{is_over}
-use Rattle.walk_items.specs.Stand.{stand_of}
+use Rattle.flat_items.specs.Left.{is_over}
+use Rattle.flat_items.specs.Stand.{stand_of}
 use Rattle.occ_walk.proofs.LeftLemmas.{back_at, ended_at, entered_at, next_fits}
 use Rattle.occ_walk.proofs.steps.go_on.Goals as goal
 

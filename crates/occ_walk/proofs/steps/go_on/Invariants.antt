@@ -1,7 +1,7 @@
 use Rattle.std.proofs.Common.{◌≡◌, [], length}
 use Rattle.occ_walk.specs.Left.{left}
-use Rattle.walk_items.specs.Left.{own_left}
-use Rattle.walk_items.specs.Stand.{MayStand, here_of, stand_of}
+use Rattle.flat_items.specs.Left.{own_left}
+use Rattle.flat_items.specs.Stand.{MayStand, here_of, stand_of}
 use Rattle.occ_walk.proofs.steps.go_on.Given as goal
 
 abbrev pub invariant-up : goal.invariant-up

@@ -1,4 +1,4 @@
-use Rattle.walk_items.specs.Stand.{stand_of}
+use Rattle.flat_items.specs.Stand.{stand_of}
 use Rattle.occ_walk.proofs.LeftLemmas.{none_passed, passed}
 use Rattle.occ_walk.proofs.steps.pass.Goals as goal
 

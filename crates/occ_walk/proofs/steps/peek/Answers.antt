@@ -1,4 +1,4 @@
-use Rattle.walk_items.specs.Stand.{stand_of}
+use Rattle.flat_items.specs.Stand.{stand_of}
 use Rattle.occ_walk.proofs.LeftLemmas.{lent_ahead}
 use Rattle.occ_walk.proofs.steps.peek.Goals as goal
 

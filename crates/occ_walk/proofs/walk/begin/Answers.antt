@@ -1,6 +1,6 @@
 use Rattle.std.proofs.Common.{ap, ◌∙◌}
 use Rattle.occ_walk.specs.At.{items_below}
-use Rattle.walk_items.specs.Stand.{stand_of}
+use Rattle.flat_items.specs.Stand.{stand_of}
 use Rattle.occ_walk.proofs.StartLemmas.{begun_left}
 use Rattle.occ_walk.proofs.walk.begin.Goals as goal
 

@@ -1,6 +1,6 @@
 use Rattle.flat_spec.specs.Flattening.{flattening}
 use Rattle.occ_walk.specs.Left.{left}
-use Rattle.walk_items.specs.Stand.{stand_of}
+use Rattle.flat_items.specs.Stand.{stand_of}
 use Rattle.par_flat.proofs.DeskLemmas.{further_on}
 use Rattle.par_flat.proofs.desks.go_on.Goals as goal
 

@@ -1,7 +1,7 @@
 use Rattle.std.proofs.Common.{List, Bool, subst, arith, ◌∙◌}
 use Rattle.flat_spec.specs.Types.{Item}
 use Rattle.occ_walk.specs.Left.{left}
-use Rattle.walk_items.specs.Stand.{stand_of}
+use Rattle.flat_items.specs.Stand.{stand_of}
 use Rattle.par_flat.specs.Lines.{GivesLine}
 use Rattle.par_flat.proofs.LineLemmas.{all_made, full_made, none_left, none_made, one_made}
 use Rattle.par_flat.proofs.lines.add_lines.Goals as goal

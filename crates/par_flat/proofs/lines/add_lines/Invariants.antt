@@ -1,6 +1,6 @@
 use Rattle.std.proofs.Common.{◌≡◌, ◌-◌}
 use Rattle.occ_walk.specs.Left.{left}
-use Rattle.walk_items.specs.Stand.{MayStand, stand_of}
+use Rattle.flat_items.specs.Stand.{MayStand, stand_of}
 use Rattle.par_flat.proofs.LineLemmas.{AreMade}
 use Rattle.par_flat.proofs.lines.add_lines.Given as goal
 

@@ -2,7 +2,7 @@ use Rattle.std.proofs.Common.{◌+◌, subst}
 use Rattle.std.proofs.lemmas.Option.{same_Some}
 use Rattle.flat_spec.specs.Flattening.{flattening}
 use Rattle.occ_walk.specs.Left.{left}
-use Rattle.walk_items.specs.Stand.{stand_of}
+use Rattle.flat_items.specs.Stand.{stand_of}
 use Rattle.par_flat.specs.Desks.{IsSeat}
 use Rattle.par_flat.proofs.DeskLemmas.{behind_more}
 use Rattle.par_flat.proofs.lines.make_lines.Goals as goal

@@ -3,7 +3,7 @@ use Rattle.std.proofs.lemmas.Bool.{false≢true}
 use Rattle.flat_spec.specs.Types.{Item}
 use Rattle.occ_walk.specs.Left.{left}
 use Rattle.flat_lines_spec.specs.Lines.{shown_items}
-use Rattle.walk_items.specs.Stand.{stand_of}
+use Rattle.flat_items.specs.Stand.{stand_of}
 use Rattle.par_flat.specs.Parts.{GivesMore}
 use Rattle.par_flat.proofs.PartLemmas.{all_given, fewer_left, full_given, more_given}
 use Rattle.par_flat.proofs.parts.add_left.Goals as goal

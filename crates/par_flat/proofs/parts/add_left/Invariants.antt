@@ -1,7 +1,7 @@
 use Rattle.std.proofs.Common.{◌≡◌, ◌++◌, length}
 use Rattle.occ_walk.specs.Left.{left}
 use Rattle.flat_lines_spec.specs.Lines.{shown_items}
-use Rattle.walk_items.specs.Stand.{MayStand, stand_of}
+use Rattle.flat_items.specs.Stand.{MayStand, stand_of}
 use Rattle.par_flat.proofs.parts.add_left.Given as goal
 
 abbrev pub invariant-items : goal.invariant-items

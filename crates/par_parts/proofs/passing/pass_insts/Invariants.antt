@@ -1,8 +1,8 @@
 use Rattle.std.proofs.Common.{◌≡◌, ◌≤◌, ◌-◌, drop, length, true}
 use Rattle.netlist_schema.specs.Hierarchy.{insts_at}
 use Rattle.occ_walk.specs.Left.{left}
-use Rattle.walk_items.specs.Left.{is_over}
-use Rattle.walk_items.specs.Stand.{MayStand, stand_of}
+use Rattle.flat_items.specs.Left.{is_over}
+use Rattle.flat_items.specs.Stand.{MayStand, stand_of}
 use Rattle.par_parts.proofs.passing.pass_insts.Given as goal
 
 abbrev pub invariant-insts : goal.invariant-insts

@@ -1,5 +1,5 @@
 use Rattle.std.proofs.Common.{◌∙◌, refl, sym, arith}
-use Rattle.walk_items.specs.Stand.{stand_of}
+use Rattle.flat_items.specs.Stand.{stand_of}
 use Rattle.par_parts.proofs.PassLemmas.{own_passed}
 use Rattle.par_parts.proofs.passing.pass_own.Goals as goal
 

@@ -1,6 +1,6 @@
 use Rattle.std.proofs.Common.{◌≡◌, drop}
 use Rattle.occ_walk.specs.Left.{left}
-use Rattle.walk_items.specs.Stand.{MayStand, stand_of}
+use Rattle.flat_items.specs.Stand.{MayStand, stand_of}
 use Rattle.par_parts.proofs.passing.skip.Given as goal
 
 abbrev pub invariant-on : goal.invariant-on

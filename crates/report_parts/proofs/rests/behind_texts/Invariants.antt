@@ -1,5 +1,5 @@
 use Rattle.std.proofs.Common.{◌≡◌, ◌++◌, List, ℕ, drop}
-use Rattle.joint_spec.specs.Written.{numbered_texts}
+use Rattle.script_run_spec.specs.Written.{numbered_texts}
 use Rattle.report_parts.proofs.rests.behind_texts.Given as goal
 
 -- the text goes on as all transcripts do exactly where what is left goes on as those do that are left

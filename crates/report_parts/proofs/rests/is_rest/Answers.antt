@@ -2,7 +2,7 @@ use Rattle.std.proofs.Common.{◌++◌, ◌∷◌, []}
 use Rattle.std.specs.Prelude.{codes}
 use Rattle.edif_spec.specs.Arranged.{canonical_text}
 use Rattle.script_spec.specs.Texts.{line}
-use Rattle.joint_spec.specs.Written.{numbered_texts}
+use Rattle.script_run_spec.specs.Written.{numbered_texts}
 use Rattle.report_parts.proofs.Comparing.{if_ok_on, other_front, same_behind}
 use Rattle.report_parts.proofs.rests.is_rest.Goals as goal
 

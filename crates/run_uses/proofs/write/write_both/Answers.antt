@@ -3,8 +3,8 @@ use Rattle.netdb_outside.specs.Outside.{Appends, AppendsFront}
 use Rattle.netdb_outside.proofs.Appending.{appends_then, front_more, then_front}
 use Rattle.std.proofs.Common.{◌++◌}
 use Rattle.script_spec.specs.Report.{last_design}
-use Rattle.joint_spec.specs.Written.{written_report}
-use Rattle.last_uses.specs.LastUses.{last_uses_text}
+use Rattle.script_run_spec.specs.Written.{written_report}
+use Rattle.used_spec.specs.LastUses.{last_uses_text}
 use Rattle.run_uses.proofs.Uses.{on_any_err}
 use Rattle.run_uses.proofs.write.write_both.Goals as goal
 

@@ -1,6 +1,6 @@
 use Rattle.std.proofs.lemmas.Result.{on_err_weaker, on_ok_weaker}
 use Rattle.netdb_outside.specs.Outside.{Appends, AppendsFront}
-use Rattle.joint_spec.specs.Written.{written_report}
+use Rattle.script_run_spec.specs.Written.{written_report}
 use Rattle.script_run_all.proofs.Reports.{lent_front, lent_whole}
 use Rattle.run_uses.proofs.write.write_history.Goals as goal
 

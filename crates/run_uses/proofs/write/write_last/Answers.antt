@@ -1,7 +1,7 @@
 use Rattle.std.proofs.Common.{subst}
 use Rattle.std.proofs.lemmas.Result.{on_err_weaker, on_ok_weaker}
 use Rattle.netdb_outside.specs.Outside.{Appends, AppendsFront}
-use Rattle.last_uses.specs.LastUses.{last_uses_text}
+use Rattle.used_spec.specs.LastUses.{last_uses_text}
 use Rattle.run_uses.proofs.Uses.{lent_uses}
 use Rattle.run_uses.proofs.write.write_last.Goals as goal
 

@@ -1,6 +1,6 @@
 use Rattle.std.proofs.Common.{sym, subst}
 use Rattle.script_spec.specs.Session.{last_release}
-use Rattle.run_spec.specs.Calls.{Makes}
+use Rattle.script_run_spec.specs.Calls.{Makes}
 use Rattle.script_held.specs.Holding.{IsHeldBy, held_of}
 use Rattle.script_held.specs.declared.held.Held.{Held}
 use Rattle.script_held.proofs.held.settle.Goals as goal

@@ -1,6 +1,6 @@
 use Rattle.std.proofs.Common.{◌++◌, ◌∙◌, ap, take}
 use Rattle.netdb_outside.proofs.BufferedLemmas.{writes_then, writes_same}
-use Rattle.joint_spec.specs.Written.{numbered_text, numbered_texts}
+use Rattle.script_run_spec.specs.Written.{numbered_text, numbered_texts}
 use Rattle.script_report.proofs.Numbered.{one_more_text}
 use Rattle.script_report.proofs.lines.put_transcripts.Goals as goal
 

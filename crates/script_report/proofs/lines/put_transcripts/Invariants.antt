@@ -1,6 +1,6 @@
 use Rattle.std.proofs.Common.{take}
 use Rattle.netdb_outside.specs.Buffered.{Writes}
-use Rattle.joint_spec.specs.Written.{numbered_texts}
+use Rattle.script_run_spec.specs.Written.{numbered_texts}
 use Rattle.script_report.proofs.lines.put_transcripts.Given as goal
 
 -- the first transcripts are written

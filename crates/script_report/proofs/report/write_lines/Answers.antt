@@ -2,7 +2,7 @@ use Rattle.std.proofs.Common.{[], ◌∷◌, ◌++◌}
 use Rattle.std.specs.Prelude.{codes}
 use Rattle.netdb_outside.proofs.BufferedLemmas.{writes_then, writes_same, finished_well, finished_badly}
 use Rattle.script_spec.specs.Texts.{event_texts}
-use Rattle.joint_spec.specs.Written.{numbered_texts}
+use Rattle.script_run_spec.specs.Written.{numbered_texts}
 use Rattle.script_report.proofs.Parts.{four_parts}
 use Rattle.script_report.proofs.report.write_lines.Goals as goal
 

@@ -3,7 +3,7 @@ use Rattle.std.proofs.lemmas.Result.{on_ok_weaker}
 use Rattle.edif_spec.specs.Arranged.{canonical_text}
 use Rattle.netdb_outside.specs.Outside.{Appends, AppendsFront}
 use Rattle.netdb_outside.proofs.Appending.{appends_then, front_more, then_front}
-use Rattle.joint_spec.specs.Written.{report_lines}
+use Rattle.script_run_spec.specs.Written.{report_lines}
 use Rattle.script_report.proofs.Parts.{err_weaker, on_any_err}
 use Rattle.script_report.proofs.report.write_report.Goals as goal
 

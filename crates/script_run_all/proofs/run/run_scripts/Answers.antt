@@ -1,6 +1,6 @@
 use Rattle.std.proofs.Common.{◌∙◌, List, length, refl, ap, sym, arith}
 use Rattle.std.specs.List.{list_any}
-use Rattle.joint_spec.specs.Scripts.{all_steps}
+use Rattle.script_run_spec.specs.Scripts.{all_steps}
 use Rattle.script_run_all.specs.declared.workers.Done.{Done}
 use Rattle.script_run_all.proofs.Closing.{are_done, closed_run, passes_all, passes_ready}
 use Rattle.script_run_all.proofs.Opening.{fresh, numbered}

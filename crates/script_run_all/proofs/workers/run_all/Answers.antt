@@ -2,7 +2,7 @@ use Rattle.std.proofs.Common.{◌≡◌, ◌∙◌, sym, length, map, arith, vec
 use Rattle.std.specs.Prelude.{Ok, slice_index_or, ◌<◌}
 use Prim.Native.Nat.{ℕ}
 use Rattle.std.proofs.lemmas.Result.{IfOk-weaker}
-use Rattle.joint_spec.specs.Scripts.{all_steps}
+use Rattle.script_run_spec.specs.Scripts.{all_steps}
 use Rattle.script_run_all.specs.Workers.{IsDone}
 use Rattle.script_run_all.specs.declared.workers.Done.{Done}
 use Rattle.script_run_all.proofs.Closing.{all_count, each_done}

@@ -1,6 +1,6 @@
 use Rattle.std.proofs.Common.{◌<◌, length, arith}
 use Rattle.script_spec.specs.ScriptText.{steps_of}
-use Rattle.joint_spec.specs.Scripts.{all_steps}
+use Rattle.script_run_spec.specs.Scripts.{all_steps}
 use Rattle.script_run_all.proofs.Opening.{one_walks, own_done, steps_at}
 use Rattle.script_run_all.proofs.workers.run_own.Goals as goal
 

@@ -1,4 +1,4 @@
-use Rattle.history_spec.specs.History.{version_at}
+use Rattle.db_spec.specs.History.{version_at}
 use Rattle.script_spec.specs.Session.{Nothing, exchanges}
 use Rattle.script_spec.proofs.OneSession as lemma
 use Rattle.script_spec.proofs.laws.one_transcript.Goals as goal

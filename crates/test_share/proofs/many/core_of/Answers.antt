@@ -1,5 +1,5 @@
 use Rattle.std.proofs.Common.{◌≡◌, ◌∙◌, length, sym, arith}
-use Rattle.test_share.proofs.AllPasses.{all_ready, each_seat}
+use Rattle.db_share.proofs.AllPasses.{all_ready, each_seat}
 use Rattle.test_share.proofs.many.core_of.Goals as goal
 
 pub close-requires-clause-ready : goal.close-requires-clause-ready

@@ -1,6 +1,6 @@
 use Rattle.std.proofs.Common.{◌∙◌}
 use Rattle.std.specs.Option.{option_copied}
-use Rattle.net_groups.specs.Heads.{AreSound}
+use Rattle.ungroup_plans.specs.Heads.{AreSound}
 use Rattle.ungroup_op.proofs.OpLemmas.{lent_too, planned_here, read_long, sound_copied, sound_lent, ungroup_can, ungroup_done, ungroup_missing, ungroup_read, ungroup_refused}
 use Rattle.ungroup_op.proofs.op.try_ungroup.Goals as goal
 

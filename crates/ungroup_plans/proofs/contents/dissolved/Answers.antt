@@ -3,7 +3,7 @@ use Rattle.edit_rules_spec.specs.Rule.{refuse}
 use Rattle.edit_rules_spec.specs.declared.reply.Reply.{Reply}
 use Rattle.edit_rules_spec.specs.declared.reply.Reply.TheVariants.{TooMany}
 use Rattle.netlist_schema.specs.Types.{Inst}
-use Rattle.net_groups.specs.Heads.{site}
+use Rattle.ungroup_plans.specs.Heads.{site}
 use Rattle.ungroup_plans.proofs.Counts.{insts_over, nets_over, none_over}
 use Rattle.ungroup_plans.proofs.InstLemmas.{item_is}
 use Rattle.ungroup_plans.proofs.contents.dissolved.Goals as goal

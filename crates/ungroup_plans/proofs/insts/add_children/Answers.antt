@@ -1,5 +1,5 @@
 use Rattle.std.proofs.Common.{subst}
-use Rattle.free_names.specs.Taken.{IsNamedUp}
+use Rattle.ungroup_plans.specs.Taken.{IsNamedUp}
 use Rattle.netlist_schema.specs.Types.{Inst}
 use Rattle.ungroup_spec.specs.Dissolved.{inst_name, with_inst_name}
 use Rattle.ungroup_plans.proofs.Named.{named_more}

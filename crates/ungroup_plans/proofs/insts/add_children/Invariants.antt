@@ -1,5 +1,5 @@
 use Rattle.std.proofs.Common.{◌<◌, ◌+◌, ◌^◌, ℕ, List, length}
-use Rattle.free_names.specs.Taken.{IsOf}
+use Rattle.ungroup_plans.specs.Taken.{IsOf}
 use Rattle.ungroup_spec.specs.Dissolved.{inst_name, with_inst_name}
 use Rattle.ungroup_plans.proofs.Named.{AreNamedSoFar}
 use Rattle.ungroup_plans.proofs.insts.add_children.Given as goal

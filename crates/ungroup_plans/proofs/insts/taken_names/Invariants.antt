@@ -1,5 +1,5 @@
 use Rattle.std.proofs.Common.{map, take}
-use Rattle.free_names.specs.Taken.{IsOf}
+use Rattle.ungroup_plans.specs.Taken.{IsOf}
 use Rattle.ungroup_plans.proofs.insts.taken_names.Given as goal
 
 abbrev pub invariant-loop-inst : goal.invariant-loop-inst

@@ -1,8 +1,8 @@
 use Rattle.std.proofs.Common.{◌≤◌, ◌+◌, List, length, get_or, subst, ap, refl, sym, ◌∙◌, Ok}
 use Rattle.std.specs.Prelude.{slice_range}
 use Rattle.netlist_schema.specs.Types.{Contents, Inst}
-use Rattle.net_groups.specs.Heads.{site}
-use Rattle.net_groups.proofs.HeadLemmas.{no_inst}
+use Rattle.ungroup_plans.specs.Heads.{site}
+use Rattle.ungroup_plans.proofs.HeadLemmas.{no_inst}
 use Rattle.ungroup_plans.specs.Moved.{notes_moved}
 use Rattle.ungroup_plans.specs.Planned.{IsDissolved}
 use Rattle.ungroup_plans.specs.declared.plan.Ungrouped.{Ungrouped}

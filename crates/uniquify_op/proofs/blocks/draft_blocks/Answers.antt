@@ -1,7 +1,7 @@
 use Rattle.std.proofs.Common.{[], subst, sym}
-use Rattle.copy_names.proofs.SomeReads.{some_then}
+use Rattle.uniquify_copies.proofs.SomeReads.{some_then}
 use Rattle.uniquify_spec.specs.Blocks.{blocks_below}
-use Rattle.cell_copies.specs.Drafts.{IsDraft}
+use Rattle.uniquify_copies.specs.Drafts.{IsDraft}
 use Rattle.uniquify_op.specs.Marks.{marked}
 use Rattle.uniquify_op.specs.Walks.{IsTurned}
 use Rattle.uniquify_op.proofs.Walking.{some_walk, turned_here}

@@ -1,8 +1,8 @@
 use Rattle.std.proofs.Common.{sym, subst, ap, false, ◌≡◌, ◌∙◌}
-use Rattle.cell_copies.specs.Changes.{AreSeats}
-use Rattle.cell_copies.specs.Drafts.{has_no_room}
-use Rattle.cell_copies.specs.Seats.{copies_of, seats, split_of}
-use Rattle.path_copies.specs.Plans.{IsPlan}
+use Rattle.uniquify_copies.specs.Changes.{AreSeats}
+use Rattle.uniquify_copies.specs.Drafts.{has_no_room}
+use Rattle.uniquify_copies.specs.Seats.{copies_of, seats, split_of}
+use Rattle.uniquify_blocks.specs.Plans.{IsPlan}
 use Rattle.uniquify_op.proofs.Planned.{block_room, block_seats, block_split, blocks_too_many}
 use Rattle.uniquify_op.proofs.op.try_plan.Goals as goal
 

@@ -1,7 +1,7 @@
 use Rattle.std.proofs.Common.{◌≤◌, List, arith, length, sym, ap, ◌∙◌}
 use Rattle.std.proofs.lemmas.List.{take_all}
 use Rattle.edit_spec.specs.Step.{run}
-use Rattle.history_spec.specs.declared.event.Event.{Event}
+use Rattle.db_spec.specs.declared.event.Event.{Event}
 use Rattle.used_replay.specs.Replayed.{accepted}
 use Rattle.used_replay.proofs.Partway.{event_done, event_partway, on_err, replayed_runs}
 use Rattle.used_replay.proofs.again.replay.Goals as goal

@@ -11,14 +11,14 @@ use Rattle.edit_rules_spec.proofs.Closed.{valid_is_closed}
 use Rattle.edit_tx.specs.Facts.{PinFacts}
 use Rattle.db_version.specs.Shot.{Shot}
 use Rattle.conflict_check.specs.Commits.{IsMarked}
-use Rattle.history_spec.specs.declared.event.Event.{Event}
-use Rattle.history_spec.specs.declared.event.Call.TheVariants.{Commit}
-use Rattle.history_spec.specs.declared.event.Answer.TheVariants.{Committed}
-use Rattle.history_spec.specs.State.{State, design, head, opening}
-use Rattle.history_spec.specs.Answers.{Admits, HasNoConflict, HasPlaces}
-use Rattle.history_spec.proofs.Histories.{goes_on_from}
-use Rattle.history_spec.proofs.Sound.{kept_up_after}
-use Rattle.history_spec.proofs.Versions.{follows_after, replayed}
+use Rattle.db_spec.specs.declared.event.Event.{Event}
+use Rattle.db_spec.specs.declared.event.Call.TheVariants.{Commit}
+use Rattle.db_spec.specs.declared.event.Answer.TheVariants.{Committed}
+use Rattle.db_spec.specs.State.{State, design, head, opening}
+use Rattle.db_spec.specs.Answers.{Admits, HasNoConflict, HasPlaces}
+use Rattle.db_spec.proofs.Histories.{goes_on_from}
+use Rattle.db_spec.proofs.Sound.{kept_up_after}
+use Rattle.db_spec.proofs.Versions.{follows_after, replayed}
 use Rattle.db_core.specs.declared.database.Core.TheInside.{Inside}
 use Rattle.db_core.specs.Calls.{Accepts, commit_event, event_of}
 use Rattle.db_core.specs.Story.{Story, IsPinOf, state}
@@ -45,6 +45,12 @@ agree_is i pin ops core is free =
     (subst (λ (x : Shot). AgreesOn (design (state_of i) pin.version) x.design (Reads (design (state_of i) pin.version) ops)) (sym h.newest)
     (agrees_head i.opening.design i.log.items pin.version ops (valid_is_closed i.opening.design core.history.valid) (pinned_there (story_of i) pin core.history.legal is) free))
 
+-- a pin of the last version has its design
+same_is : (i : Inside) (pin : PinFacts) → IsCore i → IsPinOf (story_of i) pin → pin.version ≡ i.newest.version → pin.design ≡ i.newest.design
+same_is i pin core is at =
+    is.design
+    ∙ (ap (λ (v : ℕ). design (state_of i) v) (at ∙ ap (λ (x : Shot). x.version) core.stands.newest) ∙ sym (ap (λ (x : Shot). x.design) core.stands.newest))
+
 replayed_is : (i : Inside) (pin : PinFacts) (ops : List Op) → IsCore i → IsPinOf (story_of i) pin → HasNoConflict (state_of i) pin.version ops → IsReplayed pin.design (design (state_of i) (head (state_of i))) ops
 replayed_is i pin ops core is free =
     let closed : IsClosed (state_of i).first = subst IsClosed (sym ((goes_on_from (opening i.opening.design) i.log.items).first)) (valid_is_closed i.opening.design core.history.valid) in
@@ -68,12 +74,15 @@ overflow_add-version c =
     let newest = ap (λ (x : Shot). x.version) h.newest in
     omega (arith, c.version-version.ensures)
 
-pub merged-requires-clause-grown : goal.merged-requires-clause-grown
-merged-requires-clause-grown c = grown_is c.self.inside c.args.tx.pin c.self.invariant (subst (λ (st : Story). IsPinOf st c.args.tx.pin) (sym c.self.view_is) c.requires.pin)
+pub next_version-requires-clause-grown : goal.next_version-requires-clause-grown
+next_version-requires-clause-grown c = grown_is c.self.inside c.args.tx.pin c.self.invariant (subst (λ (st : Story). IsPinOf st c.args.tx.pin) (sym c.self.view_is) c.requires.pin)
 
-pub merged-requires-clause-agree : goal.merged-requires-clause-agree
-merged-requires-clause-agree c = agree_is c.self.inside c.args.tx.pin c.args.tx.ops c.self.invariant (subst (λ (st : Story). IsPinOf st c.args.tx.pin) (sym c.self.view_is) c.requires.pin)
+pub next_version-requires-clause-agree : goal.next_version-requires-clause-agree
+next_version-requires-clause-agree c = agree_is c.self.inside c.args.tx.pin c.args.tx.ops c.self.invariant (subst (λ (st : Story). IsPinOf st c.args.tx.pin) (sym c.self.view_is) c.requires.pin)
     (subst (λ (st : Story). HasNoConflict (state st) c.args.tx.pin.version c.args.tx.ops) (sym c.self.view_is) c.requires.free)
+
+pub next_version-requires-clause-one : goal.next_version-requires-clause-one
+next_version-requires-clause-one c = same_is c.self.inside c.args.tx.pin c.self.invariant (subst (λ (st : Story). IsPinOf st c.args.tx.pin) (sym c.self.view_is) c.requires.pin)
 
 pub invariant_of-self-in_default-make_room-2 : goal.invariant_of-self-in_default-make_room-2
 invariant_of-self-in_default-make_room-2 c = roomier c.self.inside c.make_room.new.items c.make_room-2.new.items c.self.invariant c.make_room.ensures.items c.make_room-2.ensures.items c.make_room-2.ensures.capacity
@@ -104,10 +113,10 @@ module _ (c : After-push_within-2) where
 
   is_logged : c.push_within-2.new.items.items ≡ i.log.items ++ event ∷ []
   is_logged =
-      let pin = c.into_parts-pin.ensures.pin in
+      let pin = c.split-pin.ensures.pin in
       c.push_within-2.ensures.items
-      ∙ (ap (λ (xs : List Event). xs ++ event_of c.caller.result (Commit c.number.result c.into_parts-pin.result.1) (Committed (c.version-version.result + 1) c.into_parts-pin.result.2) ∷ []) c.make_room-2.ensures.items
-      ∙ λ k. i.log.items ++ event_of ((c.caller.ensures ∙ ap (λ (p : PinFacts). p.caller) pin) k) (Commit ((c.number.ensures ∙ ap (λ (p : PinFacts). p.number) pin) k) (c.into_parts-pin.ensures.ops k)) (Committed (c.version-version.result + 1) (c.into_parts-pin.ensures.replies k)) ∷ [])
+      ∙ (ap (λ (xs : List Event). xs ++ event_of c.caller.result (Commit c.number.result c.split-pin.result.1) (Committed (c.version-version.result + 1) c.split-pin.result.2) ∷ []) c.make_room-2.ensures.items
+      ∙ λ k. i.log.items ++ event_of ((c.caller.ensures ∙ ap (λ (p : PinFacts). p.caller) pin) k) (Commit ((c.number.ensures ∙ ap (λ (p : PinFacts). p.number) pin) k) (c.split-pin.ensures.ops k)) (Committed (c.version-version.result + 1) (c.split-pin.ensures.replies k)) ∷ [])
 
   is_admitted : Admits s event
   is_admitted = admits_is i c.args.tx.pin c.args.tx.ops c.args.tx.replies (c.version-version.result + 1) c.self.invariant has_room is_pinned is_free c.written.ensures.tried.replies is_next
@@ -141,5 +150,5 @@ invariant_of-self-2 c =
 
 pub returns-clause-ok : goal.returns-clause-ok
 returns-clause-ok c =
-    subst (λ (st : Story). Accepts st (record { opening = c.self.inside.opening.design; events = c.push_within-2.new.items.items }) c.args.tx (c.version-version.result + 1) c.into_parts-pin.result.0) c.self.view_is
-    (record { pin_is = c.into_parts-pin.ensures.pin; adds = record { opening = refl; events = is_logged c; admits = is_admitted c } })
+    subst (λ (st : Story). Accepts st (record { opening = c.self.inside.opening.design; events = c.push_within-2.new.items.items }) c.args.tx (c.version-version.result + 1) c.split-pin.result.0) c.self.view_is
+    (record { pin_is = c.split-pin.ensures.pin; adds = record { opening = refl; events = is_logged c; admits = is_admitted c } })

@@ -6,8 +6,8 @@ use Rattle.edit_spec.specs.Needs.{Reads}
 use Rattle.edit_tx.specs.Facts.{PinFacts}
 use Rattle.conflict_check.specs.Commits.{HasNoLater, IsFirstLater}
 use Rattle.conflict_check.specs.declared.stamps.Later.{Later}
-use Rattle.history_spec.specs.State.{design}
-use Rattle.history_spec.specs.Answers.{IsConflict}
+use Rattle.db_spec.specs.State.{design}
+use Rattle.db_spec.specs.Answers.{IsConflict}
 use Rattle.db_core.specs.Story.{Story, state}
 use Rattle.db_core.specs.Inside.{IsStamped}
 use Rattle.db_core.proofs.Commits.{conflict_found, none_found}

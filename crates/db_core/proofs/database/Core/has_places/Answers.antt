@@ -1,7 +1,7 @@
 use Rattle.std.proofs.Common.{◌≡◌, ◌+◌, length, ap, ◌∙◌, arith}
 use Rattle.std.proofs.lemmas.Bool.{leb-true, le-leb}
-use Rattle.history_spec.specs.Answers.{places}
-use Rattle.history_spec.proofs.Kept.{events_after}
+use Rattle.db_spec.specs.Answers.{places}
+use Rattle.db_spec.proofs.Kept.{events_after}
 use Rattle.db_core.specs.Story.{Story, state}
 use Rattle.db_core.proofs.Pins.{few_held}
 use Rattle.db_core.proofs.Steps.{state_of}

@@ -1,10 +1,10 @@
 use Rattle.std.proofs.Common.{◌≡◌, ℕ, ◌+◌, ◌≤◌, length, refl, arith, ap, sym, subst, ◌∙◌, length-append, vec_capacity, List, [], ◌∷◌, ◌++◌}
 use Rattle.pin_registry.specs.Registry.{Registry, with_pin}
-use Rattle.history_spec.specs.declared.event.Event.{Event}
-use Rattle.history_spec.specs.declared.event.Answer.TheVariants.{Pinned}
-use Rattle.history_spec.specs.State.{State}
-use Rattle.history_spec.specs.Answers.{Admits, HasPlaces}
-use Rattle.history_spec.proofs.Sound.{kept_up_after}
+use Rattle.db_spec.specs.declared.event.Event.{Event}
+use Rattle.db_spec.specs.declared.event.Answer.TheVariants.{Pinned}
+use Rattle.db_spec.specs.State.{State}
+use Rattle.db_spec.specs.Answers.{Admits, HasPlaces}
+use Rattle.db_spec.proofs.Sound.{kept_up_after}
 use Rattle.db_core.specs.Calls.{Pins, event_of}
 use Rattle.db_core.specs.Story.{Story, shot, state}
 use Rattle.db_core.specs.Inside.{IsCore}

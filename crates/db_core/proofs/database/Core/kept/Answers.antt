@@ -1,6 +1,6 @@
 use Rattle.std.proofs.Common.{arith, ap, length}
 use Rattle.std.proofs.lemmas.List.{length-map}
-use Rattle.history_spec.proofs.Sound.{is_sound, kept_up_after}
+use Rattle.db_spec.proofs.Sound.{is_sound, kept_up_after}
 use Rattle.db_core.specs.Story.{shot}
 use Rattle.db_core.proofs.Steps.{state_of}
 use Rattle.db_core.proofs.database.Core.kept.Goals as goal

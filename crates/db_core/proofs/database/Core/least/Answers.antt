@@ -1,8 +1,8 @@
 use Rattle.std.proofs.Common.{◌≡◌, List, map, ap, sym, subst, ◌∙◌, ℕ, Option, unwrap_or, option_map, slice_get}
 use Rattle.db_version.specs.Shot.{Shot}
-use Rattle.history_spec.specs.Answers.{IsLeastKept}
-use Rattle.history_spec.specs.State.{State, head}
-use Rattle.history_spec.proofs.Sound.{is_sound}
+use Rattle.db_spec.specs.Answers.{IsLeastKept}
+use Rattle.db_spec.specs.State.{State, head}
+use Rattle.db_spec.proofs.Sound.{is_sound}
 use Rattle.db_core.specs.Story.{Story, shot, state}
 use Rattle.db_core.proofs.Shots.{first_is_least}
 use Rattle.db_core.proofs.Steps.{state_of}

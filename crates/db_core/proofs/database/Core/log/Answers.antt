@@ -1,7 +1,7 @@
 use Rattle.std.proofs.Common.{arith, length, ◌≤◌, subst}
-use Rattle.history_spec.proofs.Kept.{events_after}
-use Rattle.history_spec.proofs.Sound.{kept_up_after}
-use Rattle.history_spec.specs.Answers.{most_events}
+use Rattle.db_spec.proofs.Kept.{events_after}
+use Rattle.db_spec.proofs.Sound.{kept_up_after}
+use Rattle.db_spec.specs.Answers.{most_events}
 use Rattle.db_core.specs.Story.{Story}
 use Rattle.db_core.proofs.database.Core.log.Goals as goal
 

@@ -1,7 +1,7 @@
 use Rattle.std.proofs.Common.{◌≡◌, ◌+◌, ◌≤◌, length, refl, arith, ap, sym, subst, ◌∙◌, length-append, vec_capacity, List, [], ◌∷◌, ◌++◌}
-use Rattle.history_spec.specs.declared.event.Event.{Event}
-use Rattle.history_spec.specs.State.{State, changed}
-use Rattle.history_spec.specs.Answers.{Admits}
+use Rattle.db_spec.specs.declared.event.Event.{Event}
+use Rattle.db_spec.specs.State.{State, changed}
+use Rattle.db_spec.specs.Answers.{Admits}
 use Rattle.db_core.specs.Story.{Story, state}
 use Rattle.db_core.proofs.Pins.{few_held}
 use Rattle.db_core.proofs.Steps.{roomy, core_adds, stands_noted, state_of}

@@ -1,11 +1,11 @@
 use Rattle.std.proofs.Common.{◌≡◌, ◌+◌, ◌≤◌, length, refl, arith, ap, sym, subst, ◌∙◌, length-append, vec_capacity, List, [], ◌∷◌, ◌++◌, Contains, ℕ}
 use Rattle.pin_registry.specs.Registry.{LivePin as HeldPin, without_pin}
-use Rattle.history_spec.specs.declared.event.Event.{Event}
-use Rattle.history_spec.specs.declared.event.Call.TheVariants.{Release}
-use Rattle.history_spec.specs.declared.event.Answer.TheVariants.{Released}
-use Rattle.history_spec.specs.State.{State, LivePin, IsLive, live_pin, released}
-use Rattle.history_spec.proofs.Lists.{one_goes}
-use Rattle.history_spec.proofs.Sound.{kept_up_after}
+use Rattle.db_spec.specs.declared.event.Event.{Event}
+use Rattle.db_spec.specs.declared.event.Call.TheVariants.{Release}
+use Rattle.db_spec.specs.declared.event.Answer.TheVariants.{Released}
+use Rattle.db_spec.specs.State.{State, LivePin, IsLive, live_pin, released}
+use Rattle.db_spec.proofs.Lists.{one_goes}
+use Rattle.db_spec.proofs.Sound.{kept_up_after}
 use Rattle.db_core.specs.Calls.{event_of}
 use Rattle.db_core.specs.Story.{Story, state}
 use Rattle.db_core.specs.Inside.{held}

@@ -1,7 +1,7 @@
 use Rattle.std.proofs.Common.{◌<◌, List, sym, ◌∙◌, subst}
 use Rattle.std.specs.List.{AllPairs}
 use Rattle.db_version.specs.Shot.{Shot}
-use Rattle.history_spec.proofs.Sound.{is_sound}
+use Rattle.db_spec.proofs.Sound.{is_sound}
 use Rattle.db_core.specs.Story.{Story, state}
 use Rattle.db_core.proofs.Shots.{FoundKept, found_kept, rising_shots}
 use Rattle.db_core.proofs.Steps.{state_of}

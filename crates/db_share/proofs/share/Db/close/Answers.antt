@@ -1,5 +1,5 @@
 use Rattle.std.proofs.Common.{All, ◌<◌, ◌∙◌, ap, sym, subst}
-use Rattle.history_spec.specs.declared.event.Event.{Event}
+use Rattle.db_spec.specs.declared.event.Event.{Event}
 use Rattle.turn_cell.specs.Seats.{AgreeWith}
 use Rattle.db_core.specs.Story.{Story}
 use Rattle.db_share.specs.Passes.{Pass, Shared, maker}

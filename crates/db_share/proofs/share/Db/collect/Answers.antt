@@ -10,12 +10,12 @@ pub leave-requires : goal.leave-requires
 leave-requires g c =
     let e = c.enter-shared.ensures in record {
       turn = e.enters.turn;
-      steps = steps_at c.enter-shared.new.pass.number c.number.result c.is_ok.result (is_ok c.collect-collected.result) (story c.args.self.now (taken c.enter-shared.new.pass)) c.shared.inside.core c.collect-collected.new.self c.number.ensures c.is_ok.ensures.value (c.shared.view_is ∙ e.core) (collect_steps c.number.result c.shared.inside.core c.collect-collected.new.self c.collect-collected.result c.collect-collected.ensures);
+      steps = steps_at c.enter-shared.new.pass.number c.number.result c.is_ok.result (is_ok c.collect_into-collected.result) (story c.args.self.now (taken c.enter-shared.new.pass)) c.shared.inside.core c.collect_into-collected.new.self c.number.ensures c.is_ok.ensures.value (c.shared.view_is ∙ e.core) (collect_steps c.number.result c.shared.inside.core c.collect_into-collected.new.self c.collect_into-collected.result c.collect_into-collected.ensures);
     }
 
 pub returns : goal.returns
 returns g c =
     let e = c.enter-shared.ensures in record {
-      on = goes_on c.args.self.now c.args.pass.now c.enter-shared.new.pass c.leave.new.pass c.collect-collected.new.self e.enters c.leave.ensures;
-      answer = has_collected c.args.self.now c.args.pass.now c.enter-shared.new.pass c.leave.new.pass c.shared.inside.core c.collect-collected.new.self e.enters (c.shared.view_is ∙ e.core) c.leave.ensures c.number.result c.collect-collected.result c.number.ensures c.collect-collected.ensures;
+      on = goes_on c.args.self.now c.args.pass.now c.enter-shared.new.pass c.leave.new.pass c.collect_into-collected.new.self e.enters c.leave.ensures;
+      answer = has_collected c.args.self.now c.args.pass.now c.enter-shared.new.pass c.leave.new.pass c.shared.inside.core c.collect_into-collected.new.self e.enters (c.shared.view_is ∙ e.core) c.leave.ensures c.number.result c.collect_into-collected.result c.number.ensures c.collect_into-collected.ensures;
     }

@@ -1,7 +1,20 @@
-use Rattle.std.proofs.Common.{rules}
-use Rattle.db_version.proofs.Places.{named_next, got_item}
+use Rattle.std.proofs.Common.{◌≡◌, [], arith, ap, length, ◌∙◌}
+use Rattle.std.proofs.lemmas.List.{length-map}
+use Rattle.netlist_schema.specs.Names.{cell_names}
+use Rattle.netlist_schema.specs.Types.{CellBody}
+use Rattle.db_version.proofs.Parts.{all_of, part_behind}
 use Rattle.db_version.proofs.directory.Directory.of.Goals as goal
+use Rattle.db_version.proofs.directory.Directory.of.Goals.{In_ok-parts}
 
-pub loop-cell-preserved : goal.loop-cell-preserved
-loop-cell-preserved c =
-    named_next c.args.cells.now c.loop-cell.cell-index c.cell-item.result c.in_ok-copy.field-0 c.loop-cell.names.keys c.insert.new.self.keys c.requires.distinct (got_item c.args.cells.now c.loop-cell.cell-index c.cell-item.result (search rules) c.cell-item.is) c.in_ok-copy.ensures c.loop-cell.invariant c.in_ok-insert.ensures.keys
+names_are : (c : In_ok-parts) → all_of c.in_ok-parts.parts.items ≡ cell_names c.args.cells.now
+names_are c = part_behind c.in_ok-parts.parts.items [] c.in_ok-names.names c.in_ok-parts.ensures ∙ c.in_ok-names.ensures
+
+pub invariant_of-result : goal.invariant_of-result
+invariant_of-result c =
+    let long = ap length (names_are c) in record {
+      counted = omega (arith, long, length-map c.args.cells.now (λ (b : CellBody). b.name.id));
+      few = omega (arith, c.requires.few);
+    }
+
+pub returns : goal.returns
+returns c = names_are c

@@ -18,4 +18,7 @@ loop-object-preserved c = λ target behind.
 
 pub returns : goal.returns
 returns c = λ target behind.
-    adds_all c.args.self.now target c.args.moved.now.design c.loop-object.moved.design c.as_slice-object-items.result.now c.loop-object.object-index (omega arith) (c.as_slice-object-items.ensures ∙ c.written.ensures.value) (c.loop-object.invariant target behind)
+    let done = c.loop-object.invariant target behind in (
+      adds_all c.args.self.now target c.args.moved.now.design c.loop-object.moved.design c.as_slice-object-items.result.now c.loop-object.object-index (omega arith) (c.as_slice-object-items.ensures ∙ c.written.ensures.value) done,
+      done.fuller.cells,
+    )

@@ -1,8 +1,8 @@
 use Rattle.std.proofs.Common.{List, ℕ}
-use Rattle.edif_file.specs.Files.{IsWrong}
+use Rattle.edif_spec.specs.Files.{IsWrong}
 use Rattle.edif_file.specs.Reader.{WasFed}
 use Rattle.edif_file.specs.Steps.{Says, said_by_reader}
-use Rattle.edif_file.proofs.BytesLemmas.{file_of}
+use Rattle.edif_spec.proofs.BytesLemmas.{file_of}
 use Rattle.edif_file.proofs.ReaderLemmas.{passed, reader_wrong}
 use Rattle.edif_file.proofs.reader.DesignReader.finish.Goals as goal
 

@@ -1,7 +1,7 @@
 use Rattle.std.proofs.Common.{◌≡◌, ◌++◌, ◌∙◌, List, ℕ, Ok, Err, ap, sym, subst}
 use Rattle.edif_spelling_spec.specs.TreeFaults.{IsFile}
 use Rattle.edif_spelling_spec.specs.declared.token.Token.{Token}
-use Rattle.edif_file.specs.Files.{IsWrong}
+use Rattle.edif_spec.specs.Files.{IsWrong}
 use Rattle.edif_file.specs.Reader.{Reader, WasFed}
 use Rattle.edif_file.specs.Steps.{Says, said_by_lexer, said_by_tree}
 use Rattle.edif_file.proofs.ReaderLemmas.{end_fault, ended, handed_all, passed, tree_wrong}

@@ -2,7 +2,7 @@ use Rattle.std.proofs.Common.{ap, sym, ◌∙◌, refl, length}
 use Rattle.std.specs.Option.{option_map}
 use Rattle.std.proofs.lemmas.Result.{on_ok_weaker}
 use Rattle.flat_spec.specs.declared.item.Item.TheVariants.{Pin}
-use Rattle.walk_items.specs.Lent.{item_of, net_of}
+use Rattle.flat_items.specs.Lent.{item_of, net_of}
 use Rattle.erc_check.proofs.FirstLemmas.{put_back, same_length}
 use Rattle.erc_check.proofs.TallyLemmas.{bare_pin, entered, joined_pin, netted}
 use Rattle.erc_check.proofs.tally.Tally.add.Goals as goal

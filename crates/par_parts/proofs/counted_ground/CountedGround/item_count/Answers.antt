@@ -2,7 +2,7 @@ use Rattle.std.proofs.Common.{◌∙◌, ◌-◌, ◌^◌, [], length, min, ap, 
 use Rattle.flat_spec.specs.Below.{items_under}
 use Rattle.flat_spec.specs.Flattening.{flattening}
 use Rattle.flat_spec.proofs.BelowLemmas.{flattening_is_under_top}
-use Rattle.walk_items.specs.Stand.{top_of}
+use Rattle.flat_items.specs.Stand.{top_of}
 use Rattle.par_parts.proofs.counted_ground.CountedGround.item_count.Goals as goal
 
 pub returns : goal.returns

@@ -2,8 +2,8 @@ use Rattle.std.proofs.Common.{◌≡◌, ◌∙◌, ◌+◌, ◌-◌, refl, sym,
 use Rattle.std.specs.Option.{option_copied}
 use Rattle.netlist_schema.specs.Design.{Design}
 use Rattle.netlist_schema.specs.Hierarchy.{insts_at}
-use Rattle.walk_items.specs.Moves.{going_on}
-use Rattle.walk_items.specs.Stand.{MayStand, Stand, stand_of}
+use Rattle.flat_items.specs.Moves.{going_on}
+use Rattle.flat_items.specs.Stand.{MayStand, Stand, stand_of}
 use Rattle.occ_walk.proofs.BelowLemmas.{next_is_small}
 use Rattle.par_parts.specs.Skip.{IsBehindInst}
 use Rattle.par_parts.proofs.PassLemmas.{inst_passed}

@@ -3,9 +3,9 @@ use Rattle.netlist_schema.specs.Design.{Design}
 use Rattle.netlist_schema.specs.Valid.{IsValid}
 use Rattle.flat_spec.specs.Paths.{nets_at}
 use Rattle.occ_walk.specs.Left.{left}
-use Rattle.walk_items.specs.Stand.{Stand, stand_of}
-use Rattle.walk_items.specs.declared.place.Stage.TheVariants.{Nets}
-use Rattle.walk_items.proofs.StageLemmas.{nets_few}
+use Rattle.flat_items.specs.Stand.{Stand, stand_of}
+use Rattle.flat_items.specs.declared.place.Stage.TheVariants.{Nets}
+use Rattle.flat_items.proofs.StageLemmas.{nets_few}
 use Rattle.par_parts.proofs.PassLemmas.{nets_gone}
 use Rattle.par_parts.proofs.counted_ground.CountedGround.pass_nets.Goals as goal
 

@@ -3,7 +3,7 @@ use Rattle.std.proofs.lemmas.Result.{IfOk-weaker}
 use Rattle.flat_spec.specs.Flattening.{flattening}
 use Rattle.occ_walk.specs.Left.{left}
 use Rattle.occ_walk.proofs.LeftLemmas.{all_left}
-use Rattle.walk_items.specs.Stand.{MayStand, stand_of}
+use Rattle.flat_items.specs.Stand.{MayStand, stand_of}
 use Rattle.par_parts.proofs.counted_ground.CountedGround.start.Goals as goal
 
 pub returns-clause-stands : goal.returns-clause-stands

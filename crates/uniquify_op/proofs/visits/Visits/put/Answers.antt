@@ -1,5 +1,5 @@
 use Rattle.std.proofs.Common.{[], refl, subst, sym}
-use Rattle.cell_copies.specs.Drafts.{IsCopied, placed_in}
+use Rattle.uniquify_copies.specs.Drafts.{IsCopied, placed_in}
 use Rattle.uniquify_op.specs.Marks.{marks_after}
 use Rattle.uniquify_op.proofs.Walking.{put_again, put_none}
 use Rattle.uniquify_op.proofs.visits.Visits.put.Goals as goal

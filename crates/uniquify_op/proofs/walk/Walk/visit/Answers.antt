@@ -1,5 +1,5 @@
 use Rattle.std.proofs.Common.{[], ◌∷◌, ◌++◌, ◌∙◌}
-use Rattle.cell_copies.specs.Drafts.{placed_in}
+use Rattle.uniquify_copies.specs.Drafts.{placed_in}
 use Rattle.uniquify_op.proofs.Walking.{walk_full, walk_goes_on}
 use Rattle.uniquify_op.proofs.walk.Walk.visit.Goals as goal
 

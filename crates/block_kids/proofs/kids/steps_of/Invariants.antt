@@ -1,7 +1,0 @@
-use Rattle.std.proofs.Common.{◌≡◌, take}
-use Rattle.block_kids.specs.Kids.{steps_of}
-use Rattle.block_kids.proofs.kids.steps_of.Given as goal
-
--- the instances so far are on the list
-abbrev pub invariant-loop-inst : goal.invariant-loop-inst
-invariant-loop-inst l = l.steps.items ≡ steps_of (take l.inst-index l.inst-items)

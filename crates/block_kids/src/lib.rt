@@ -1,8 +1,0 @@
-//! The blocks that stand in a cell, and the read of all that is below a top.
-#![tactic(auto)]
-
-pub mod below;
-pub mod kids;
-
-pub use below::read_below;
-pub use kids::block_kids;

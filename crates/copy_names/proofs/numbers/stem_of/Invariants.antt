@@ -1,7 +1,0 @@
-use Rattle.std.proofs.Common.{◌≡◌, map, take}
-use Rattle.std.specs.Char.{to_ascii_lowercase}
-use Rattle.copy_names.proofs.numbers.stem_of.Given as goal
-
--- the letters so far
-abbrev pub invariant-loop-byte : goal.invariant-loop-byte
-invariant-loop-byte l = l.letters.items ≡ map to_ascii_lowercase (take l.byte-index l.byte-items)

@@ -1,5 +1,0 @@
-use Rattle.core_rows.proofs.Keeping.{keeps_collect}
-use Rattle.core_rows.proofs.calls.collect.Goals as goal
-
-pub returns : goal.returns
-returns c = keeps_collect c.args.core.now c.collect.new.self c.log-history.ensures.history c.args.caller c.collect.result c.collect.ensures

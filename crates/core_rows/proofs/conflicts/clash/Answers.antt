@@ -1,9 +1,0 @@
-use Rattle.std.proofs.Common.{subst, sym}
-use Rattle.core_rows.specs.Keeps.{IsPinBy}
-use Rattle.core_rows.proofs.conflicts.clash.Goals as goal
-
-pub end_pin-requires : goal.end_pin-requires
-end_pin-requires g c = subst (IsPinBy _ 1) (sym c.abandon.ensures) c.refused-back.ensures.back
-
-pub returns : goal.returns
-returns g c = λ other pin apart is. c.end_pin.ensures other pin apart (c.refused-back.ensures.keeps other pin is)

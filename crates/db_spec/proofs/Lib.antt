@@ -1,0 +1,17 @@
+pub mod Faces
+pub mod Histories
+pub mod Inside
+pub mod Kept
+pub mod Lists
+pub mod Made
+pub mod Needed
+pub mod OneAnswer
+pub mod Pinned
+pub mod Promised
+pub mod Read
+pub mod Refused
+pub mod Rooms
+pub mod Sound
+pub mod Staying
+pub mod Total
+pub mod Versions

@@ -1,0 +1,11 @@
+pub mod Answers
+pub mod Example
+pub mod ExampleCollect
+pub mod ExampleConflict
+pub mod ExampleFaces
+pub mod ExampleInside
+pub mod ExampleRoom
+pub mod History
+pub mod Laws
+pub mod ReadLaws
+pub mod State

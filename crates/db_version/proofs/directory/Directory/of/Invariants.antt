@@ -1,6 +1,0 @@
-use Rattle.std.proofs.Common.{◌≡◌, take}
-use Rattle.netlist_schema.specs.Names.{cell_names}
-use Rattle.db_version.proofs.directory.Directory.of.Given as goal
-
-abbrev pub invariant-loop-cell : goal.invariant-loop-cell
-invariant-loop-cell l = l.names.keys ≡ cell_names (take l.cell-index l.cells)

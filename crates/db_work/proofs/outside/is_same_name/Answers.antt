@@ -1,0 +1,6 @@
+use Rattle.std.proofs.Common.{sym, ◌∙◌}
+use Rattle.netlist_bus_spec.proofs.Tests.{name_tells}
+use Rattle.db_work.proofs.outside.is_same_name.Goals as goal
+
+pub returns : goal.returns
+returns c = λ told. (name_tells c.args.a.now c.args.b.now).0 (sym c.eq.ensures ∙ told)

@@ -1,0 +1,176 @@
+//! Instances that are planned, and contents without one.
+ghost use Rattle.std.specs.Prelude.{◌≡◌, ◌++◌, [], ◌∷◌, false, filter, OnOk, IfOk, IfSome, List, MatchResult, Some, option_map, option_to_list};
+ghost use Rattle.std.specs.Option.{option_copied};
+ghost use Rattle.netlist_schema.specs.Design.{insts_in, nets_in};
+ghost use Rattle.netlist_schema.specs.declared.ids.Object.TheVariants.{Notes};
+ghost use Rattle.edit_rules_spec.specs.Edit.{noted};
+ghost use Rattle.edit_rules_spec.specs.Reading.{IsForNotes, IsReached, IsReachedBy};
+ghost use Rattle.edit_spec.specs.AddInst.{new_inst};
+ghost use Rattle.edit_spec.specs.DropInst.{end_without_inst, net_without_inst, set_notes, without_inst};
+ghost use Rattle.edit_rules_spec.specs.Rule.{first, is_leaf, no_inst, too_many};
+ghost use Rattle.edit_rules_spec.specs.Notes.{other_notes};
+ghost use Rattle.edit_spec.specs.Typed.{IsTypedOp};
+ghost use Rattle.edit_cells.specs.Parts.{HasLimits};
+ghost use Rattle.edit_cells.specs.State.{HasRead, HasReadSome};
+ghost use Rattle.eco_reads.specs.Done.{IsDoneOrFails};
+ghost use Rattle.eco_ops.specs.Insts.{is_other, more_insts, no_new_inst};
+ghost use Rattle.eco_reads.specs.Plan.{IsPlanned};
+
+use eco_reads::{Plan, inst_place, is_inst_taken};
+use edit_spec::Reply;
+use netlist_schema::{
+    CellId, Contents, Copied, End, Ident, Inst, MOST_INSTS, Name, Net, NoMemory, Row, Shared,
+};
+use std::alloc::Global;
+
+/// An instance of a cell, without properties.
+fn new_inst(alloc: Global, name: &Ident, of: CellId) -> Result<Inst, NoMemory>
+    ensures { IfOk result (λ made. made ≡ new_inst name.now of) }
+{
+    Ok(Inst {
+        name: Name {
+            id: name.copy(alloc)?,
+            shown: None,
+        },
+        of,
+        designator: None,
+        properties: Row::of(Vec::new(alloc)),
+    })
+}
+
+/// One more instance in these contents, or why there is none.
+#[tactic(auto, using(crate::proofs::InstsPlanned::too_many_insts, crate::proofs::InstsPlanned::inst_planned))]
+pub(crate) fn plan_inst(
+    alloc: Global,
+    contents: Option<&Contents>,
+    inst: &Ident,
+    of: CellId,
+    later: bool,
+    cyclic: bool,
+) -> Result<Result<Plan, Reply>, NoMemory>
+    ensures { let old = option_copied contents.entry in
+        IfOk result (IsPlanned old (first (no_new_inst old inst.now later cyclic)) (more_insts inst.now of old)) }
+{
+    let Some(contents) = contents else {
+        return Ok(Err(Reply::IsLeaf));
+    };
+    if is_inst_taken(&contents.insts, inst) {
+        return Ok(Err(Reply::Taken));
+    }
+    if later {
+        return Ok(Err(Reply::LaterLibrary));
+    }
+    if cyclic {
+        return Ok(Err(Reply::IsCyclic));
+    }
+    let place = contents.insts.as_slice().len();
+    if place >= MOST_INSTS {
+        return Ok(Err(Reply::TooMany {
+            limit: MOST_INSTS as u64,
+        }));
+    }
+    let inst = new_inst(alloc, inst, of)?;
+    Ok(Ok(Plan::Inst {
+        place: place as u32,
+        inst,
+    }))
+}
+
+/// The end as it is where an instance is gone: none at the instance, and one place forward at later ones.
+fn moved(place: u32, end: &End) -> Option<End>
+    ensures { option_to_list result ≡ end_without_inst place end.now }
+{
+    match end.inst {
+        None => Some(*end),
+        Some(i) => {
+            if i == place {
+                None
+            } else if place < i {
+                Some(End {
+                    inst: Some(i - 1),
+                    port: end.port,
+                    bit: end.bit,
+                })
+            } else {
+                Some(*end)
+            }
+        }
+    }
+}
+
+/// The net without the ends at an instance.
+fn net_without(alloc: Global, place: u32, net: &Net) -> Result<Net, NoMemory>
+    ensures { IfOk result (λ made. made ≡ net_without_inst place net.now) }
+{
+    let mut ends = Vec::new(alloc);
+    for end in net.ends.as_slice() {
+        if let Some(end) = moved(place, end) {
+            ends.push(end)?;
+        }
+    }
+    Ok(Net {
+        name: net.name.copy(alloc)?,
+        ends: Row::of(ends),
+        properties: net.properties.copy(alloc)?,
+    })
+}
+
+/// Whether an end is at an instance from this place on.
+fn is_from(place: u32, end: &End) -> bool
+    ensures { result ≡ false → end_without_inst place end.now ≡ end.now ∷ [] }
+{
+    match end.inst {
+        Some(i) => place <= i,
+        None => false,
+    }
+}
+
+/// Whether the net has an end at an instance from this place on: without one it stays as it is, where the instance is gone.
+fn has_end_from(place: u32, net: &Net) -> bool
+    ensures { result ≡ false → net_without_inst place net.now ≡ net.now }
+{
+    for end in net.ends.as_slice() {
+        if is_from(place, end) {
+            return true;
+        }
+    }
+    false
+}
+
+/// The net without the ends at an instance. A net with no end at that instance or a later one is shared.
+fn shared_without(alloc: Global, place: u32, net: &Shared<Net>) -> Result<Shared<Net>, NoMemory>
+    ensures { IfOk result (λ made. made ≡ net_without_inst place net.now) }
+{
+    if has_end_from(place, net.get()) {
+        return Shared::of(alloc, net_without(alloc, place, net.get())?);
+    }
+    net.share()
+}
+
+/// The contents without an instance, or why there are none. Nets that stay as they are are shared.
+pub(crate) fn without_inst(
+    alloc: Global,
+    contents: Option<&Contents>,
+    inst: &Ident,
+) -> Result<Result<Plan, Reply>, NoMemory>
+    requires { IfSome contents (λ inside. HasLimits inside.now) }
+    ensures { let old = option_copied contents.entry in
+        IfOk result (IsPlanned old (first (no_inst old inst.now ∷ [])) (without_inst old inst.now)) }
+{
+    let Some(contents) = contents else {
+        return Ok(Err(Reply::NoInst));
+    };
+    let Some(place) = inst_place(&contents.insts, inst) else {
+        return Ok(Err(Reply::NoInst));
+    };
+    let mut insts = contents.insts.copy(alloc)?.into_vec();
+    let _gone = insts.remove(place);
+    let mut nets = Vec::new(alloc);
+    for net in contents.nets.as_slice() {
+        nets.push(shared_without(alloc, place as u32, net)?)?;
+    }
+    Ok(Ok(Plan::Whole(Contents {
+        insts: Row::of(insts),
+        nets: Row::of(nets),
+    })))
+}

@@ -1,0 +1,84 @@
+//! Nets that are planned, and contents without one.
+ghost use Rattle.std.specs.Prelude.{◌≡◌, IfOk, [], ◌∷◌};
+ghost use Rattle.std.specs.Option.{option_copied};
+ghost use Rattle.netlist_schema.specs.Design.{insts_in, nets_in};
+ghost use Rattle.edit_rules_spec.specs.Rule.{first};
+ghost use Rattle.edit_spec.specs.AddNet.{new_net, no_new_net, with_net};
+ghost use Rattle.edit_spec.specs.DropNet.{without_net};
+ghost use Rattle.edit_spec.specs.Inside.{no_net};
+ghost use Rattle.edit_spec.specs.Typed.{IsTypedOp};
+ghost use Rattle.eco_reads.specs.Done.{IsDoneOrFails};
+ghost use Rattle.eco_reads.specs.Plan.{IsPlanned};
+
+use eco_reads::{Plan, is_net_taken, net_place};
+use edit_spec::Reply;
+use netlist_schema::{Contents, Copied, Ident, MOST_NETS, Name, Net, NoMemory, Row};
+use std::alloc::Global;
+
+/// A net without ends.
+fn new_net(alloc: Global, name: &Ident) -> Result<Net, NoMemory>
+    ensures { IfOk result (λ made. made ≡ new_net name.now) }
+{
+    Ok(Net {
+        name: Name {
+            id: name.copy(alloc)?,
+            shown: None,
+        },
+        ends: Row::of(Vec::new(alloc)),
+        properties: Row::of(Vec::new(alloc)),
+    })
+}
+
+/// One more net in these contents, or why there is none.
+#[tactic(auto, using(crate::proofs::NetsPlanned::too_many_nets, crate::proofs::NetsPlanned::net_planned))]
+pub(crate) fn plan_net(
+    alloc: Global,
+    contents: Option<&Contents>,
+    net: &Ident,
+) -> Result<Result<Plan, Reply>, NoMemory>
+    ensures { let old = option_copied contents.entry in
+        IfOk result (IsPlanned old (first (no_new_net old net.now)) (record { insts = insts_in old; nets = with_net net.now (nets_in old) })) }
+{
+    let Some(contents) = contents else {
+        return Ok(Err(Reply::IsLeaf));
+    };
+    if is_net_taken(&contents.nets, net) {
+        return Ok(Err(Reply::Taken));
+    }
+    let place = contents.nets.as_slice().len();
+    if place >= MOST_NETS {
+        return Ok(Err(Reply::TooMany {
+            limit: MOST_NETS as u64,
+        }));
+    }
+    let net = new_net(alloc, net)?;
+    Ok(Ok(Plan::Net {
+        place: place as u32,
+        net,
+    }))
+}
+
+/// The contents without a net, or why there are none.
+#[tactic(auto, using(crate::proofs::NetsPlanned::no_net_found, crate::proofs::NetsPlanned::net_found))]
+pub(crate) fn without_net(
+    alloc: Global,
+    contents: Option<&Contents>,
+    net: &Ident,
+) -> Result<Result<Plan, Reply>, NoMemory>
+    ensures { let old = option_copied contents.entry in
+        IfOk result (IsPlanned old (first (no_net old net.now ∷ [])) (record { insts = insts_in old; nets = without_net net.now (nets_in old) })) }
+{
+    let Some(contents) = contents else {
+        return Ok(Err(Reply::NoNet));
+    };
+    let Some(place) = net_place(&contents.nets, net) else {
+        return Ok(Err(Reply::NoNet));
+    };
+    let mut nets = contents.nets.copy(alloc)?.into_vec();
+    let _gone = nets.remove(place);
+    let insts = contents.insts.copy(alloc)?;
+    Ok(Ok(Plan::Whole(Contents {
+        insts,
+        nets: Row::of(nets),
+    })))
+}

@@ -1,0 +1,10 @@
+use Rattle.edif_spelling_spec.specs.Bytes.{is_percent}
+use Rattle.std.proofs.Common.{sym}
+use Rattle.edif_lexer.proofs.CutLemmas.{cut_some, cut_none}
+use Rattle.edif_lexer.proofs.strings.cut_at_percent.Goals as goal
+
+pub returns-in-Some-clause-parts : goal.returns-in-Some-clause-parts
+returns-in-Some-clause-parts c = cut_some is_percent c.args.bytes.now c.in-Some.n (sym c.in-Some.ensures)
+
+pub returns-in-None-clause-parts : goal.returns-in-None-clause-parts
+returns-in-None-clause-parts c = cut_none is_percent c.args.bytes.now (sym c.in-None.ensures)

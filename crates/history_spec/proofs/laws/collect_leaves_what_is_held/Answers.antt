@@ -1,5 +1,0 @@
-use Rattle.history_spec.proofs.Sound as lemma
-use Rattle.history_spec.proofs.laws.collect_leaves_what_is_held.Goals as goal
-
-pub returns : goal.returns
-returns c = lemma.collect_leaves

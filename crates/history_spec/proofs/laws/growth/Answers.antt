@@ -1,5 +1,0 @@
-use Rattle.history_spec.proofs.Promised as lemma
-use Rattle.history_spec.proofs.laws.growth.Goals as goal
-
-pub returns : goal.returns
-returns c = lemma.growth

@@ -1,5 +1,0 @@
-use Rattle.history_spec.proofs.Histories as lemma
-use Rattle.history_spec.proofs.laws.legal_by_parts.Goals as goal
-
-pub returns : goal.returns
-returns c = lemma.legal_by_parts

@@ -1,5 +1,0 @@
-use Rattle.history_spec.proofs.Promised as lemma
-use Rattle.history_spec.proofs.laws.one_history.Goals as goal
-
-pub returns : goal.returns
-returns c = lemma.one_history

@@ -1,5 +1,0 @@
-use Rattle.history_spec.proofs.Staying as lemma
-use Rattle.history_spec.proofs.laws.pin_stays_live.Goals as goal
-
-pub returns : goal.returns
-returns c = lemma.pin_stays_live

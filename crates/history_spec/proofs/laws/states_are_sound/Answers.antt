@@ -1,6 +1,0 @@
-use Rattle.history_spec.proofs.Sound as lemma
-use Rattle.history_spec.proofs.Kept as kept
-use Rattle.history_spec.proofs.laws.states_are_sound.Goals as goal
-
-pub returns : goal.returns
-returns c = record { sound = lemma.is_sound; counted = kept.events_after }

@@ -1,5 +1,0 @@
-use Rattle.history_spec.proofs.Histories as lemma
-use Rattle.history_spec.proofs.laws.version_stays.Goals as goal
-
-pub returns : goal.returns
-returns c = record { design = lemma.version_stays; written = lemma.written_stays }

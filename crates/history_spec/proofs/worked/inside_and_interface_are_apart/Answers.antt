@@ -1,5 +1,0 @@
-use Rattle.history_spec.proofs.Faces as lemma
-use Rattle.history_spec.proofs.worked.inside_and_interface_are_apart.Goals as goal
-
-pub returns : goal.returns
-returns c = lemma.are_faces_apart

@@ -1,5 +1,0 @@
-use Rattle.history_spec.proofs.Rooms as lemma
-use Rattle.history_spec.proofs.worked.rounds_have_room.Goals as goal
-
-pub returns : goal.returns
-returns c = lemma.have_rounds

@@ -1,2 +1,0 @@
-pub mod DropOps
-pub mod InstOps

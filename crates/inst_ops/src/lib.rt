@@ -1,4 +1,0 @@
-//! The single operations on instances, over cells that are read and edited one by one.
-#![tactic(auto)]
-
-pub mod insts;

@@ -1,3 +1,0 @@
-mod Joined
-mod Pins
-pub mod Texts

@@ -1,4 +1,0 @@
-pub mod Ended
-pub mod Laws
-pub mod Scripts
-pub mod Written

@@ -1,8 +1,0 @@
-use Rattle.std.proofs.Common.{◌≡◌, ◌++◌, drop}
-use Rattle.std.specs.List.{flat_map}
-use Rattle.net_groups.specs.Bits.{bits_of}
-use Rattle.net_groups.proofs.bits.add_bits.Given as goal
-
-abbrev pub invariant-loop-end : goal.invariant-loop-end
-invariant-loop-end l =
-    l.bits.items ++ flat_map (bits_of l.inst l.net) (drop l.end-index l.ends) ≡ l.initial.bits.items ++ flat_map (bits_of l.inst l.net) l.ends

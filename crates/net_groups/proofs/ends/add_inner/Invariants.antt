@@ -1,6 +1,0 @@
-use Rattle.std.proofs.Common.{◌≡◌, ◌++◌, map, take}
-use Rattle.net_groups.specs.Ends.{inner_ends}
-use Rattle.net_groups.proofs.ends.add_inner.Given as goal
-
-abbrev pub invariant-loop-net : goal.invariant-loop-net
-invariant-loop-net l = l.lists.items ≡ l.initial.lists.items ++ map (inner_ends l.place) (take l.net-index l.nets)

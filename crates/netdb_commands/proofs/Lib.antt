@@ -1,0 +1,5 @@
+pub mod InputLemmas
+pub mod TextLemmas
+pub mod VisitLemmas
+pub mod WalkLemmas
+pub mod WordLemmas

@@ -1,5 +1,0 @@
-//! Tests of files and sinks, in memory and of the system.
-#![tactic(auto)]
-
-#[cfg(test)]
-mod outside;

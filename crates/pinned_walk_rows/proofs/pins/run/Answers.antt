@@ -1,5 +1,0 @@
-use Rattle.edit_tx.specs.Facts.{HasRun}
-use Rattle.pinned_walk_rows.proofs.pins.run.Goals as goal
-
-pub returns : goal.returns
-returns g c = let ran : HasRun c.args.tx.now c.run.follows.lender-at-none c.args.op = rw c.in-Ok.is at c.run.follows.holds-at-none in ran.pin

@@ -1,4 +1,0 @@
-use Rattle.pinned_walk_rows.proofs.walks.pin_first.Goals as goal
-
-pub returns : goal.returns
-returns g c = record { is_pin = c.in-Ok.ensures.is_pin; caller_is = c.in-Ok.ensures.caller_is }

@@ -1,4 +1,0 @@
-mod AddLemmas
-mod NamedLemmas
-mod NoteLemmas
-mod WayLemmas

@@ -1,9 +1,0 @@
-use Rattle.placed_notes.specs.Named.{AreNamed}
-use Rattle.placed_notes.proofs.NoteLemmas.{AreSoFar}
-use Rattle.placed_notes.proofs.notes.PlacedNotes.of.Given as goal
-
-abbrev pub invariant-loop-place : goal.invariant-loop-place
-invariant-loop-place g l = record {
-  named : AreNamed (g.S.Shown.design l.design) l.named;
-  so_far : AreSoFar (g.S.Shown.design l.design) l.top l.place l.notes;
-}

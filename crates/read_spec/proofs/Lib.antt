@@ -1,3 +1,0 @@
-pub mod Needed
-pub mod Pinned
-pub mod Read

@@ -1,5 +1,0 @@
-use Rattle.run_spec.proofs.Along as lemma
-use Rattle.run_spec.proofs.laws.comes_further.Goals as goal
-
-pub returns : goal.returns
-returns c = lemma.comes_further

@@ -1,5 +1,0 @@
-use Rattle.run_spec.proofs.Endings as lemma
-use Rattle.run_spec.proofs.laws.comes_to_end.Goals as goal
-
-pub returns : goal.returns
-returns c = lemma.comes_to_end

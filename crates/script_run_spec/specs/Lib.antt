@@ -1,0 +1,10 @@
+pub mod Along
+pub mod Calls
+pub mod Ended
+pub mod JointLaws
+pub mod Laws
+pub mod Lines
+pub mod Reports
+pub mod Scripts
+pub mod Whole
+pub mod Written

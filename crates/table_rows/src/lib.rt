@@ -1,5 +1,0 @@
-//! Worked rows of tables.
-#![tactic(auto)]
-
-#[cfg(test)]
-mod rows;

@@ -1,0 +1,7 @@
+use Rattle.std.proofs.Common.{◌≡◌, take}
+use Rattle.uniquify_blocks.specs.Kids.{steps_of}
+use Rattle.uniquify_blocks.proofs.kids.steps_of.Given as goal
+
+-- the instances so far are on the list
+abbrev pub invariant-loop-inst : goal.invariant-loop-inst
+invariant-loop-inst l = l.steps.items ≡ steps_of (take l.inst-index l.inst-items)

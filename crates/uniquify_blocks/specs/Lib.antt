@@ -1,0 +1,5 @@
+pub mod Along
+pub mod Below
+pub mod ForBlocks
+pub mod Kids
+pub mod Plans

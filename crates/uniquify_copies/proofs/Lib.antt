@@ -1,0 +1,13 @@
+pub mod CanBeMade
+pub mod ChangeEdits
+pub mod DraftSeats
+pub mod Drafting
+pub mod Endings
+pub mod InnerLemmas
+pub mod Names
+pub mod Naming
+pub mod SeatLists
+pub mod SomeReads
+pub mod Stems
+pub mod TurnLemmas
+pub mod Turning

@@ -1,0 +1,4 @@
+pub mod Changes
+pub mod Drafts
+pub mod Known
+pub mod Seats

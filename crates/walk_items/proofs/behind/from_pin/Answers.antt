@@ -1,7 +1,0 @@
-use Rattle.std.proofs.Common.{sym, ap, ◌∙◌, slice_get}
-use Rattle.walk_items.proofs.StageLemmas.{pin_ends}
-use Rattle.walk_items.proofs.behind.from_pin.Goals as goal
-
-pub returns-in-None : goal.returns-in-None
-returns-in-None c = λ d o ports is.
-    pin_ends d o c.args.pin (ap (λ v. slice_get v c.args.pin.port) (sym ports) ∙ sym c.in-None.ensures) is

@@ -1,5 +1,0 @@
-pub mod Left
-pub mod Lent
-pub mod Moves
-pub mod Ports
-pub mod Stand

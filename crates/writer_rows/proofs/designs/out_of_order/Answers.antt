@@ -1,5 +1,0 @@
-use Rattle.std.proofs.Common.{refl}
-use Rattle.writer_rows.proofs.designs.out_of_order.Goals as goal
-
-pub design-requires : goal.design-requires
-design-requires c = refl
