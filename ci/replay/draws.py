@@ -1,6 +1,7 @@
 """Draws designs and scripts at random. Names come from small sets, so that they meet: equal ones, ones that are the same ignoring
 case, and ones that operations would give."""
-from .design import Cell, Contents, Design, End, Inst, Lib, Name, Net, Note, Port, Property, Top, cell_words, occurrences, quoted
+from model.design import Cell, Contents, Design, End, Inst, Lib, Name, Net, Note, Port, Property, Top, cell_words, occurrences
+from model.text import quoted
 
 MOST_OCCURRENCES = 40
 
@@ -201,8 +202,7 @@ def own_ends(design, cell, joined):
     taken = {e for n in cell.nets() for e in n.ends}
     if joined:
         return sorted(taken, key=str)
-    holders = [(None, cell)] + [(i.name.id, design.cell(i.of)) for i in cell.insts()]
-    ends = [End(inst, place, bit) for inst, holder in holders for place, port in enumerate(holder.ports) for bit in range(port.bits())]
+    ends = cell.port_ends() + [end for i in cell.insts() for end in design.cell(i.of).port_ends(i.name.id)]
     return [end for end in ends if end not in taken]
 
 

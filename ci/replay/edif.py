@@ -1,7 +1,7 @@
 """Reads a design from a file whose keywords are in any letter case and whose names are spelled as they are defined."""
 import re
 
-from .design import Cell, Contents, Design, End, Inst, Lib, Name, Net, Note, Port, Property, Top
+from model.design import Cell, Contents, Design, End, Inst, Lib, Name, Net, Note, Port, Property, Top
 
 TOKEN = re.compile(r'\s+|\(|\)|"[^"]*"|[^\s()"]+')
 

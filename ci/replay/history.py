@@ -1,5 +1,6 @@
 """The state of a shared design, and which answer each call has (docs/history.md)."""
-from .design import cell_words
+from model.design import cell_words
+
 from .operations import run
 
 

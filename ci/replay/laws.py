@@ -2,7 +2,9 @@
 docs/ungroup.md), and what a run did, counted."""
 from collections import Counter
 
-from .design import Nets, cell_words, flattening, occurrences
+from model.design import cell_words, occurrences
+from model.flat import Nets, flattening
+
 from .scripts import Differs
 
 

@@ -2,7 +2,8 @@
 and writes. An operation is the tuple of its verb and its words. An object is a tuple that sorts as objects do: its kind, and its places."""
 from dataclasses import replace
 
-from .design import Cell, Contents, End, Inst, Name, Net, Note, Port, occurrences
+from model.design import Cell, Contents, End, Inst, Name, Net, Note, Port, cell_words, occurrences
+from model.flat import shown_property
 
 MOST_CELLS, MOST_PORTS, MOST_BITS, MOST_INSTS, MOST_NETS, MOST_ENDS, MOST_NOTES = 65536, 65536, 1048576, 1048576, 1048576, 4194304, 1048576
 
@@ -109,8 +110,6 @@ class Step:
         return "ends" + ";".join(told)
 
     def show_inst(self, lib, cell, inst):
-        from .design import cell_words, shown_property
-
         _, body = self.inside(lib, cell)
         found = body.inst(inst)
         if found is None:

@@ -1,7 +1,10 @@
 """Scripts as text, what a script does line by line, and the report (docs/scripts.md)."""
 import re
 
-from .design import Name, Property, canonical, item_lines, quoted
+from model.design import Name, Property
+from model.flat import item_lines
+from model.text import canonical, quoted
+
 from .history import State, object_words
 from .operations import run
 

@@ -2,7 +2,8 @@
 other's place, and one of another order of calls, which is made here from nothing. Which of them are true is for a replay to say."""
 import re
 
-from .design import canonical
+from model.text import canonical
+
 from .history import State
 from .scripts import Session, event_lines
 
