@@ -1,3 +1,6 @@
+-- Each version comes from the one before. So `same_value` and `replayed` follow from the laws of editing.
+-- A cell that operations read and that is not in the version was made by one of them, which read the directory. The commit that
+-- made it elsewhere wrote the directory: so the directory clashes, and it is less.
 pub mod Faces
 pub mod Histories
 pub mod Inside

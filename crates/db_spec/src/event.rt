@@ -1,4 +1,4 @@
-//! Calls, answers and events.
+//! Calls, answers and events, which are moved and never copied. The operations of a call can be copied.
 use edit_spec::{Op, Reply};
 use netlist_schema::{Object, Row};
 

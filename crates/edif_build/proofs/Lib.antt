@@ -1,3 +1,4 @@
+-- A loop over cells or libraries says of the libraries so far that the forms gone over mean them (`CellsAre`, `LibsAre`).
 pub mod CellLemmas
 pub mod FileLaws
 pub mod FileLemmas

@@ -1,3 +1,4 @@
+-- A net's form stands for a row of nets. So the loop over nets keeps the forms beside the nets (`NetsSoFar`).
 pub mod ContentsLemmas
 pub mod EndLemmas
 pub mod Followers

@@ -353,9 +353,10 @@ impl Lexer {
     /// Reads the next piece, and appends to `out` the tokens that it completes: those after which the text may go on in any
     /// way. A word at the end of the piece is not complete, since more of it may come.
     ///
-    /// `LexError::At` is the first lexical fault of the text whatever follows, and the tokens before it are all appended.
-    /// After `LexError::NoMemory` a prefix of the tokens is appended. After either error each later call answers the same
-    /// error and appends nothing.
+    /// `LexError::At` is the first lexical fault of the text whatever follows, and the tokens before it are all appended. It need
+    /// not come at the first byte that makes it certain: the fault of a word or a string comes where that ends, so a bad escape
+    /// at the closing quote, or at the end of the text. After `LexError::NoMemory` a prefix of the tokens is appended. After
+    /// either error each later call answers the same error and appends nothing.
     pub fn feed(&mut self, piece: &[u8], out: &mut Vec<Token>) -> Result<(), LexError>
         requires { self.old.state ≢ State.Finished }
         ensures read { (gained : List Token) × (out.new.items ≡ out.old.items ++ gained)

@@ -1,3 +1,6 @@
+-- `lexed` reads a text as a function of the whole list. The grammar (`IsRow`, `FaultAfter`) is a relation. Two laws join them in
+-- both directions: one for a text without a fault, one for the first fault.
+-- The front of an identifier, an integer or a row of codes is one too, unless it is a mark alone. So what is bad stays bad.
 pub mod EscapeLemmas
 pub mod FaultLemmas
 pub mod FirstTreeFault

@@ -41,7 +41,7 @@ pub record TreeFault : Type 0 where
 abbrev pub fault_at : TreeKind → ℕ → Option TreeFault
 fault_at kind place = Some (record { kind = kind; place = place })
 
--- the fault at a token behind the file's form: each token there is one
+-- the fault at a token behind the file's form: each token there is one, a `)` by its own name
 abbrev pub fault_behind : TokenKind → ℕ → Option TreeFault
 fault_behind RightParen place = fault_at ExtraClose place
 fault_behind _ place = fault_at Trailing place

@@ -28,7 +28,7 @@ pub enum StoredKind {
     String(u32),
 }
 
-/// A node, and the number of bytes before its first token.
+/// A node, and the number of bytes before its first token, in 12 bytes.
 #[derive(Clone, Copy)]
 pub struct StoredNode {
     pub place: u32,

@@ -1,3 +1,6 @@
+-- An operation is its refusals, its reply and a list of changes. So the laws of agreement are shown once for changes (Edits,
+-- Growing, Closed), and once for every rule that is `IsLocal` (Framed).
+-- What a change writes is there afterwards, since a change finds what it changes.
 pub mod Closed
 pub mod Edits
 pub mod Filled

@@ -1,3 +1,4 @@
+-- In a valid design one way at most leads along identifiers. So the notes that are kept for some steps are those that name them.
 mod AddLemmas
 pub mod EnterLemmas
 pub mod FrameLemmas

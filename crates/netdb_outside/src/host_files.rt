@@ -12,7 +12,8 @@ use std::marker::Model;
 use std::{io, rt};
 
 /// The files of the system, one of which is read at a time. A name is a path. As contracts see it, it is the count of its
-/// faults: it tells neither files nor which were asked for. A read that a signal interrupts is tried again.
+/// faults: it tells neither files nor which were asked for. A read that a signal interrupts is tried up to 64 times, and then
+/// it is a fault. A path with a NUL byte is a fault when it is opened, and a folder when it is read.
 #[derive(Drop)]
 pub struct HostFiles<R: rt::Files> {
     system: R,

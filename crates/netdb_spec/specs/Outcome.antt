@@ -1,4 +1,5 @@
--- What a call of the program answers, why, and what it wrote.
+-- What a call of the program answers, why, and what it wrote. A status of a file is told by two tables, in the order of the words:
+-- why the file was refused (Refusals), and what was written behind the files that were read (Gives).
 use Rattle.std.specs.Prelude.{◌≡◌, ◌⊎◌, ℕ, List, Option}
 use Rattle.netlist_schema.specs.Design.{Design}
 use Rattle.netlist_schema.specs.declared.limits.TheConstants.{MOST_FILE_BYTES}

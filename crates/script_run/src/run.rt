@@ -58,8 +58,8 @@ fn run_lines<G: Gate>(
 /// transcript; `log_full` says that it ended since the log was full for a call. No pin of the caller is live. After `NoMemory` the
 /// caller's calls are the first ones of such a session, and then the release of a held pin, and no pin of it is live.
 ///
-/// The gate is called before each line, again when a block is run again, and once at the end, behind the last call, with the number
-/// of the last line plus one. The call waits for its turns at the database.
+/// The gate is called before each line, again when a block is run again, and once at the end, however the script ends: after the
+/// held pin is released, with the number of the last line plus one. The call waits for its turns at the database.
 pub fn run_script<G: Gate>(
     rt: &impl Wait,
     alloc: Global,

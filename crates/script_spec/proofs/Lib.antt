@@ -1,3 +1,5 @@
+-- Two ways to go on that take the same exchanges agree, line by line (OneSession).
+-- A line is pieces. OneStep goes over the table of lines by what Spelled says of pieces of one shape.
 mod BadLines
 mod Fronts
 mod OneReport

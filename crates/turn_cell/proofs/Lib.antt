@@ -1,3 +1,4 @@
+-- The rule is one record (`IsKept`). A lemma for each kind of step keeps it (Keeps).
 pub mod Calls
 pub mod Facts
 pub mod Keeps

@@ -1,3 +1,6 @@
+-- All that the operation does is gathered into one record, `Dissolves`, which speaks of both designs and not of lists any more.
+-- On it stands what is shown of meetings, images and first nets, for every root.
+-- A free name is found among as many numbers as there are taken names (`pigeons`, in `flat_spec`).
 pub mod AfterLemmas
 pub mod ApartLemmas
 pub mod AtLemmas

@@ -22,7 +22,8 @@ fn draft_of(walk: Walk) -> Draft
 
 /// The occurrences of blocks below a top in path order, each later one of a cell with a copy; `None` where a library has no
 /// room for one. It goes no further than to the first copy without room, so it comes to no more occurrences than there are
-/// blocks and places in libraries.
+/// blocks and places in libraries. It takes two turns for each and two for the top, so it is over long before 2^64 - 1 turns,
+/// behind which it would end with `NoMemory`.
 pub(crate) fn draft_blocks<C: Cells>(
     alloc: Global,
     cells: &mut C,

@@ -1,3 +1,8 @@
+-- Uniquify and UniquePath are both splits: occurrences that keep their cell, and copies for others. What is shown of splits holds
+-- of both.
+-- In the own cell of an occurrence the same stands as before, but for the cells of the instances. So the designs before and after
+-- a split are alike, and alike designs flatten alike.
+-- Validity goes cell by cell (ValidCells) and directory by directory (ValidNames).
 pub mod Agreed
 pub mod AlikeItems
 pub mod AlikeNets
