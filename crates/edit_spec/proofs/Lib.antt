@@ -1,4 +1,5 @@
--- A file of each operation's name shows that the operation is local. Local gathers them, and the laws come from there.
+-- A file of each operation's name shows that the operation is local; of uniquify and ungroup this stands in the crates below. Local
+-- gathers them, and the laws come from there.
 -- That a valid design stays valid goes by kind of change. Against cycles there is a rank of levels (Levels, in
 -- `edit_rules_spec`).
 pub mod AddCell

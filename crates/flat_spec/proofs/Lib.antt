@@ -1,5 +1,5 @@
 -- A subtree's connection is embedded in the tree above it under a step.
--- The worked examples compute by `refl`, with `representative`, `occurrences` and `tree` unfolded.
+-- The worked examples but the tower compute by `refl`, with `representative`, `occurrences` and `tree` unfolded.
 pub mod BelowLemmas
 pub mod BitLemmas
 pub mod ChainLemmas
