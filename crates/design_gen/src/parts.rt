@@ -8,7 +8,7 @@ ghost use Rattle.design_gen.specs.Letters.{are_letters};
 use itoa::Buffer;
 use netlist_schema::{
     CellBody, CellId, CellKind, Contents, Direction, End, Ident, Inst, LibId, Name, Net, NoMemory,
-    Port, Row, Shared,
+    Port, Row, Shared, SharedRow,
 };
 use std::alloc::Global;
 
@@ -128,6 +128,6 @@ pub(crate) fn net(alloc: Global, id: Ident, left: End, right: End) -> Result<Net
     Ok(Net {
         name: Name { id, shown: None },
         ends: Row::of(ends),
-        properties: Row::of(Vec::new(alloc)),
+        properties: SharedRow::empty(),
     })
 }

@@ -179,7 +179,7 @@ fn net_joined(alloc: Global, net: &Net, end: End) -> Result<Net, NoMemory>
     Ok(Net {
         name: net.name.copy(alloc)?,
         ends,
-        properties: net.properties.copy(alloc)?,
+        properties: net.properties.share()?,
     })
 }
 
@@ -268,7 +268,7 @@ fn net_cut(alloc: Global, net: &Net, end: &End) -> Result<Net, NoMemory>
     Ok(Net {
         name: net.name.copy(alloc)?,
         ends: other_ends(alloc, &net.ends, end)?,
-        properties: net.properties.copy(alloc)?,
+        properties: net.properties.share()?,
     })
 }
 

@@ -111,7 +111,7 @@ fn net_without(alloc: Global, place: u32, net: &Net) -> Result<Net, NoMemory>
     Ok(Net {
         name: net.name.copy(alloc)?,
         ends: Row::of(ends),
-        properties: net.properties.copy(alloc)?,
+        properties: net.properties.share()?,
     })
 }
 

@@ -12,7 +12,7 @@ ghost use Rattle.eco_reads.specs.Plan.{IsPlanned};
 
 use eco_reads::{Plan, is_net_taken, net_place};
 use edit_spec::Reply;
-use netlist_schema::{Contents, Copied, Ident, MOST_NETS, Name, Net, NoMemory, Row};
+use netlist_schema::{Contents, Copied, Ident, MOST_NETS, Name, Net, NoMemory, Row, SharedRow};
 use std::alloc::Global;
 
 /// A net without ends.
@@ -25,7 +25,7 @@ fn new_net(alloc: Global, name: &Ident) -> Result<Net, NoMemory>
             shown: None,
         },
         ends: Row::of(Vec::new(alloc)),
-        properties: Row::of(Vec::new(alloc)),
+        properties: SharedRow::empty(),
     })
 }
 

@@ -13,18 +13,29 @@ ghost use Rattle.eco_plans.specs.Props.{insts_set, nets_set};
 use eco_reads::{Plan, inst_place, net_place, property_place};
 use edit_cells::Face;
 use edit_spec::Reply;
-use netlist_schema::{Contents, Copied, Ident, Inst, Net, NoMemory, Property, Row};
+use netlist_schema::{Contents, Copied, Ident, Inst, Net, NoMemory, Property, Row, SharedRow};
 use std::alloc::Global;
+
+/// A copy of properties.
+fn copies(alloc: Global, properties: &[Property]) -> Result<Row<Property>, NoMemory>
+    ensures { IfOk result (λ made. made ≡ properties.now) }
+{
+    let mut made = Vec::with_capacity(alloc, properties.len())?;
+    for property in properties {
+        made.push(property.copy(alloc)?)?;
+    }
+    Ok(Row::of(made))
+}
 
 /// The properties with one set: in place of that of equal key, else at the end.
 fn with_property(
     alloc: Global,
-    properties: &Row<Property>,
+    properties: &[Property],
     property: &Property,
 ) -> Result<Row<Property>, NoMemory>
     ensures { IfOk result (λ made. made ≡ set_property property.now properties.now) }
 {
-    let mut made = properties.copy(alloc)?;
+    let mut made = copies(alloc, properties)?;
     match property_place(properties, &property.key.id) {
         Some(place) => made.set(place, property.copy(alloc)?),
         None => made.push(property.copy(alloc)?)?,
@@ -40,7 +51,7 @@ fn inst_with(alloc: Global, inst: &Inst, property: &Property) -> Result<Inst, No
         name: inst.name.copy(alloc)?,
         of: inst.of,
         designator: inst.designator.copy(alloc)?,
-        properties: with_property(alloc, &inst.properties, property)?,
+        properties: with_property(alloc, inst.properties.as_slice(), property)?,
     })
 }
 
@@ -48,10 +59,11 @@ fn inst_with(alloc: Global, inst: &Inst, property: &Property) -> Result<Inst, No
 fn net_with(alloc: Global, net: &Net, property: &Property) -> Result<Net, NoMemory>
     ensures { IfOk result (λ made. made ≡ record net.now { properties = set_property property.now net.now.properties }) }
 {
+    let properties = with_property(alloc, net.properties.as_slice(), property)?;
     Ok(Net {
         name: net.name.copy(alloc)?,
         ends: net.ends.copy(alloc)?,
-        properties: with_property(alloc, &net.properties, property)?,
+        properties: SharedRow::of(alloc, properties)?,
     })
 }
 
@@ -114,7 +126,7 @@ pub(crate) fn with_own_property(
     ensures { IfOk result (λ made. made ≡ set_property property.now (option_map_or (λ seen. seen.properties.now) face.entry [])) }
 {
     match face {
-        Some(seen) => with_property(alloc, seen.properties, property),
-        None => with_property(alloc, &Row::of(Vec::new(alloc)), property),
+        Some(seen) => with_property(alloc, seen.properties.as_slice(), property),
+        None => with_property(alloc, &[], property),
     }
 }

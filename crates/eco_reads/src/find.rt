@@ -79,17 +79,16 @@ pub fn is_inst_taken(insts: &Row<Shared<Inst>>, name: &Ident) -> bool
         .any(|inst| is_same(&inst.name.id, name))
 }
 
-fn property_position(properties: &Row<Property>, key: &Ident) -> Option<usize>
+fn property_position(properties: &[Property], key: &Ident) -> Option<usize>
     ensures { result ≡ position (λ property. is_name property.key.id key.now) properties.now }
 {
     properties
-        .as_slice()
         .iter()
         .position(|property| property.key.id == *key)
 }
 
 /// The place of the property with this key.
-pub fn property_place(properties: &Row<Property>, key: &Ident) -> Option<usize>
+pub fn property_place(properties: &[Property], key: &Ident) -> Option<usize>
     ensures value { result ≡ property_place key.now properties.now }
     ensures within { IfSome result (λ place. place < length properties.now) }
 {

@@ -5,12 +5,14 @@ ghost use Rattle.edif_spelling_spec.specs.Tree.{Placed, bare};
 ghost use Rattle.edif_spec.specs.Design as design;
 ghost use Rattle.edif_spec.specs.Faults.{Among, those_of};
 ghost use Rattle.edif_spec.specs.Rows.{has_keyword};
-ghost use Rattle.edif_spec.specs.Stands.{JoinedFault};
+ghost use Rattle.edif_spec.specs.Means.{MeansProperties};
+ghost use Rattle.edif_spec.specs.Stands.{JoinedFault, PropertiesFault};
 ghost use Rattle.edif_spec.specs.declared.fault.MeaningFault.TheVariants.{OverLimit};
-ghost use Rattle.edif_spec.specs.declared.keyword.Keyword.TheVariants.{Joined, Net as NetWord, PortRef};
+ghost use Rattle.edif_spec.specs.declared.keyword.Keyword.TheVariants.{Joined, Net as NetWord, PortRef, Property as PropertyWord};
 ghost use Rattle.edif_tree.specs.Handles.{here, all};
 ghost use Rattle.edif_contents.specs.Ends.{AreNamed, EndFaultIn, ReadEnd, WidthFaultIn};
-ghost use Rattle.netlist_schema.specs.Names.{AreDistinct};
+ghost use Rattle.netlist_schema.specs.Names.{AreDistinct, HasDistinctKeys};
+ghost use Rattle.netlist_schema.specs.Typed.{IsTypedProperty};
 ghost use Rattle.netlist_schema.specs.declared.limits.TheConstants.{MOST_ENDS, MOST_NETS};
 ghost use Rattle.edif_spec.specs.Nets.{end_of, name_at, net_at, row_size};
 ghost use Rattle.edif_spec.specs.Stands.{width_kind};
@@ -28,7 +30,9 @@ use edif_parts::{
 };
 use edif_spec::{Keyword, Kind, NetForm, Stretch};
 use edif_tree::{Node, Nodes};
-use netlist_schema::{Copied, End, MOST_NETS, Name, Net, NoMemory, Row, Shared, Width};
+use netlist_schema::{
+    Copied, End, MOST_NETS, Name, Net, NoMemory, Property, Row, Shared, SharedRow, Width,
+};
 use std::alloc::Global;
 
 /// What a net joins, and the nodes of its ends.
@@ -167,6 +171,14 @@ fn read_stretches<'a>(
     })
 }
 
+/// The properties among these followers of a form, as `read_properties` reads them, for several nets.
+fn shared_properties(alloc: Global, inner: Nodes<'_>) -> Result<SharedRow<Property>, EdifError>
+    ensures { Answers (λ ps. MeansProperties (map bare (all inner.entry)) ps × All IsTypedProperty ps × HasDistinctKeys ps) (PropertiesFault (those_of PropertyWord (all inner.entry))) result }
+{
+    let properties = read_properties(alloc, inner)?;
+    Ok(SharedRow::of(alloc, properties)?)
+}
+
 /// The net that a form at a node means, as it is written.
 fn read_net<'a>(
     alloc: Global,
@@ -180,7 +192,7 @@ fn read_net<'a>(
     let parts = read_parts(alloc, node, Keyword::Net)?;
     let BusName { name, array, place } = read_bus_name(alloc, parts.fixed.at(0))?;
     let joined = read_stretches(alloc, parts.fixed.at(1), &array, around)?;
-    let properties = read_properties(alloc, parts.inner)?;
+    let properties = shared_properties(alloc, parts.inner)?;
     Ok(NetAt {
         form: NetForm {
             name,
@@ -222,7 +234,7 @@ fn net_at(alloc: Global, form: &NetForm, k: u32) -> Result<Net, NoMemory>
 {
     let name = name_at(alloc, form, k)?;
     let ends = ends_at(alloc, form.joined.as_slice(), k)?;
-    let properties = Copied::copy(&form.properties, alloc)?;
+    let properties = form.properties.share()?;
     Ok(Net {
         name,
         ends,
@@ -259,7 +271,7 @@ fn add_net(
     Ok(())
 }
 
-/// Adds the nets of the row of a form, as `add_row` does, each with a copy of its properties.
+/// Adds the nets of the row of a form, as `add_row` does, each with a share of its properties.
 fn add_members(
     alloc: Global,
     form: &NetForm,

@@ -1,5 +1,5 @@
 //! Nets as they are written.
-use netlist_schema::{Name, Property, Row, Width};
+use netlist_schema::{Name, Property, Row, SharedRow, Width};
 
 /// Some bits of one port, one after another.
 #[derive(Clone, Copy, Debug, PartialEq, Eq)]
@@ -24,5 +24,5 @@ pub struct NetForm {
     /// What each net of the row joins one bit of, in order.
     pub joined: Row<Stretch>,
     /// The properties of each net of the row.
-    pub properties: Row<Property>,
+    pub properties: SharedRow<Property>,
 }

@@ -74,7 +74,7 @@ fn write_port<K: Sink>(alloc: Global, port: &Port, page: &mut BufferedSink, out:
     write_port_name(alloc, &port.name, &port.array, page, out);
     page.put(direction_text(port.direction), out);
     write_text_form(alloc, b" (designator ", &port.designator, page, out);
-    write_properties(alloc, &port.properties, page, out);
+    write_properties(alloc, port.properties.as_slice(), page, out);
     page.put(b")", out);
 }
 

@@ -43,7 +43,7 @@ fn write_inst<S: Shown, K: Sink>(
     write_cell_ref(alloc, design, inst.of, page, out);
     page.put(b")", out);
     write_text_form(alloc, b" (designator ", &inst.designator, page, out);
-    write_properties(alloc, &inst.properties, page, out);
+    write_properties(alloc, inst.properties.as_slice(), page, out);
     page.put(b")", out);
 }
 
@@ -273,7 +273,7 @@ fn write_net<S: Shown, K: Sink>(
     page.put(b" (joined", out);
     write_ends(alloc, design, own, insts, &net.ends, page, out);
     page.put(b")", out);
-    write_properties(alloc, &net.properties, page, out);
+    write_properties(alloc, net.properties.as_slice(), page, out);
     page.put(b")", out);
 }
 
@@ -351,7 +351,7 @@ fn write_run<S: Shown, K: Sink>(
     page.put(b" (joined", out);
     write_whole_ends(alloc, design, own, insts, &net.ends, page, out);
     page.put(b")", out);
-    write_properties(alloc, &net.properties, page, out);
+    write_properties(alloc, net.properties.as_slice(), page, out);
     page.put(b")", out);
 }
 

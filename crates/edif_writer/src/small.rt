@@ -111,13 +111,13 @@ pub(crate) fn write_property<K: Sink>(
 /// Writes properties on the line of their form.
 pub(crate) fn write_properties<K: Sink>(
     alloc: Global,
-    properties: &Row<Property>,
+    properties: &[Property],
     page: &mut BufferedSink,
     out: &mut K,
 )
     ensures { (level : ℕ) → Writes K.written K.faults out.old page.old out.new page.new (spaced level (map property_tree properties.now)) }
 {
-    for property in properties.as_slice() {
+    for property in properties {
         page.put(b" ", out);
         write_property(alloc, property, page, out);
     }

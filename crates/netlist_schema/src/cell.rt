@@ -3,6 +3,7 @@ use crate::ids::CellId;
 use crate::property::{Name, Property};
 use crate::row::Row;
 use crate::shared::Shared;
+use crate::shared_row::SharedRow;
 use crate::text::Text;
 use crate::width::Width;
 
@@ -70,7 +71,7 @@ impl Drop for Inst {
 pub struct Net {
     pub name: Name,
     pub ends: Row<End>,
-    pub properties: Row<Property>,
+    pub properties: SharedRow<Property>,
 }
 
 impl Drop for Net {

@@ -1,7 +1,7 @@
 //! `Copied`: an equal value, in memory of its own.
 ghost use Rattle.std.specs.Prelude.{◌≡◌, All, IfOk, IfSome, OnOk};
 ghost use Rattle.netlist_schema.specs.Ident.{IsIdentifier};
-ghost use Rattle.netlist_schema.specs.Typed.{IsBytes, IsTypedCellData, IsTypedInst, IsTypedName, IsTypedNet, IsTypedNote, IsTypedNum, IsTypedPort, IsTypedProperty, IsTypedValue};
+ghost use Rattle.netlist_schema.specs.Typed.{IsBytes, IsTypedCellData, IsTypedInst, IsTypedName, IsTypedNote, IsTypedNum, IsTypedPort, IsTypedProperty, IsTypedValue};
 
 use crate::cell::{CellBody, Contents, End, Inst, Net, Port};
 use crate::ident::Ident;
@@ -145,13 +145,13 @@ impl Copied for Inst {
 }
 
 impl Copied for Net {
-    ghost typed = { IsTypedNet };
+    ghost typed = { λ net. IsTypedName net.name };
 
     fn copy(&self, alloc: Global) -> Result<Net, NoMemory> {
         Ok(Net {
             name: self.name.copy(alloc)?,
             ends: self.ends.copy(alloc)?,
-            properties: self.properties.copy(alloc)?,
+            properties: self.properties.share()?,
         })
     }
 }

@@ -8,7 +8,7 @@ use crate::plans::{
 };
 use netlist_schema::{
     CellBody, CellId, CellKind, Contents, End, Ident, Inst, Lib, LibHead, LibId, Name, Net, Note,
-    Port, Property, Row, Shared, Text, TopHead, Value,
+    Port, Property, Row, Shared, SharedRow, Text, TopHead, Value,
 };
 use std::alloc::Global;
 use std::test::Fail;
@@ -131,7 +131,7 @@ fn net(alloc: Global, plan: &NetPlan) -> Result<Net, Fail>
     Ok(Net {
         name: name(alloc, id)?,
         ends,
-        properties: Row::of(Vec::new(alloc)),
+        properties: SharedRow::empty(),
     })
 }
 

@@ -28,7 +28,7 @@ fn with_ends(alloc: Global, net: &Shared<Net>, ends: &Row<End>) -> Result<Shared
     let made = Net {
         name: net.name.copy(alloc)?,
         ends: ends.copy(alloc)?,
-        properties: net.properties.copy(alloc)?,
+        properties: net.properties.share()?,
     };
     Shared::of(alloc, made)
 }

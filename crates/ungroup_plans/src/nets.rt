@@ -31,7 +31,7 @@ fn named(alloc: Global, name: Name, net: &Shared<Net>) -> Result<Shared<Net>, No
     let made = Net {
         name,
         ends: net.ends.copy(alloc)?,
-        properties: net.properties.copy(alloc)?,
+        properties: net.properties.share()?,
     };
     Shared::of(alloc, made)
 }
