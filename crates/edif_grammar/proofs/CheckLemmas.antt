@@ -181,3 +181,16 @@ row_back k cs fs t f r b = let P : Row → Type 0 = λ v. Breaches (token_kind k
 -- what stands behind the fixed arguments
 pub behind_fixed : (wanted : List Wanted) (us vs ts : List Placed) → vs ≡ drop (length wanted) us → us ≡ ts → vs ≡ drop (length (map choices wanted)) ts
 behind_fixed wanted us vs ts e f = e ∙ ap (drop (length wanted)) f ∙ ap (λ n. drop n ts) (sym (length-map wanted choices))
+
+-- of few there is none twice
+pub few_once : (a : Follower) (ts : List Placed) → length ts < 2 → OnceFits a ts
+few_once (Many k) ts l = tt
+few_once (One k) ts l = inr (let n = those_few k ts in omega arith)
+  where
+    those_few : (k : Keyword) (ts : List Placed) → length (those_of k ts) ≤ length ts
+    those_few k [] = omega arith
+    those_few k (t ∷ ts) = go (has_keyword k (bare t)) (those_few k ts)
+      where
+        go : (b : Bool) → length (those_of k ts) ≤ length ts → length (cond b (t ∷ those_of k ts) (those_of k ts)) ≤ suc (length ts)
+        go true h = omega arith
+        go false h = omega arith

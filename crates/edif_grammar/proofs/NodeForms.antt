@@ -8,7 +8,8 @@ use Rattle.edif_tree.specs.Handles.{Shows}
 use Rattle.edif_tree.specs.declared.node.Nodes.{Nodes}
 use Rattle.edif_tree.specs.declared.node.Shape.{Shape}
 use Rattle.edif_tree.specs.declared.node.Shape.TheVariants as shapes
-use Rattle.edif_grammar.specs.Rules.{first_word, argument_of}
+use Rattle.edif_tree.specs.Keywords.{form_keyword}
+use Rattle.edif_grammar.specs.Rules.{first_word, argument_of, with_keyword}
 use Rattle.edif_grammar.specs.declared.rules.Argument.TheVariants as arguments
 
 -- what begins with this tree
@@ -49,3 +50,14 @@ strange t us e n = ap (λ v. argument_of (bare v)) e ∙ go us (sym (ap (λ v. f
     go (Form' q ts ∷ us) n = refl
     go (Integer' q z ∷ us) n = refl
     go (String' q s ∷ us) n = refl
+
+-- a form, by its keyword
+pub keyword_told : (t : Placed) (us : List Placed) → t ≡ Form' (place_of t) (trees us) → argument_of (bare t) ≡ with_keyword (form_keyword t)
+keyword_told t us e = ap (λ v. argument_of (bare v)) e ∙ go us ∙ ap (λ v. with_keyword (form_keyword v)) (sym e)
+  where
+    go : (us : List Placed) → argument_of (bare (Form' (place_of t) (trees us))) ≡ with_keyword (form_keyword (Form' (place_of t) (trees us)))
+    go [] = refl
+    go (Word' q x ∷ us) = refl
+    go (Form' q ts ∷ us) = refl
+    go (Integer' q z ∷ us) = refl
+    go (String' q s ∷ us) = refl

@@ -2,4 +2,3 @@ pub mod Checks
 pub mod Forms
 pub mod Kept
 pub mod Rules
-pub mod Table

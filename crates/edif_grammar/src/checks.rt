@@ -36,6 +36,7 @@ fn misplaced_at(rule: Rule, node: Node<'_>) -> Breach<'_>
 }
 
 /// Checks one fixed argument. A token whose fault has a kind of its own passes.
+#[inline(always)]
 fn check_argument(
     keyword: Keyword,
     rule: Rule,
@@ -58,6 +59,7 @@ fn check_argument(
 }
 
 /// Checks the fixed arguments, of which none is missing.
+#[inline(always)]
 pub(crate) fn check_fixed<'a>(
     keyword: Keyword,
     rule: Rule,
@@ -75,6 +77,7 @@ pub(crate) fn check_fixed<'a>(
 }
 
 /// Checks that each of these may follow the fixed arguments.
+#[inline(always)]
 pub(crate) fn check_inner<'a>(
     rule: Rule,
     allowed: &[Inner],
@@ -112,10 +115,14 @@ fn check_once<'a>(keyword: Keyword, nodes: Nodes<'a>) -> Result<(), Breach<'a>>
 }
 
 /// Checks that none of which one is allowed stands twice. A second one whose fault has a kind of its own passes.
+#[inline(always)]
 pub(crate) fn check_seconds<'a>(allowed: &[Inner], nodes: Nodes<'a>) -> Result<(), Breach<'a>>
     ensures ok { (j : ℕ) (a : Follower) → slice_get (map follower allowed.now) j ≡ Some a → IfOk result (λ u. OnceFits a (all nodes.entry)) }
     ensures err { IfErr result (λ b. SecondFault (map follower allowed.now) (all nodes.entry) (fault_of b)) }
 {
+    if nodes.len() < 2 {
+        return Ok(());
+    }
     for inner in allowed {
         let Inner::Once(keyword) = *inner else {
             continue;

@@ -10,7 +10,7 @@ ghost use Rattle.edif_grammar.specs.Forms.{ArePartsOf, Fails, HasParts, fault_of
 use crate::checks::{check_fixed, check_inner, check_seconds};
 use crate::nodes::opened;
 use crate::rules::{Argument, Rule, rule_above, rule_of};
-use crate::table::keyword;
+use edif_keywords::keyword;
 use edif_spec::Keyword;
 use edif_tree::{Node, Nodes};
 use netlist_schema::Ident;
@@ -58,6 +58,7 @@ pub fn parts_of(node: Node<'_>, parent: Option<Keyword>) -> Result<Form<'_>, Bre
 
 /// The parts of the form with this keyword at a node, where it fits the row of its keyword, which is not looked up again. The same are
 /// no breach here. Takes no memory.
+#[inline(always)]
 pub fn parts_as(node: Node<'_>, keyword: Keyword) -> Result<Form<'_>, Breach<'_>>
     requires { has_keyword keyword (bare (here node)) ≡ true }
     ensures ok { IfOk result (λ p. ArePartsOf keyword (here node.entry) p) }
@@ -94,6 +95,7 @@ fn entered(node: Node<'_>, parent: Option<Keyword>) -> Result<(Keyword, Nodes<'_
 }
 
 /// The parts of the form at a node with this keyword and these arguments, where it fits its row.
+#[inline(always)]
 fn check_row<'a>(node: Node<'a>, keyword: Keyword, nodes: Nodes<'a>) -> Result<Form<'a>, Breach<'a>>
     requires keyword { has_keyword keyword (bare (here node)) ≡ true }
     requires nodes { all nodes ≡ arguments (here node) }

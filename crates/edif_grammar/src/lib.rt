@@ -1,4 +1,4 @@
-//! The table of forms: which keyword a name spells, and how a form fits its row.
+//! The table of forms: how a form fits its row.
 #![tactic(auto)]
 
 mod checks;
@@ -7,11 +7,10 @@ mod laws;
 mod lent;
 mod nodes;
 mod rules;
-mod table;
 
+pub use edif_keywords::keyword;
 pub use edif_spec::Keyword;
 pub use kept::{EdifFormError, form};
 pub use laws::no_form_fits_and_fails;
 pub use lent::{Breach, Form, parts_as, parts_of};
 pub use nodes::is_form_of;
-pub use table::keyword;

@@ -7,7 +7,6 @@ ghost use Rattle.edif_spec.specs.Rows.{has_keyword};
 ghost use Rattle.edif_grammar.specs.Rules.{argument_of, first_word};
 
 use crate::rules::Argument;
-use crate::table::{is_spelled, keyword};
 use edif_spec::Keyword;
 use edif_tree::{Node, Nodes, Shape};
 use netlist_schema::Ident;
@@ -31,6 +30,7 @@ pub(crate) fn opened(node: Node<'_>) -> Option<(&Ident, Nodes<'_>)>
 }
 
 /// What stands at a node, as rows tell arguments apart.
+#[inline(always)]
 pub(crate) fn argument_at(node: Node<'_>) -> Argument
     ensures { result ≡ argument_of (bare (here node.entry)) }
 {
@@ -38,24 +38,17 @@ pub(crate) fn argument_at(node: Node<'_>) -> Argument
         Shape::Word(_) => Argument::Identifier,
         Shape::Integer(_) => Argument::Integer,
         Shape::String(_) => Argument::Text,
-        Shape::Form(_) => {
-            let Some((name, _)) = opened(node) else {
-                return Argument::Strange;
-            };
-            let Some(keyword) = keyword(name) else {
-                return Argument::Strange;
-            };
-            Argument::Form(keyword)
-        }
+        Shape::Form(_) => match node.keyword() {
+            Some(keyword) => Argument::Form(keyword),
+            None => Argument::Strange,
+        },
     }
 }
 
 /// Whether a form with this keyword stands at a node. Takes no memory.
+#[inline(always)]
 pub fn is_form_of(node: Node<'_>, keyword: Keyword) -> bool
     ensures { result ≡ has_keyword keyword (bare (here node.entry)) }
 {
-    let Some((name, _)) = opened(node) else {
-        return false;
-    };
-    is_spelled(name, keyword)
+    argument_at(node).is_form(keyword)
 }

@@ -113,6 +113,7 @@ macro_rules! rows {
 }
 
 /// The row of a keyword.
+#[inline(always)]
 pub(crate) fn rule_of(keyword: Keyword) -> Rule
     ensures { row_of result ≡ row keyword }
 {
@@ -160,6 +161,7 @@ pub(crate) fn second_is_bad_form(keyword: Keyword) -> bool
 
 impl Argument {
     /// Whether it is a form with this keyword.
+    #[inline(always)]
     pub fn is_form(self, keyword: Keyword) -> bool
         ensures { result ≡ choice_fits (AForm keyword) self }
     {
@@ -200,6 +202,7 @@ impl Argument {
 
 impl Wanted {
     /// Whether the argument is what is wanted.
+    #[inline(always)]
     pub fn fits(self, argument: Argument) -> bool
         ensures { result ≡ one_fits (choices self) argument }
     {
@@ -228,6 +231,7 @@ impl Wanted {
 }
 
 /// Whether the argument may follow.
+#[inline(always)]
 pub(crate) fn may_follow(inner: &[Inner], argument: Argument) -> bool
     ensures { result ≡ follows (map follower inner.now) argument }
 {

@@ -24,7 +24,7 @@ order_at (r ∷ rows) k (suc i) row h e =
     let Q : ℕ → Type 0 = λ v. in_order_at v row.shape ≡ true in
     subst Q z (order_at rows (suc k) i row (and_parts (in_order_at k r.shape) (in_order_from (suc k) rows) h).1 e)
 
-some_at : (rows : List Row) (i : ℕ) → i < length rows → (row : Row) × (slice_get rows i ≡ Some row)
+pub some_at : (rows : List Row) (i : ℕ) → i < length rows → (row : Row) × (slice_get rows i ≡ Some row)
 some_at [] i l = absurd (omega arith)
 some_at (r ∷ rows) zero l = (r, refl)
 some_at (r ∷ rows) (suc i) l = some_at rows i (omega arith)

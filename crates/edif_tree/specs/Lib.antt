@@ -1,6 +1,7 @@
 pub mod Eaches
 pub mod Handles
 pub mod Here
+pub mod Keywords
 pub mod Maker
 pub mod Making
 pub mod NodeLists

@@ -12,6 +12,7 @@ mod store;
 mod stored;
 mod tree;
 mod tree_maker;
+mod words;
 
 pub use each::Each;
 pub use errors::TreeError;

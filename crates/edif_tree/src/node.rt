@@ -5,6 +5,7 @@ ghost use Rattle.edif_tree.specs.Order.{is_node, are_nodes};
 use crate::each::Each;
 use crate::stored::{NodeId, StoredShape};
 use crate::tree::Tree;
+use edif_keywords::Keyword;
 use netlist_schema::{Ident, Text};
 
 /// A node of a tree.
@@ -40,6 +41,7 @@ impl<'a> Node<'a> {
     ghost use Rattle.std.specs.Prelude.{◌≡◌};
     ghost use Rattle.edif_tree.specs.Nodes.{place_of};
     ghost use Rattle.edif_tree.specs.Handles.{here, Shows};
+    ghost use Rattle.edif_tree.specs.Keywords.{form_keyword, word_keyword};
 
     /// The number of bytes before its first token, which for a form is its `(`. Takes no memory.
     pub fn place(self) -> u64
@@ -49,6 +51,7 @@ impl<'a> Node<'a> {
     }
 
     /// What stands there: the nodes of a form's arguments in order, or a token. Takes no memory.
+    #[inline(always)]
     pub fn shape(self) -> Shape<'a>
         ensures { Shows result (here self.entry) }
     {
@@ -59,6 +62,28 @@ impl<'a> Node<'a> {
             StoredShape::Integer(value) => Shape::Integer(value),
             StoredShape::String(text) => Shape::String(text),
         }
+    }
+
+    /// The keyword that the word there spells, or `None` where it spells none, or no word stands there. Takes no memory.
+    #[inline(always)]
+    fn spelled(self) -> Option<Keyword>
+        ensures { result ≡ word_keyword (here self.entry) }
+    {
+        self.tree.keyword(self.id)
+    }
+
+    /// The keyword of the form there, or `None` where it begins with none, or no form stands there. Takes no memory.
+    #[inline(always)]
+    pub fn keyword(self) -> Option<Keyword>
+        ensures { result ≡ form_keyword (here self.entry) }
+    {
+        let Shape::Form(nodes) = self.shape() else {
+            return None;
+        };
+        let Some((first, _)) = nodes.split_first() else {
+            return None;
+        };
+        first.spelled()
     }
 }
 
@@ -86,6 +111,7 @@ impl<'a> Nodes<'a> {
     }
 
     /// The first and the others, where there is one. Takes no memory.
+    #[inline(always)]
     pub fn split_first(self) -> Option<(Node<'a>, Nodes<'a>)>
         ensures some { IfSome result (λ p. all self.entry ≡ here p.0 ∷ all p.1) }
         ensures none { IfNone result (all self.entry ≡ []) }

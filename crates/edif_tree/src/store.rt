@@ -1,12 +1,14 @@
 //! A list of nodes, which only grows.
 ghost use Rattle.std.specs.Prelude.{◌≡◌, ◌<◌, ◌∷◌, ◌++◌, [], length, Some, IfOk, OnOk, OnErr, slice_get, option_map};
 ghost use Rattle.edif_tree.specs.Making.{IsLeaf, leaf_of};
+ghost use Rattle.edif_tree.specs.Keywords.{seen_keyword};
 ghost use Rattle.edif_tree.specs.Nodes.{FormOf, IntegerOf, StringOf, WordOf, seen};
 
 use crate::node_lists::NodeLists;
 use crate::stored::{NodeId, StoredKind, StoredNode, StoredShape};
+use crate::words::Words;
+use edif_keywords::Keyword;
 use edif_spelling_spec::TokenKind;
-use indexmap::IndexSet;
 use netlist_schema::{Ident, NoMemory, Text};
 use std::alloc::Global;
 use std::marker::Model;
@@ -15,7 +17,7 @@ use std::marker::Model;
 pub struct Store {
     nodes: Vec<StoredNode>,
     arguments: NodeLists,
-    words: IndexSet<Ident>,
+    words: Words,
     integers: Vec<i64>,
     strings: Vec<Text>,
 }
@@ -38,9 +40,9 @@ impl Model for Store {
 
     ghost Value = { List Row };
 
-    ghost view = { λ a. map (row_of (record { arguments = a.arguments; words = a.words.keys; integers = a.integers.items; strings = a.strings.items })) a.nodes.items };
+    ghost view = { λ a. map (row_of (record { arguments = a.arguments; words = a.words; integers = a.integers.items; strings = a.strings.items })) a.nodes.items };
 
-    ghost invariant = { λ a. AreWithin (record { arguments = a.arguments; words = a.words.keys; integers = a.integers.items; strings = a.strings.items }) a.nodes.items };
+    ghost invariant = { λ a. AreWithin (record { arguments = a.arguments; words = a.words; integers = a.integers.items; strings = a.strings.items }) a.nodes.items };
 }
 
 /// A number as a node keeps it.
@@ -72,7 +74,7 @@ impl Store {
         Store {
             nodes: Vec::new(alloc),
             arguments: NodeLists::new(alloc),
-            words: IndexSet::new(alloc),
+            words: Words::new(alloc),
             integers: Vec::new(alloc),
             strings: Vec::new(alloc),
         }
@@ -82,7 +84,7 @@ impl Store {
     fn push_word(&mut self, place: u64, name: Ident) -> Result<NodeId, NoMemory>
         ensures ok { IfOk result (λ id. (id.0 ≡ length self.old) × (self.new ≡ self.old ++ record { place = place; shape = WordOf name } ∷ [])) }
     {
-        let (at, _) = self.words.insert_full(name)?;
+        let at = self.words.add(name)?;
         let at = small(at as u64)?;
         add_node(&mut self.nodes, place, StoredKind::Word(at))
     }
@@ -142,9 +144,20 @@ impl Store {
     {
         match self.nodes[id.0 as usize].kind {
             StoredKind::Form(at) => StoredShape::Form(self.arguments.get(at as usize)),
-            StoredKind::Word(at) => StoredShape::Word(&self.words.as_slice()[at as usize]),
+            StoredKind::Word(at) => StoredShape::Word(self.words.name(at as usize)),
             StoredKind::Integer(at) => StoredShape::Integer(self.integers[at as usize]),
             StoredKind::String(at) => StoredShape::String(&self.strings[at as usize]),
+        }
+    }
+
+    /// The keyword that the word at a node spells, or `None` where it spells none, or no word stands there.
+    pub fn keyword(&self, id: NodeId) -> Option<Keyword>
+        requires { id.0 < length self.now }
+        ensures { option_map (λ row. seen_keyword row.shape) (slice_get self.now id.0) ≡ Some result }
+    {
+        match self.nodes[id.0 as usize].kind {
+            StoredKind::Word(at) => self.words.keyword(at as usize),
+            _ => None,
         }
     }
 }

@@ -1,6 +1,7 @@
 //! A tree as a list of nodes.
 ghost use Rattle.std.specs.Prelude.{◌≡◌, ◌<◌, length, option_map, slice_get, Some, true};
 ghost use Rattle.edif_spelling_spec.specs.Tree.{Placed};
+ghost use Rattle.edif_tree.specs.Keywords.{seen_keyword};
 ghost use Rattle.edif_tree.specs.Nodes.{IsAt, seen};
 ghost use Rattle.edif_tree.specs.Order.{is_node};
 ghost use Rattle.edif_tree.specs.Handles.{here};
@@ -8,6 +9,7 @@ ghost use Rattle.edif_tree.specs.Handles.{here};
 use crate::node::Node;
 use crate::store::Store;
 use crate::stored::{NodeId, StoredShape};
+use edif_keywords::Keyword;
 use std::marker::Model;
 
 /// A tree, as contracts see it: the table of its nodes, and the node of the whole file. A tree of the file stands at that node.
@@ -67,5 +69,13 @@ impl Tree {
         ensures { option_map (λ row. row.shape) (slice_get self.now.rows id.0) ≡ Some (seen result) }
     {
         self.nodes.shape(id)
+    }
+
+    /// The keyword that the word at a node of this tree spells.
+    pub(crate) fn keyword(&self, id: NodeId) -> Option<Keyword>
+        requires { id.0 < length self.now.rows }
+        ensures { option_map (λ row. seen_keyword row.shape) (slice_get self.now.rows id.0) ≡ Some result }
+    {
+        self.nodes.keyword(id)
     }
 }

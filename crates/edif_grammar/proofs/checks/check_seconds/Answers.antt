@@ -5,9 +5,12 @@ use Rattle.std.proofs.lemmas.Option.{slice_get_within}
 use Rattle.edif_tree.specs.Handles.{all}
 use Rattle.edif_grammar.specs.Rules.{follower}
 use Rattle.edif_grammar.specs.Checks.{OnceFits}
-use Rattle.edif_grammar.proofs.CheckLemmas.{each_next, map_get, second_at}
+use Rattle.edif_grammar.proofs.CheckLemmas.{each_next, few_once, map_get, second_at}
 use Rattle.edif_grammar.proofs.checks.check_seconds.Goals as goal
 use Rattle.edif_grammar.proofs.checks.check_seconds.Goals.{then-second_is_bad_form+in_ok-check_once, else-second_is_bad_form}
+
+pub returns-then-len-lt2-clause-ok : goal.returns-then-len-lt2-clause-ok
+returns-then-len-lt2-clause-ok c = λ j a e. few_once a (all c.args.nodes) (omega (arith, c.if-len-lt2.true, c.len.ensures))
 
 pub loop-inner-preserved-in_default : goal.loop-inner-preserved-in_default
 loop-inner-preserved-in_default c =

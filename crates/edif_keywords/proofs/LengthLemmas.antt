@@ -4,7 +4,7 @@ use Rattle.std.specs.Prelude.{cond, filter}
 use Rattle.std.specs.Char.{to_ascii_lowercase}
 use Rattle.edif_spec.specs.Keyword.{first_spelled, keyword, all_keywords, same, spelling_of}
 use Rattle.edif_spec.specs.declared.keyword.Keyword.{Keyword}
-use Rattle.edif_grammar.specs.Table.{as_long}
+use Rattle.edif_keywords.specs.Table.{as_long}
 
 behind : (a b : Bool) → (a && b) ≡ true → b ≡ true
 behind true b h = h

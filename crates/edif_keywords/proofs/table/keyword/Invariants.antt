@@ -1,6 +1,6 @@
 use Rattle.std.proofs.Common.{◌≡◌, drop}
 use Rattle.edif_spec.specs.Keyword.{keyword, first_spelled}
-use Rattle.edif_grammar.proofs.table.keyword.Given as goal
+use Rattle.edif_keywords.proofs.table.keyword.Given as goal
 
 -- the keywords that are left decide
 abbrev pub invariant-loop-keyword : goal.invariant-loop-keyword

@@ -1,7 +1,7 @@
 //! The keywords and their spellings.
 ghost use Rattle.std.specs.Prelude.{◌≡◌, length};
 ghost use Rattle.edif_spec.specs.Keyword.{keyword, same, spelling_of};
-ghost use Rattle.edif_grammar.specs.Table.{as_long};
+ghost use Rattle.edif_keywords.specs.Table.{as_long};
 
 use edif_spec::Keyword;
 use netlist_schema::Ident;
@@ -68,13 +68,6 @@ pub fn keyword(name: &Ident) -> Option<Keyword>
         }
     }
     None
-}
-
-/// Whether a name spells this keyword, ignoring the case of ASCII letters.
-pub(crate) fn is_spelled(name: &Ident, keyword: Keyword) -> bool
-    ensures { result ≡ same name.now (spelling_of keyword) }
-{
-    is_same(name.as_slice(), spelling_of_keyword(keyword))
 }
 
 /// How a keyword is spelled.

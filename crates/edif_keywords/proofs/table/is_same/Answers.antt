@@ -1,6 +1,6 @@
 use Rattle.netlist_schema.proofs.Lists.{same_test}
 use Rattle.edif_spec.proofs.SameLemmas.{same_says, says_same}
-use Rattle.edif_grammar.proofs.table.is_same.Goals as goal
+use Rattle.edif_keywords.proofs.table.is_same.Goals as goal
 
 pub returns : goal.returns
 returns c = same_test _ _ (λ h. says_same c.args.left.now c.args.right.now (c.eq_ignore_ascii_case.ensures.test.0 h)) (λ h. c.eq_ignore_ascii_case.ensures.test.1 (same_says c.args.left.now c.args.right.now h))

@@ -1,0 +1,84 @@
+//! The words of a tree, each once.
+ghost use Rattle.std.specs.Prelude.{◌≡◌, ◌<◌, [], ℕ, List, IfOk, OnErr, OnOk, Some, length, nat_eq, option_map, slice_get, true};
+ghost use Rattle.std.specs.Cmp.Lexicographic.{pointwise};
+ghost use Rattle.edif_spec.specs.Keyword.{keyword};
+ghost use Rattle.indexmap.specs.IndexSet.{insert_key};
+
+use edif_keywords::{Keyword, keyword};
+use indexmap::IndexSet;
+use netlist_schema::{Ident, NoMemory};
+use std::alloc::Global;
+use std::marker::Model;
+
+/// Words, no two equal, and beside each the keyword that it spells. Contracts see the words in order.
+pub struct Words {
+    names: IndexSet<Ident>,
+    keywords: Vec<Option<Keyword>>,
+}
+
+impl Drop for Words {
+    fn drop(self) {
+        let Words {
+            names: _,
+            keywords: _,
+        } = self;
+    }
+}
+
+impl Model for Words {
+    ghost use Rattle.std.specs.Prelude.{◌≡◌, List, ℕ, map};
+    ghost use Rattle.edif_spec.specs.Keyword.{keyword};
+
+    ghost Value = { List (List ℕ) };
+
+    ghost view = { λ w. w.names.keys };
+
+    ghost invariant = { λ w. w.keywords.items ≡ map keyword w.names.keys };
+}
+
+impl Words {
+    /// No words. Takes no memory.
+    pub fn new(alloc: Global) -> Words
+        ensures { result ≡ [] }
+    {
+        Words {
+            names: IndexSet::new(alloc),
+            keywords: Vec::new(alloc),
+        }
+    }
+
+    /// Adds a word, unless it is there, and tells its place. After `NoMemory` the words are as before.
+    #[inline(always)]
+    pub fn add(&mut self, name: Ident) -> Result<usize, NoMemory>
+        ensures keys { OnOk result (self.new ≡ insert_key (pointwise nat_eq) self.old name) }
+        ensures stored { IfOk result (λ at. (k : List ℕ) × (slice_get self.new at ≡ Some k) × (pointwise nat_eq name k ≡ true)) }
+        ensures err { OnErr result (self.new ≡ self.old) }
+    {
+        self.keywords.reserve(1)?;
+        let (at, is_new) = self.names.insert_full(name)?;
+        if !is_new {
+            return Ok(at);
+        }
+        let found = keyword(&self.names.as_slice()[at]);
+        self.keywords.push_reserved(found);
+        Ok(at)
+    }
+
+    /// The word at a place. Takes no memory.
+    #[inline(always)]
+    pub fn name(&self, at: usize) -> &Ident
+        requires { at < length self.now }
+        ensures { slice_get self.now at ≡ Some result.now }
+    {
+        &self.names.as_slice()[at]
+    }
+
+    /// The keyword that the word at a place spells, or `None` where it spells none. Takes no memory.
+    #[inline(always)]
+    pub fn keyword(&self, at: usize) -> Option<Keyword>
+        requires { at < length self.now }
+        ensures { option_map keyword (slice_get self.now at) ≡ Some result }
+    {
+        self.keywords[at]
+    }
+}
