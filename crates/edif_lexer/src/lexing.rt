@@ -60,6 +60,7 @@ impl Lexer {
     }
 
     /// One more byte of a token.
+    #[inline(always)]
     fn keep(&mut self, byte: u8) -> Result<(), LexError>
         requires { is_pending (self.old.pending ++ byte ∷ []) ≡ true }
         ensures ok { OnOk result (self.new ≡ record self.old { pending = self.old.pending ++ byte ∷ [] }) }
@@ -71,6 +72,7 @@ impl Lexer {
     }
 
     /// The bytes up to here are read.
+    #[inline(always)]
     fn pass(&mut self, count: u64) -> Result<(), LexError>
         ensures ok { OnOk result (self.new ≡ record self.old { start = self.old.start + count; pending = [] }) }
         ensures err { OnErr result (self.new ≡ self.old) }
@@ -87,6 +89,7 @@ impl Lexer {
     }
 
     /// A token of so many bytes ends here.
+    #[inline(always)]
     fn hand_out(
         &mut self,
         kind: TokenKind,
@@ -105,6 +108,7 @@ impl Lexer {
     }
 
     /// The first byte of a token, or a byte of none.
+    #[inline(always)]
     fn begin(&mut self, byte: u8, out: &mut Vec<Token>) -> Result<(), LexError>
         requires { self.old.pending ≡ [] }
         ensures { (gained : List Token) × (out.new.items ≡ out.old.items ++ gained)
@@ -204,6 +208,7 @@ impl Lexer {
     }
 
     /// How many of the next bytes go on with the token, or begin a word.
+    #[inline(always)]
     fn kept(&self, rest: &[u8]) -> usize
         ensures within { result ≤ length rest.now }
         ensures kept { is_pending (self.now.pending ++ take result rest.now) ≡ true }
@@ -215,6 +220,7 @@ impl Lexer {
     }
 
     /// How many of the next bytes are blanks between tokens.
+    #[inline(always)]
     fn passed(&self, rest: &[u8]) -> usize
         ensures within { result ≤ length rest.now }
         ensures passed { list_all is_space (take result rest.now) ≡ true }
@@ -227,6 +233,7 @@ impl Lexer {
     }
 
     /// How many bytes the word has that begins and ends in these bytes, where no token has begun; 0 where there is none.
+    #[inline(always)]
     fn whole(&self, rest: &[u8]) -> usize
         ensures within { 0 < result → result < length rest.now }
         ensures word { list_all is_word_byte (take result rest.now) ≡ true }
@@ -241,6 +248,7 @@ impl Lexer {
     }
 
     /// A word that begins and ends in these bytes, where no token has begun.
+    #[inline(always)]
     fn whole_word(&mut self, word: &[u8], out: &mut Vec<Token>) -> Result<(), LexError>
         requires between { self.old.pending ≡ [] }
         requires begun { 0 < length word.now }
@@ -260,6 +268,7 @@ impl Lexer {
     }
 
     /// A word in front of a byte that ends it, and that byte.
+    #[inline(always)]
     fn word_before(&mut self, word: &[u8], byte: u8, out: &mut Vec<Token>) -> Result<(), LexError>
         requires between { self.old.pending ≡ [] }
         requires begun { 0 < length word.now }
@@ -274,6 +283,7 @@ impl Lexer {
 
     /// The next bytes of the text, of which there is one at least: how many were read. Bytes of one word or string and blanks are read
     /// together.
+    #[inline(always)]
     fn advance(&mut self, rest: &[u8], out: &mut Vec<Token>) -> Result<usize, LexError>
         requires { 0 < length rest.now }
         ensures read { (gained : List Token) × (out.new.items ≡ out.old.items ++ gained)

@@ -6,6 +6,7 @@ ghost use Rattle.edif_spelling_spec.specs.Bytes.{is_space, is_unquoted, is_word_
 use crate::words::is_word_byte;
 
 /// How many bytes of a word stand in front.
+#[inline(always)]
 pub(crate) fn word_bytes(bytes: &[u8]) -> usize
     ensures within { result ≤ length bytes.now }
     ensures all { list_all is_word_byte (take result bytes.now) ≡ true }
@@ -20,6 +21,7 @@ pub(crate) fn word_bytes(bytes: &[u8]) -> usize
 }
 
 /// How many bytes stand before the first quote.
+#[inline(always)]
 pub(crate) fn unquoted(bytes: &[u8]) -> usize
     ensures within { result ≤ length bytes.now }
     ensures all { is_unquoted (take result bytes.now) ≡ true }
@@ -33,6 +35,7 @@ pub(crate) fn unquoted(bytes: &[u8]) -> usize
 }
 
 /// How many blanks stand in front.
+#[inline(always)]
 pub(crate) fn blanks(bytes: &[u8]) -> usize
     ensures within { result ≤ length bytes.now }
     ensures all { list_all is_space (take result bytes.now) ≡ true }

@@ -44,6 +44,7 @@ pub(crate) fn is_word_byte(b: u8) -> bool
 }
 
 /// Whether a word is to be an integer, as its first byte tells.
+#[inline(always)]
 fn begins_number(word: &[u8]) -> bool
     ensures { result ≡ begins_number word.now }
 {
@@ -65,6 +66,7 @@ fn integer(word: &[u8]) -> Option<i64>
 }
 
 /// The identifier of these bytes, or `None` where they are none.
+#[inline(always)]
 fn name(alloc: Global, bytes: &[u8]) -> Result<Option<Ident>, NoMemory>
     ensures { IfOk result (λ name. name ≡ (if is_name bytes.now then Some bytes.now else None)) }
 {
@@ -72,6 +74,7 @@ fn name(alloc: Global, bytes: &[u8]) -> Result<Option<Ident>, NoMemory>
 }
 
 /// The name of an identifier, behind its `&` where it has one, or `None` where the word is no identifier.
+#[inline(always)]
 fn identifier(alloc: Global, word: &[u8]) -> Result<Option<Ident>, NoMemory>
     ensures { IfOk result (λ name. name ≡ identifier word.now) }
 {
@@ -85,6 +88,7 @@ fn identifier(alloc: Global, word: &[u8]) -> Result<Option<Ident>, NoMemory>
 
 /// The token that a word is, or its fault.
 #[tactic(auto, unfolding(edif_spelling_spec::specs::Words::word_kind))]
+#[inline(always)]
 pub(crate) fn word_kind(alloc: Global, word: &[u8]) -> Result<Result<TokenKind, LexKind>, NoMemory>
     requires { list_all is_word_byte word.now ≡ true }
     ensures { IfOk result (λ kind. kind ≡ word_kind word.now) }
