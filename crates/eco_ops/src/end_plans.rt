@@ -18,10 +18,11 @@ ghost use Rattle.edit_rules_spec.specs.declared.reply.Reply.TheVariants.{NoInst}
 ghost use Rattle.edit_cells.specs.Parts.{HasLimits, IsInside};
 ghost use Rattle.edit_cells.specs.State.{HasRead, HasReadSome};
 ghost use Rattle.eco_reads.specs.Done.{IsDoneOrFails};
+ghost use Rattle.eco_reads.specs.Outcome.{UnlessNoMemory};
 ghost use Rattle.eco_reads.specs.Plan.{IsPlanned};
 ghost use Rattle.eco_ops.specs.Ends.{IsFaceAt, cell_of_end, end_ports_at, no_cut, no_more_end, port_in, seen_port};
 
-use eco_reads::{Plan, inst_place, net_place, port_place};
+use eco_reads::{OpError, Plan, inst_place, net_place, port_place};
 use edit_cells::Face;
 use edit_spec::{EndName, Reply};
 use netlist_schema::{CellId, Contents, Copied, End, Ident, MOST_ENDS, Net, NoMemory, Row, Shared};
@@ -190,26 +191,26 @@ fn plan_end(
     contents: &Contents,
     place: usize,
     at: End,
-) -> Result<Result<Plan, Reply>, NoMemory>
+) -> Result<Plan, OpError>
     requires limits { HasLimits contents.now }
     requires within { place < length contents.now.nets }
-    ensures { IfOk result (IsPlanned (Some contents.now) (first (no_more_end contents.now at)) (record contents.now { nets = changed_at (net_with_end (Some at)) place contents.now.nets })) }
+    ensures { UnlessNoMemory (IsPlanned (Some contents.now) (first (no_more_end contents.now at)) (record contents.now { nets = changed_at (net_with_end (Some at)) place contents.now.nets })) result }
 {
     if let Some(joined) = net_of_end(&contents.nets, &at) {
-        return Ok(Err(Reply::AlreadyJoined {
+        return Err(OpError::Refused(Reply::AlreadyJoined {
             net: contents.nets.as_slice()[joined].name.id.copy(alloc)?,
         }));
     }
     if end_count(&contents.nets) >= MOST_ENDS {
-        return Ok(Err(Reply::TooMany {
+        return Err(OpError::Refused(Reply::TooMany {
             limit: MOST_ENDS as u64,
         }));
     }
     let net = net_joined(alloc, &contents.nets.as_slice()[place], at)?;
-    Ok(Ok(Plan::Net {
+    Ok(Plan::Net {
         place: place as u32,
         net,
-    }))
+    })
 }
 
 /// A net of these contents with one more end, or why there is none.
@@ -219,24 +220,22 @@ pub(crate) fn plan_join(
     port: Option<PortAt>,
     net: &Ident,
     end: &EndName,
-) -> Result<Result<Plan, Reply>, NoMemory>
+) -> Result<Plan, OpError>
     requires { IfSome contents (λ inside. HasLimits inside.now) }
     ensures { let old = option_copied contents.entry in (ports : Option (List Port)) → option_and_then (port_in end.now.port) ports ≡ option_map seen_port port →
-        IfOk result (IsPlanned old (first (no_join old ports net.now end.now)) (record { insts = insts_in old; nets = with_end net.now (end_named old ports end.now) (nets_in old) })) }
+        UnlessNoMemory (IsPlanned old (first (no_join old ports net.now end.now)) (record { insts = insts_in old; nets = with_end net.now (end_named old ports end.now) (nets_in old) })) result }
 {
     if lacks_inst(contents, &end.inst) {
-        return Ok(Err(Reply::NoInst));
+        return Err(OpError::Refused(Reply::NoInst));
     }
     let Some(contents) = contents else {
-        return Ok(Err(Reply::NoNet));
+        return Err(OpError::Refused(Reply::NoNet));
     };
     let Some(place) = net_place(&contents.nets, net) else {
-        return Ok(Err(Reply::NoNet));
+        return Err(OpError::Refused(Reply::NoNet));
     };
-    match end_at(Some(contents), port, end) {
-        Ok(at) => plan_end(alloc, contents, place, at),
-        Err(refusal) => Ok(Err(refusal)),
-    }
+    let at = end_at(Some(contents), port, end)?;
+    plan_end(alloc, contents, place, at)
 }
 
 /// Keeps an end, where it is another one.
@@ -278,19 +277,19 @@ fn plan_without(
     alloc: Global,
     contents: &Contents,
     at: End,
-) -> Result<Result<Plan, Reply>, NoMemory>
+) -> Result<Plan, OpError>
     requires limits { HasLimits contents.now }
     requires once { AreDistinct (flat_map (λ net. net.ends) contents.now.nets) }
-    ensures { IfOk result (IsPlanned (Some contents.now) (not_joined (Some contents.now) (Some at)) (record contents.now { nets = without_end (Some at) contents.now.nets })) }
+    ensures { UnlessNoMemory (IsPlanned (Some contents.now) (not_joined (Some contents.now) (Some at)) (record contents.now { nets = without_end (Some at) contents.now.nets })) result }
 {
     let Some(place) = net_of_end(&contents.nets, &at) else {
-        return Ok(Err(Reply::NotJoined));
+        return Err(OpError::Refused(Reply::NotJoined));
     };
     let net = net_cut(alloc, &contents.nets.as_slice()[place], &at)?;
-    Ok(Ok(Plan::Net {
+    Ok(Plan::Net {
         place: place as u32,
         net,
-    }))
+    })
 }
 
 /// The net of these contents that has an end, without it; or why there is none.
@@ -299,21 +298,18 @@ pub(crate) fn plan_cut(
     contents: Option<&Contents>,
     port: Option<PortAt>,
     end: &EndName,
-) -> Result<Result<Plan, Reply>, NoMemory>
+) -> Result<Plan, OpError>
     requires limits { IfSome contents (λ inside. HasLimits inside.now) }
     requires once { IfSome contents (λ inside. AreDistinct (flat_map (λ net. net.ends) inside.now.nets)) }
     ensures { let old = option_copied contents.entry in (ports : Option (List Port)) → option_and_then (port_in end.now.port) ports ≡ option_map seen_port port →
-        IfOk result (IsPlanned old (first (no_cut old ports end.now)) (record { insts = insts_in old; nets = without_end (end_named old ports end.now) (nets_in old) })) }
+        UnlessNoMemory (IsPlanned old (first (no_cut old ports end.now)) (record { insts = insts_in old; nets = without_end (end_named old ports end.now) (nets_in old) })) result }
 {
     if lacks_inst(contents, &end.inst) {
-        return Ok(Err(Reply::NoInst));
+        return Err(OpError::Refused(Reply::NoInst));
     }
-    let at = match end_at(contents, port, end) {
-        Ok(at) => at,
-        Err(refusal) => return Ok(Err(refusal)),
-    };
+    let at = end_at(contents, port, end)?;
     match contents {
         Some(contents) => plan_without(alloc, contents, at),
-        None => Ok(Err(Reply::NotJoined)),
+        None => Err(OpError::Refused(Reply::NotJoined)),
     }
 }

@@ -15,12 +15,12 @@ ghost use Rattle.edit_rules_spec.specs.Rule.{first, refuse};
 ghost use Rattle.edit_rules_spec.specs.declared.reply.Reply.TheVariants.{NoInst};
 ghost use Rattle.edit_cells.specs.Parts.{HasLimits, IsInside};
 ghost use Rattle.edit_cells.specs.State.{HasRead, HasReadSome};
-ghost use Rattle.eco_reads.specs.Done.{IsDoneOrFails};
+ghost use Rattle.eco_reads.specs.Outcome.{IsDoneOrRefused};
 ghost use Rattle.eco_reads.specs.Plan.{IsPlanned};
 ghost use Rattle.eco_ops.specs.Ends.{IsFaceAt, cell_of_end, end_ports_at, no_cut, no_more_end, port_in, seen_port};
 
 use crate::end_plans::{PortAt, cell_of_end, plan_cut, plan_join, port_of};
-use eco_reads::{put_planned, read_named};
+use eco_reads::{OpError, put_plan, read_named};
 use edit_cells::Cells;
 use edit_spec::{CellName, EndName, Op, Reply};
 use netlist_schema::{CellId, Ident, NoMemory};
@@ -44,16 +44,13 @@ pub(crate) fn join<C: Cells>(
     name: &CellName,
     net: &Ident,
     end: &EndName,
-) -> Result<Reply, NoMemory>
-    ensures { IsDoneOrFails result (C.state cells.old) (C.state cells.new) (Op.Join name.now net.now end.now) }
+) -> Result<Reply, OpError>
+    ensures { IsDoneOrRefused result (C.state cells.old) (C.state cells.new) (Op.Join name.now net.now end.now) }
 {
-    let id = match read_named(cells, name)? {
-        Ok(id) => id,
-        Err(refusal) => return Ok(refusal),
-    };
+    let id = read_named(cells, name)?;
     let port = read_port(cells, id, end)?;
-    let planned = plan_join(alloc, cells.contents(id)?, port, net, end)?;
-    put_planned(alloc, cells, id, planned, None)
+    let plan = plan_join(alloc, cells.contents(id)?, port, net, end)?;
+    put_plan(alloc, cells, id, plan, None)
 }
 
 /// Removes an end from its net.
@@ -62,14 +59,11 @@ pub(crate) fn cut<C: Cells>(
     cells: &mut C,
     name: &CellName,
     end: &EndName,
-) -> Result<Reply, NoMemory>
-    ensures { IsDoneOrFails result (C.state cells.old) (C.state cells.new) (Op.Cut name.now end.now) }
+) -> Result<Reply, OpError>
+    ensures { IsDoneOrRefused result (C.state cells.old) (C.state cells.new) (Op.Cut name.now end.now) }
 {
-    let id = match read_named(cells, name)? {
-        Ok(id) => id,
-        Err(refusal) => return Ok(refusal),
-    };
+    let id = read_named(cells, name)?;
     let port = read_port(cells, id, end)?;
-    let planned = plan_cut(alloc, cells.contents(id)?, port, end)?;
-    put_planned(alloc, cells, id, planned, None)
+    let plan = plan_cut(alloc, cells.contents(id)?, port, end)?;
+    put_plan(alloc, cells, id, plan, None)
 }

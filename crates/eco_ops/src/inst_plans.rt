@@ -13,10 +13,11 @@ ghost use Rattle.edit_spec.specs.Typed.{IsTypedOp};
 ghost use Rattle.edit_cells.specs.Parts.{HasLimits};
 ghost use Rattle.edit_cells.specs.State.{HasRead, HasReadSome};
 ghost use Rattle.eco_reads.specs.Done.{IsDoneOrFails};
+ghost use Rattle.eco_reads.specs.Outcome.{UnlessNoMemory};
 ghost use Rattle.eco_ops.specs.Insts.{is_other, more_insts, no_new_inst};
 ghost use Rattle.eco_reads.specs.Plan.{IsPlanned};
 
-use eco_reads::{Plan, inst_place, is_inst_taken};
+use eco_reads::{OpError, Plan, inst_place, is_inst_taken};
 use edit_spec::Reply;
 use netlist_schema::{
     CellId, Contents, Copied, End, Ident, Inst, MOST_INSTS, Name, Net, NoMemory, Row, Shared,
@@ -47,33 +48,33 @@ pub(crate) fn plan_inst(
     of: CellId,
     later: bool,
     cyclic: bool,
-) -> Result<Result<Plan, Reply>, NoMemory>
+) -> Result<Plan, OpError>
     ensures { let old = option_copied contents.entry in
-        IfOk result (IsPlanned old (first (no_new_inst old inst.now later cyclic)) (more_insts inst.now of old)) }
+        UnlessNoMemory (IsPlanned old (first (no_new_inst old inst.now later cyclic)) (more_insts inst.now of old)) result }
 {
     let Some(contents) = contents else {
-        return Ok(Err(Reply::IsLeaf));
+        return Err(OpError::Refused(Reply::IsLeaf));
     };
     if is_inst_taken(&contents.insts, inst) {
-        return Ok(Err(Reply::Taken));
+        return Err(OpError::Refused(Reply::Taken));
     }
     if later {
-        return Ok(Err(Reply::LaterLibrary));
+        return Err(OpError::Refused(Reply::LaterLibrary));
     }
     if cyclic {
-        return Ok(Err(Reply::IsCyclic));
+        return Err(OpError::Refused(Reply::IsCyclic));
     }
     let place = contents.insts.as_slice().len();
     if place >= MOST_INSTS {
-        return Ok(Err(Reply::TooMany {
+        return Err(OpError::Refused(Reply::TooMany {
             limit: MOST_INSTS as u64,
         }));
     }
     let inst = new_inst(alloc, inst, of)?;
-    Ok(Ok(Plan::Inst {
+    Ok(Plan::Inst {
         place: place as u32,
         inst,
-    }))
+    })
 }
 
 /// The end as it is where an instance is gone: none at the instance, and one place forward at later ones.
@@ -152,16 +153,16 @@ pub(crate) fn without_inst(
     alloc: Global,
     contents: Option<&Contents>,
     inst: &Ident,
-) -> Result<Result<Plan, Reply>, NoMemory>
+) -> Result<Plan, OpError>
     requires { IfSome contents (λ inside. HasLimits inside.now) }
     ensures { let old = option_copied contents.entry in
-        IfOk result (IsPlanned old (first (no_inst old inst.now ∷ [])) (without_inst old inst.now)) }
+        UnlessNoMemory (IsPlanned old (first (no_inst old inst.now ∷ [])) (without_inst old inst.now)) result }
 {
     let Some(contents) = contents else {
-        return Ok(Err(Reply::NoInst));
+        return Err(OpError::Refused(Reply::NoInst));
     };
     let Some(place) = inst_place(&contents.insts, inst) else {
-        return Ok(Err(Reply::NoInst));
+        return Err(OpError::Refused(Reply::NoInst));
     };
     let mut insts = contents.insts.copy(alloc)?.into_vec();
     let _gone = insts.remove(place);
@@ -169,8 +170,8 @@ pub(crate) fn without_inst(
     for net in contents.nets.as_slice() {
         nets.push(shared_without(alloc, place as u32, net)?)?;
     }
-    Ok(Ok(Plan::Whole(Contents {
+    Ok(Plan::Whole(Contents {
         insts: Row::of(insts),
         nets: Row::of(nets),
-    })))
+    }))
 }

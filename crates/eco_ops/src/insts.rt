@@ -15,13 +15,13 @@ ghost use Rattle.edit_rules_spec.specs.Notes.{other_notes};
 ghost use Rattle.edit_spec.specs.Typed.{IsTypedOp};
 ghost use Rattle.edit_cells.specs.Parts.{HasLimits};
 ghost use Rattle.edit_cells.specs.State.{HasRead, HasReadSome};
-ghost use Rattle.eco_reads.specs.Done.{IsDoneOrFails};
+ghost use Rattle.eco_reads.specs.Outcome.{IsDoneOrRefused};
 ghost use Rattle.eco_reads.specs.Named.{AreNamed};
 ghost use Rattle.eco_ops.specs.Insts.{is_other, more_insts, no_new_inst};
 ghost use Rattle.eco_reads.specs.Plan.{IsPlanned};
 
 use crate::inst_plans::{plan_inst, without_inst};
-use eco_reads::{NamedInsts, goes_through, put_planned, reaches, read_named};
+use eco_reads::{NamedInsts, OpError, find_named, goes_through, put_plan, reaches, read_named};
 use edit_cells::Cells;
 use edit_spec::{CellName, Op, Reply};
 use netlist_schema::{CellId, Copied, Ident, NoMemory, Note, Row};
@@ -34,24 +34,24 @@ pub(crate) fn add_inst<C: Cells>(
     name: &CellName,
     inst: &Ident,
     of: &CellName,
-) -> Result<Reply, NoMemory>
+) -> Result<Reply, OpError>
     requires { IsTypedOp (Op.AddInst name.now inst.now of.now) }
-    ensures { IsDoneOrFails result (C.state cells.old) (C.state cells.new) (Op.AddInst name.now inst.now of.now) }
+    ensures { IsDoneOrRefused result (C.state cells.old) (C.state cells.new) (Op.AddInst name.now inst.now of.now) }
 {
-    let holder = read_named(cells, name)?;
-    let placed = read_named(cells, of)?;
+    let holder = find_named(cells, name)?;
+    let placed = find_named(cells, of)?;
     let id = match holder {
         Ok(id) => id,
-        Err(refusal) => return Ok(refusal),
+        Err(refusal) => return Err(OpError::Refused(refusal)),
     };
     let of = match placed {
         Ok(of) => of,
-        Err(refusal) => return Ok(refusal),
+        Err(refusal) => return Err(OpError::Refused(refusal)),
     };
     let cyclic = reaches(alloc, cells, of, id)?;
     let later = id.lib.0 < of.lib.0;
-    let planned = plan_inst(alloc, cells.contents(id)?, inst, of, later, cyclic)?;
-    put_planned(alloc, cells, id, planned, None)
+    let plan = plan_inst(alloc, cells.contents(id)?, inst, of, later, cyclic)?;
+    put_plan(alloc, cells, id, plan, None)
 }
 
 /// The paths of notes.
@@ -191,14 +191,11 @@ pub(crate) fn drop_inst<C: Cells>(
     cells: &mut C,
     name: &CellName,
     inst: &Ident,
-) -> Result<Reply, NoMemory>
-    ensures { IsDoneOrFails result (C.state cells.old) (C.state cells.new) (Op.DropInst name.now inst.now) }
+) -> Result<Reply, OpError>
+    ensures { IsDoneOrRefused result (C.state cells.old) (C.state cells.new) (Op.DropInst name.now inst.now) }
 {
-    let id = match read_named(cells, name)? {
-        Ok(id) => id,
-        Err(refusal) => return Ok(refusal),
-    };
+    let id = read_named(cells, name)?;
     let others = other_notes(alloc, cells, id, inst)?;
-    let planned = without_inst(alloc, cells.contents(id)?, inst)?;
-    put_planned(alloc, cells, id, planned, others)
+    let plan = without_inst(alloc, cells.contents(id)?, inst)?;
+    put_plan(alloc, cells, id, plan, others)
 }

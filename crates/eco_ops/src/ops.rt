@@ -1,7 +1,8 @@
 //! One operation.
 ghost use Rattle.std.specs.Prelude.{◌≡◌, ◌↔◌, IsTrue, MatchResult};
 ghost use Rattle.edit_spec.specs.Typed.{IsTypedOp};
-ghost use Rattle.eco_reads.specs.Done.{IsDone, IsDoneOrFails};
+ghost use Rattle.eco_reads.specs.Done.{IsDone};
+ghost use Rattle.eco_reads.specs.Outcome.{IsDoneOrRefused};
 ghost use Rattle.eco_ops.specs.Single.{IsSingle};
 
 use crate::ends::{cut, join};
@@ -9,6 +10,7 @@ use crate::insts::{add_inst, drop_inst};
 use eco_plans::{
     add_cell, add_net, drop_net, drop_note, set_note, set_prop, show_cell, show_inst, show_net,
 };
+use eco_reads::OpError;
 use edit_cells::Cells;
 use edit_spec::{Op, Reply, told};
 use netlist_schema::NoMemory;
@@ -25,10 +27,10 @@ pub fn is_single(op: &Op) -> bool
 }
 
 /// Does an operation. Where memory is refused, the list of objects read may have gone on.
-fn try_op<C: Cells>(alloc: Global, cells: &mut C, op: &Op) -> Result<Reply, NoMemory>
+fn try_op<C: Cells>(alloc: Global, cells: &mut C, op: &Op) -> Result<Reply, OpError>
     requires single { IsSingle op.now }
     requires typed { IsTypedOp op.now }
-    ensures { IsDoneOrFails result (C.state cells.old) (C.state cells.new) op.now }
+    ensures { IsDoneOrRefused result (C.state cells.old) (C.state cells.new) op.now }
 {
     match op {
         Op::ShowCell { cell } => show_cell(cells, cell),
@@ -68,9 +70,10 @@ pub fn eco_op<C: Cells>(alloc: Global, cells: &mut C, op: &Op) -> Result<Reply, 
     let mark = cells.mark();
     match try_op(alloc, cells, op) {
         Ok(reply) => Ok(reply),
-        Err(refused) => {
+        Err(OpError::Refused(reply)) => Ok(reply),
+        Err(OpError::NoMemory) => {
             cells.back(mark);
-            Err(refused)
+            Err(NoMemory)
         }
     }
 }

@@ -1,6 +1,6 @@
 -- Setting properties.
 use Rattle.std.proofs.Common.{◌≡◌, ℕ, List, [], ◌∷◌, Option, Some, None, refl, sym, ap, subst, ◌∙◌}
-use Rattle.std.specs.Prelude.{MatchResult, Result, option_to_list}
+use Rattle.std.specs.Prelude.{MatchResult, Result, Err, option_to_list}
 use Rattle.std.specs.Option.{option_map, option_map_or}
 use Rattle.netlist_schema.specs.Design.{Design, cell_at, insts_in, nets_in}
 use Rattle.netlist_schema.specs.Hierarchy.{IsCell}
@@ -14,7 +14,7 @@ use Rattle.edit_rules_spec.specs.Seen.{contents_at, inside, named}
 use Rattle.edit_rules_spec.specs.Objects.{face_at, face_of}
 use Rattle.edit_spec.specs.Inside.{no_net, set_insts, set_nets}
 use Rattle.edit_spec.specs.Rows.{outcome}
-use Rattle.edit_spec.specs.SetProp.{insts_with_property, nets_with_property, set_property}
+use Rattle.edit_spec.specs.SetProp.{insts_with_property, nets_with_property, set_own, set_property}
 use Rattle.edit_spec.specs.Typed.{IsTypedOp}
 use Rattle.edit_rules_spec.specs.declared.reply.CellName.{CellName}
 use Rattle.edit_spec.specs.declared.ops.Op.TheVariants.{SetProp}
@@ -30,11 +30,11 @@ use Rattle.edit_cells.specs.State.{State, HasRead}
 use Rattle.edit_cells.specs.declared.face.Face.{Face}
 use Rattle.eco_reads.specs.declared.plan.Plan.{Plan}
 use Rattle.eco_reads.specs.Done.{IsDone, IsDoneOrFails}
-use Rattle.eco_reads.specs.Plan.{CanBePut, IsGood, IsPlanned, IsPut, one_change}
+use Rattle.eco_reads.specs.Plan.{CanBePut, IsGood, IsNamed, IsPlanned, IsPut, one_change}
 use Rattle.eco_plans.specs.Props.{insts_set, nets_set}
-use Rattle.eco_reads.proofs.Found.{face_is, found_first, found_row, inside_is}
+use Rattle.eco_reads.proofs.Found.{face_is, found_first, found_row, inside_is, refused_row}
 use Rattle.eco_plans.proofs.Planned.{set_nets_is}
-use Rattle.eco_reads.proofs.Reading.{HasFound, done_made, face_needs, inside_can, inside_done, inside_needs, made_valid, read_then}
+use Rattle.eco_reads.proofs.Reading.{HasFound, done_made, done_read, face_needs, inside_can, inside_done, inside_needs, made_valid, read_then}
 
 pub no_net_found : (contents : Option Contents) (c : Contents) (net : List ℕ) → contents ≡ Some c → net_place net c.nets ≡ None → first (no_net contents net ∷ []) ≡ Some NoNet
 no_net_found contents c net is none = rw (is, none) refl
@@ -107,3 +107,8 @@ pub own_done : (s t u v : State) (name : CellName) (property : Property) (id : C
 own_done s t u v name property id face made is one two seen set wrote =
     done_made s u v (SetProp name Whole property) Done (own id made ∷ []) (IsForName s.design name) (own_read s t u name id is one two) (λ o. (λ x. x, λ x. x))
     (own_made s t u name property id face made is one seen set) wrote
+
+pub own_missing : (s t : State) (name : CellName) (property : Property) (reply : Reply) → HasRead s t (IsForName s.design name) → IsNamed s.design name (Err reply) → IsDone s t (SetProp name Whole property) reply
+own_missing s t name property reply read missing =
+    done_read s t (SetProp name Whole property) reply (IsForName s.design name) read (λ o. (λ x. x, λ x. x))
+    (refused_row s.design name [] reply Done (set_own (named s.design name) (set_property property)) missing.1)

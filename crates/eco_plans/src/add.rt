@@ -6,14 +6,14 @@ ghost use Rattle.edit_rules_spec.specs.Find.{is_same};
 ghost use Rattle.edit_rules_spec.specs.Rule.{first};
 ghost use Rattle.edit_spec.specs.AddCell.{has_twice, new_cell, new_port};
 ghost use Rattle.edit_spec.specs.Typed.{IsTypedOp};
-ghost use Rattle.eco_reads.specs.Done.{IsDoneOrFails};
+ghost use Rattle.eco_reads.specs.Outcome.{IsDoneOrRefused};
 ghost use Rattle.eco_plans.specs.Add.{IsCellPlanned, no_new_cell};
 
 use crate::cell_plans::plan_cell;
-use eco_reads::write_one;
+use eco_reads::{OpError, write_one};
 use edit_cells::{CellChange, Cells};
 use edit_spec::{CellName, Op, PortDecl, Reply};
-use netlist_schema::{CellId, NoMemory, Row};
+use netlist_schema::{CellId, Row};
 use std::alloc::Global;
 
 /// Adds a cell.
@@ -23,19 +23,16 @@ pub fn add_cell<C: Cells>(
     name: &CellName,
     leaf: bool,
     ports: &Row<PortDecl>,
-) -> Result<Reply, NoMemory>
+) -> Result<Reply, OpError>
     requires { IsTypedOp (Op.AddCell name.now leaf ports.now) }
-    ensures { IsDoneOrFails result (C.state cells.old) (C.state cells.new) (Op.AddCell name.now leaf ports.now) }
+    ensures { IsDoneOrRefused result (C.state cells.old) (C.state cells.new) (Op.AddCell name.now leaf ports.now) }
 {
     let Some(lib) = cells.lib_named(&name.lib) else {
-        return Ok(Reply::NoLib);
+        return Err(OpError::Refused(Reply::NoLib));
     };
     let free = cells.name_free(lib, &name.cell)?;
     let count = cells.count(lib)?;
-    let body = match plan_cell(alloc, free, count, &name.cell, leaf, ports.as_slice())? {
-        Ok(body) => body,
-        Err(refusal) => return Ok(refusal),
-    };
+    let body = plan_cell(alloc, free, count, &name.cell, leaf, ports.as_slice())?;
     let id = CellId { lib, slot: count };
     write_one(alloc, cells, CellChange::Fresh { id, body }, None)?;
     Ok(Reply::Done)

@@ -8,9 +8,10 @@ ghost use Rattle.edit_rules_spec.specs.Rule.{first};
 ghost use Rattle.edit_spec.specs.AddCell.{has_twice, new_cell, new_port};
 ghost use Rattle.edit_spec.specs.Typed.{IsTypedOp};
 ghost use Rattle.eco_reads.specs.Done.{IsDoneOrFails};
+ghost use Rattle.eco_reads.specs.Outcome.{UnlessNoMemory};
 ghost use Rattle.eco_plans.specs.Add.{IsCellPlanned, no_new_cell};
 
-use eco_reads::is_same;
+use eco_reads::{OpError, is_same};
 use edit_spec::{PortDecl, Reply};
 use netlist_schema::{
     CellBody, CellKind, Contents, Copied, Ident, MOST_BITS, MOST_CELLS, MOST_PORTS, Name, NoMemory,
@@ -149,27 +150,27 @@ pub(crate) fn plan_cell(
     name: &Ident,
     leaf: bool,
     ports: &[PortDecl],
-) -> Result<Result<CellBody, Reply>, NoMemory>
-    ensures { IfOk result (IsCellPlanned (first (no_new_cell (not free) count ports.now)) (new_cell name.now leaf ports.now)) }
+) -> Result<CellBody, OpError>
+    ensures { UnlessNoMemory (IsCellPlanned (first (no_new_cell (not free) count ports.now)) (new_cell name.now leaf ports.now)) result }
 {
     if !free {
-        return Ok(Err(Reply::Taken));
+        return Err(OpError::Refused(Reply::Taken));
     }
     if has_twice(ports) {
-        return Ok(Err(Reply::Taken));
+        return Err(OpError::Refused(Reply::Taken));
     }
     if count as usize >= MOST_CELLS {
-        return Ok(Err(Reply::TooMany {
+        return Err(OpError::Refused(Reply::TooMany {
             limit: MOST_CELLS as u64,
         }));
     }
     if ports.len() > MOST_PORTS {
-        return Ok(Err(Reply::TooMany {
+        return Err(OpError::Refused(Reply::TooMany {
             limit: MOST_PORTS as u64,
         }));
     }
     if bit_count(ports) > MOST_BITS {
-        return Ok(Err(Reply::TooMany { limit: MOST_BITS }));
+        return Err(OpError::Refused(Reply::TooMany { limit: MOST_BITS }));
     }
-    Ok(Ok(new_cell(alloc, name, leaf, ports)?))
+    Ok(new_cell(alloc, name, leaf, ports)?)
 }

@@ -8,9 +8,10 @@ ghost use Rattle.edit_spec.specs.DropNet.{without_net};
 ghost use Rattle.edit_spec.specs.Inside.{no_net};
 ghost use Rattle.edit_spec.specs.Typed.{IsTypedOp};
 ghost use Rattle.eco_reads.specs.Done.{IsDoneOrFails};
+ghost use Rattle.eco_reads.specs.Outcome.{UnlessNoMemory};
 ghost use Rattle.eco_reads.specs.Plan.{IsPlanned};
 
-use eco_reads::{Plan, is_net_taken, net_place};
+use eco_reads::{OpError, Plan, is_net_taken, net_place};
 use edit_spec::Reply;
 use netlist_schema::{Contents, Copied, Ident, MOST_NETS, Name, Net, NoMemory, Row, SharedRow};
 use std::alloc::Global;
@@ -35,27 +36,27 @@ pub(crate) fn plan_net(
     alloc: Global,
     contents: Option<&Contents>,
     net: &Ident,
-) -> Result<Result<Plan, Reply>, NoMemory>
+) -> Result<Plan, OpError>
     ensures { let old = option_copied contents.entry in
-        IfOk result (IsPlanned old (first (no_new_net old net.now)) (record { insts = insts_in old; nets = with_net net.now (nets_in old) })) }
+        UnlessNoMemory (IsPlanned old (first (no_new_net old net.now)) (record { insts = insts_in old; nets = with_net net.now (nets_in old) })) result }
 {
     let Some(contents) = contents else {
-        return Ok(Err(Reply::IsLeaf));
+        return Err(OpError::Refused(Reply::IsLeaf));
     };
     if is_net_taken(&contents.nets, net) {
-        return Ok(Err(Reply::Taken));
+        return Err(OpError::Refused(Reply::Taken));
     }
     let place = contents.nets.as_slice().len();
     if place >= MOST_NETS {
-        return Ok(Err(Reply::TooMany {
+        return Err(OpError::Refused(Reply::TooMany {
             limit: MOST_NETS as u64,
         }));
     }
     let net = new_net(alloc, net)?;
-    Ok(Ok(Plan::Net {
+    Ok(Plan::Net {
         place: place as u32,
         net,
-    }))
+    })
 }
 
 /// The contents without a net, or why there are none.
@@ -64,21 +65,21 @@ pub(crate) fn without_net(
     alloc: Global,
     contents: Option<&Contents>,
     net: &Ident,
-) -> Result<Result<Plan, Reply>, NoMemory>
+) -> Result<Plan, OpError>
     ensures { let old = option_copied contents.entry in
-        IfOk result (IsPlanned old (first (no_net old net.now ∷ [])) (record { insts = insts_in old; nets = without_net net.now (nets_in old) })) }
+        UnlessNoMemory (IsPlanned old (first (no_net old net.now ∷ [])) (record { insts = insts_in old; nets = without_net net.now (nets_in old) })) result }
 {
     let Some(contents) = contents else {
-        return Ok(Err(Reply::NoNet));
+        return Err(OpError::Refused(Reply::NoNet));
     };
     let Some(place) = net_place(&contents.nets, net) else {
-        return Ok(Err(Reply::NoNet));
+        return Err(OpError::Refused(Reply::NoNet));
     };
     let mut nets = contents.nets.copy(alloc)?.into_vec();
     let _gone = nets.remove(place);
     let insts = contents.insts.copy(alloc)?;
-    Ok(Ok(Plan::Whole(Contents {
+    Ok(Plan::Whole(Contents {
         insts,
         nets: Row::of(nets),
-    })))
+    }))
 }

@@ -7,14 +7,14 @@ ghost use Rattle.edit_spec.specs.AddNet.{new_net, no_new_net, with_net};
 ghost use Rattle.edit_spec.specs.DropNet.{without_net};
 ghost use Rattle.edit_spec.specs.Inside.{no_net};
 ghost use Rattle.edit_spec.specs.Typed.{IsTypedOp};
-ghost use Rattle.eco_reads.specs.Done.{IsDoneOrFails};
+ghost use Rattle.eco_reads.specs.Outcome.{IsDoneOrRefused};
 ghost use Rattle.eco_reads.specs.Plan.{IsPlanned};
 
 use crate::net_plans::{plan_net, without_net};
-use eco_reads::{put_planned, read_named};
+use eco_reads::{OpError, put_plan, read_named};
 use edit_cells::Cells;
 use edit_spec::{CellName, Op, Reply};
-use netlist_schema::{Ident, NoMemory};
+use netlist_schema::Ident;
 use std::alloc::Global;
 
 /// Adds a net without ends.
@@ -23,16 +23,13 @@ pub fn add_net<C: Cells>(
     cells: &mut C,
     name: &CellName,
     net: &Ident,
-) -> Result<Reply, NoMemory>
+) -> Result<Reply, OpError>
     requires { IsTypedOp (Op.AddNet name.now net.now) }
-    ensures { IsDoneOrFails result (C.state cells.old) (C.state cells.new) (Op.AddNet name.now net.now) }
+    ensures { IsDoneOrRefused result (C.state cells.old) (C.state cells.new) (Op.AddNet name.now net.now) }
 {
-    let id = match read_named(cells, name)? {
-        Ok(id) => id,
-        Err(refusal) => return Ok(refusal),
-    };
-    let planned = plan_net(alloc, cells.contents(id)?, net)?;
-    put_planned(alloc, cells, id, planned, None)
+    let id = read_named(cells, name)?;
+    let plan = plan_net(alloc, cells.contents(id)?, net)?;
+    put_plan(alloc, cells, id, plan, None)
 }
 
 /// Removes a net.
@@ -41,13 +38,10 @@ pub fn drop_net<C: Cells>(
     cells: &mut C,
     name: &CellName,
     net: &Ident,
-) -> Result<Reply, NoMemory>
-    ensures { IsDoneOrFails result (C.state cells.old) (C.state cells.new) (Op.DropNet name.now net.now) }
+) -> Result<Reply, OpError>
+    ensures { IsDoneOrRefused result (C.state cells.old) (C.state cells.new) (Op.DropNet name.now net.now) }
 {
-    let id = match read_named(cells, name)? {
-        Ok(id) => id,
-        Err(refusal) => return Ok(refusal),
-    };
-    let planned = without_net(alloc, cells.contents(id)?, net)?;
-    put_planned(alloc, cells, id, planned, None)
+    let id = read_named(cells, name)?;
+    let plan = without_net(alloc, cells.contents(id)?, net)?;
+    put_plan(alloc, cells, id, plan, None)
 }

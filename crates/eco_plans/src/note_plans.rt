@@ -6,11 +6,13 @@ ghost use Rattle.edit_rules_spec.specs.Rule.{first};
 ghost use Rattle.edit_rules_spec.specs.Notes.{note_place};
 ghost use Rattle.edit_spec.specs.Typed.{IsTypedOp};
 ghost use Rattle.eco_reads.specs.Done.{IsDoneOrFails};
+ghost use Rattle.eco_reads.specs.Outcome.{UnlessNoMemory};
 ghost use Rattle.eco_reads.specs.Plan.{AreNotesPlanned};
 ghost use Rattle.eco_plans.specs.Notes.{no_note_dropped, no_note_set, note_dropped, note_set};
 
+use eco_reads::OpError;
 use edit_spec::Reply;
-use netlist_schema::{Copied, Ident, MOST_NOTES, NoMemory, Note, Property, Row};
+use netlist_schema::{Copied, Ident, MOST_NOTES, Note, Property, Row};
 use std::alloc::Global;
 
 /// Whether two paths are equal.
@@ -52,11 +54,11 @@ pub(crate) fn with_note(
     path: &Row<Ident>,
     property: &Property,
     leads: bool,
-) -> Result<Result<Row<Note>, Reply>, NoMemory>
-    ensures { IfOk result (AreNotesPlanned (first (no_note_set leads notes.now path.now property.now)) (note_set notes.now path.now property.now)) }
+) -> Result<Row<Note>, OpError>
+    ensures { UnlessNoMemory (AreNotesPlanned (first (no_note_set leads notes.now path.now property.now)) (note_set notes.now path.now property.now)) result }
 {
     if path.as_slice().is_empty() || !leads {
-        return Ok(Err(Reply::NoPath));
+        return Err(OpError::Refused(Reply::NoPath));
     }
     let note = Note {
         path: path.copy(alloc)?,
@@ -66,17 +68,17 @@ pub(crate) fn with_note(
         Some(place) => {
             let mut made = notes.copy(alloc)?;
             made.set(place, note);
-            Ok(Ok(made))
+            Ok(made)
         }
         None => {
             if notes.as_slice().len() >= MOST_NOTES {
-                return Ok(Err(Reply::TooMany {
+                return Err(OpError::Refused(Reply::TooMany {
                     limit: MOST_NOTES as u64,
                 }));
             }
             let mut made = notes.copy(alloc)?;
             made.push(note)?;
-            Ok(Ok(made))
+            Ok(made)
         }
     }
 }
@@ -88,13 +90,13 @@ pub(crate) fn without_note(
     notes: &Row<Note>,
     path: &Row<Ident>,
     key: &Ident,
-) -> Result<Result<Row<Note>, Reply>, NoMemory>
-    ensures { IfOk result (AreNotesPlanned (first (no_note_dropped notes.now path.now key.now)) (note_dropped notes.now path.now key.now)) }
+) -> Result<Row<Note>, OpError>
+    ensures { UnlessNoMemory (AreNotesPlanned (first (no_note_dropped notes.now path.now key.now)) (note_dropped notes.now path.now key.now)) result }
 {
     let Some(place) = note_place(notes, path, key) else {
-        return Ok(Err(Reply::NoNote));
+        return Err(OpError::Refused(Reply::NoNote));
     };
     let mut made = notes.copy(alloc)?.into_vec();
     let _gone = made.remove(place);
-    Ok(Ok(Row::of(made)))
+    Ok(Row::of(made))
 }

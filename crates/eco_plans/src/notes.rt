@@ -5,15 +5,15 @@ ghost use Rattle.edit_rules_spec.specs.Find.{is_name};
 ghost use Rattle.edit_rules_spec.specs.Rule.{first};
 ghost use Rattle.edit_rules_spec.specs.Notes.{note_place};
 ghost use Rattle.edit_spec.specs.Typed.{IsTypedOp};
-ghost use Rattle.eco_reads.specs.Done.{IsDoneOrFails};
+ghost use Rattle.eco_reads.specs.Outcome.{IsDoneOrRefused};
 ghost use Rattle.eco_reads.specs.Plan.{AreNotesPlanned};
 ghost use Rattle.eco_plans.specs.Notes.{no_note_dropped, no_note_set, note_dropped, note_set};
 
 use crate::note_plans::{with_note, without_note};
-use eco_reads::{leads, put_notes};
+use eco_reads::{OpError, leads, put_notes};
 use edit_cells::Cells;
 use edit_spec::{Op, Reply};
-use netlist_schema::{Ident, NoMemory, Property, Row};
+use netlist_schema::{Ident, Property, Row};
 use std::alloc::Global;
 
 /// Sets a note.
@@ -22,16 +22,16 @@ pub fn set_note<C: Cells>(
     cells: &mut C,
     path: &Row<Ident>,
     property: &Property,
-) -> Result<Reply, NoMemory>
+) -> Result<Reply, OpError>
     requires { IsTypedOp (Op.SetNote path.now property.now) }
-    ensures { IsDoneOrFails result (C.state cells.old) (C.state cells.new) (Op.SetNote path.now property.now) }
+    ensures { IsDoneOrRefused result (C.state cells.old) (C.state cells.new) (Op.SetNote path.now property.now) }
 {
     let Some(top) = cells.top_cell() else {
-        return Ok(Reply::NoTop);
+        return Err(OpError::Refused(Reply::NoTop));
     };
     let leads = leads(cells, top, path)?;
-    let planned = with_note(alloc, cells.notes()?, path, property, leads)?;
-    put_notes(alloc, cells, planned)
+    let made = with_note(alloc, cells.notes()?, path, property, leads)?;
+    put_notes(alloc, cells, made)
 }
 
 /// Removes a note.
@@ -40,12 +40,12 @@ pub fn drop_note<C: Cells>(
     cells: &mut C,
     path: &Row<Ident>,
     key: &Ident,
-) -> Result<Reply, NoMemory>
-    ensures { IsDoneOrFails result (C.state cells.old) (C.state cells.new) (Op.DropNote path.now key.now) }
+) -> Result<Reply, OpError>
+    ensures { IsDoneOrRefused result (C.state cells.old) (C.state cells.new) (Op.DropNote path.now key.now) }
 {
     let Some(_top) = cells.top_cell() else {
-        return Ok(Reply::NoTop);
+        return Err(OpError::Refused(Reply::NoTop));
     };
-    let planned = without_note(alloc, cells.notes()?, path, key)?;
-    put_notes(alloc, cells, planned)
+    let made = without_note(alloc, cells.notes()?, path, key)?;
+    put_notes(alloc, cells, made)
 }

@@ -7,10 +7,11 @@ ghost use Rattle.edit_spec.specs.SetProp.{set_property};
 ghost use Rattle.edit_spec.specs.Typed.{IsTypedOp};
 ghost use Rattle.edit_cells.specs.Parts.{HasLimits};
 ghost use Rattle.eco_reads.specs.Done.{IsDoneOrFails};
+ghost use Rattle.eco_reads.specs.Outcome.{UnlessNoMemory};
 ghost use Rattle.eco_reads.specs.Plan.{IsPlanned};
 ghost use Rattle.eco_plans.specs.Props.{insts_set, nets_set};
 
-use eco_reads::{Plan, inst_place, net_place, property_place};
+use eco_reads::{OpError, Plan, inst_place, net_place, property_place};
 use edit_cells::Face;
 use edit_spec::Reply;
 use netlist_schema::{Contents, Copied, Ident, Inst, Net, NoMemory, Property, Row, SharedRow};
@@ -74,22 +75,22 @@ pub(crate) fn plan_inst_property(
     contents: Option<&Contents>,
     inst: &Ident,
     property: &Property,
-) -> Result<Result<Plan, Reply>, NoMemory>
+) -> Result<Plan, OpError>
     requires { IfSome contents (λ inside. HasLimits inside.now) }
     ensures { let old = option_copied contents.entry in
-        IfOk result (IsPlanned old (first (no_inst old inst.now ∷ [])) (insts_set inst.now property.now old)) }
+        UnlessNoMemory (IsPlanned old (first (no_inst old inst.now ∷ [])) (insts_set inst.now property.now old)) result }
 {
     let Some(contents) = contents else {
-        return Ok(Err(Reply::NoInst));
+        return Err(OpError::Refused(Reply::NoInst));
     };
     let Some(place) = inst_place(&contents.insts, inst) else {
-        return Ok(Err(Reply::NoInst));
+        return Err(OpError::Refused(Reply::NoInst));
     };
     let inst = inst_with(alloc, &contents.insts.as_slice()[place], property)?;
-    Ok(Ok(Plan::Inst {
+    Ok(Plan::Inst {
         place: place as u32,
         inst,
-    }))
+    })
 }
 
 /// A net of these contents with a property set, or why there is none.
@@ -99,22 +100,22 @@ pub(crate) fn plan_net_property(
     contents: Option<&Contents>,
     net: &Ident,
     property: &Property,
-) -> Result<Result<Plan, Reply>, NoMemory>
+) -> Result<Plan, OpError>
     requires { IfSome contents (λ inside. HasLimits inside.now) }
     ensures { let old = option_copied contents.entry in
-        IfOk result (IsPlanned old (first (no_net old net.now ∷ [])) (nets_set net.now property.now old)) }
+        UnlessNoMemory (IsPlanned old (first (no_net old net.now ∷ [])) (nets_set net.now property.now old)) result }
 {
     let Some(contents) = contents else {
-        return Ok(Err(Reply::NoNet));
+        return Err(OpError::Refused(Reply::NoNet));
     };
     let Some(place) = net_place(&contents.nets, net) else {
-        return Ok(Err(Reply::NoNet));
+        return Err(OpError::Refused(Reply::NoNet));
     };
     let net = net_with(alloc, &contents.nets.as_slice()[place], property)?;
-    Ok(Ok(Plan::Net {
+    Ok(Plan::Net {
         place: place as u32,
         net,
-    }))
+    })
 }
 
 /// The properties of a cell with one set.

@@ -6,15 +6,15 @@ ghost use Rattle.edit_spec.specs.Inside.{no_net};
 ghost use Rattle.edit_spec.specs.SetProp.{set_property};
 ghost use Rattle.edit_spec.specs.Typed.{IsTypedOp};
 ghost use Rattle.edit_cells.specs.Parts.{HasLimits};
-ghost use Rattle.eco_reads.specs.Done.{IsDoneOrFails};
+ghost use Rattle.eco_reads.specs.Outcome.{IsDoneOrRefused};
 ghost use Rattle.eco_reads.specs.Plan.{IsPlanned};
 ghost use Rattle.eco_plans.specs.Props.{insts_set, nets_set};
 
 use crate::property_plans::{plan_inst_property, plan_net_property, with_own_property};
-use eco_reads::{put_planned, read_named, write_one};
+use eco_reads::{OpError, put_plan, read_named, write_one};
 use edit_cells::{CellChange, Cells};
 use edit_spec::{CellName, Op, Reply, Target};
-use netlist_schema::{Ident, NoMemory, Property};
+use netlist_schema::{Ident, Property};
 use std::alloc::Global;
 
 /// Sets a property of a cell.
@@ -23,14 +23,11 @@ fn set_own<C: Cells>(
     cells: &mut C,
     name: &CellName,
     property: &Property,
-) -> Result<Reply, NoMemory>
+) -> Result<Reply, OpError>
     requires { IsTypedOp (Op.SetProp name.now Target.Whole property.now) }
-    ensures { IsDoneOrFails result (C.state cells.old) (C.state cells.new) (Op.SetProp name.now Target.Whole property.now) }
+    ensures { IsDoneOrRefused result (C.state cells.old) (C.state cells.new) (Op.SetProp name.now Target.Whole property.now) }
 {
-    let id = match read_named(cells, name)? {
-        Ok(id) => id,
-        Err(refusal) => return Ok(refusal),
-    };
+    let id = read_named(cells, name)?;
     let made = with_own_property(alloc, cells.face(id)?, property)?;
     let change = CellChange::Face {
         id,
@@ -47,16 +44,13 @@ fn set_of_inst<C: Cells>(
     name: &CellName,
     inst: &Ident,
     property: &Property,
-) -> Result<Reply, NoMemory>
+) -> Result<Reply, OpError>
     requires { IsTypedOp (Op.SetProp name.now (Target.Inst inst.now) property.now) }
-    ensures { IsDoneOrFails result (C.state cells.old) (C.state cells.new) (Op.SetProp name.now (Target.Inst inst.now) property.now) }
+    ensures { IsDoneOrRefused result (C.state cells.old) (C.state cells.new) (Op.SetProp name.now (Target.Inst inst.now) property.now) }
 {
-    let id = match read_named(cells, name)? {
-        Ok(id) => id,
-        Err(refusal) => return Ok(refusal),
-    };
-    let planned = plan_inst_property(alloc, cells.contents(id)?, inst, property)?;
-    put_planned(alloc, cells, id, planned, None)
+    let id = read_named(cells, name)?;
+    let plan = plan_inst_property(alloc, cells.contents(id)?, inst, property)?;
+    put_plan(alloc, cells, id, plan, None)
 }
 
 /// Sets a property of a net.
@@ -66,16 +60,13 @@ fn set_of_net<C: Cells>(
     name: &CellName,
     net: &Ident,
     property: &Property,
-) -> Result<Reply, NoMemory>
+) -> Result<Reply, OpError>
     requires { IsTypedOp (Op.SetProp name.now (Target.Net net.now) property.now) }
-    ensures { IsDoneOrFails result (C.state cells.old) (C.state cells.new) (Op.SetProp name.now (Target.Net net.now) property.now) }
+    ensures { IsDoneOrRefused result (C.state cells.old) (C.state cells.new) (Op.SetProp name.now (Target.Net net.now) property.now) }
 {
-    let id = match read_named(cells, name)? {
-        Ok(id) => id,
-        Err(refusal) => return Ok(refusal),
-    };
-    let planned = plan_net_property(alloc, cells.contents(id)?, net, property)?;
-    put_planned(alloc, cells, id, planned, None)
+    let id = read_named(cells, name)?;
+    let plan = plan_net_property(alloc, cells.contents(id)?, net, property)?;
+    put_plan(alloc, cells, id, plan, None)
 }
 
 /// Sets a property of a cell, or of one of its instances or nets.
@@ -85,9 +76,9 @@ pub fn set_prop<C: Cells>(
     name: &CellName,
     target: &Target,
     property: &Property,
-) -> Result<Reply, NoMemory>
+) -> Result<Reply, OpError>
     requires { IsTypedOp (Op.SetProp name.now target.now property.now) }
-    ensures { IsDoneOrFails result (C.state cells.old) (C.state cells.new) (Op.SetProp name.now target.now property.now) }
+    ensures { IsDoneOrRefused result (C.state cells.old) (C.state cells.new) (Op.SetProp name.now target.now property.now) }
 {
     match target {
         Target::Whole => set_own(alloc, cells, name, property),

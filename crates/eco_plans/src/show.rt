@@ -11,26 +11,23 @@ ghost use Rattle.edit_spec.specs.Inside.{no_net};
 ghost use Rattle.edit_spec.specs.ShowNet.{ends_of_net};
 ghost use Rattle.edit_cells.specs.Parts.{HasLimits, IsFace, seen_at};
 ghost use Rattle.edit_cells.specs.State.{HasRead, HasReadSome};
-ghost use Rattle.eco_reads.specs.Done.{IsDoneOrFails};
+ghost use Rattle.eco_reads.specs.Outcome.{IsDoneOrRefused};
 ghost use Rattle.eco_plans.specs.Shown.{AreFacesOf, end_seen, ends_seen, seen_end, seen_name};
 
 use crate::show_plans::{
     EndAt, cell_name, ends_of, inst_of, lib_name, port_count, port_name, shown,
 };
-use eco_reads::read_named;
+use eco_reads::{OpError, read_named};
 use edit_cells::Cells;
 use edit_spec::{CellName, EndName, Op, Reply};
 use netlist_schema::{CellId, Copied, Ident, NoMemory, Row};
 use std::alloc::Global;
 
 /// Counts the ports, instances and nets of a cell.
-pub fn show_cell<C: Cells>(cells: &mut C, name: &CellName) -> Result<Reply, NoMemory>
-    ensures { IsDoneOrFails result (C.state cells.old) (C.state cells.new) (Op.ShowCell name.now) }
+pub fn show_cell<C: Cells>(cells: &mut C, name: &CellName) -> Result<Reply, OpError>
+    ensures { IsDoneOrRefused result (C.state cells.old) (C.state cells.new) (Op.ShowCell name.now) }
 {
-    let id = match read_named(cells, name)? {
-        Ok(id) => id,
-        Err(refusal) => return Ok(refusal),
-    };
+    let id = read_named(cells, name)?;
     let ports = port_count(cells.face(id)?);
     Ok(shown(ports, cells.contents(id)?))
 }
@@ -80,15 +77,12 @@ pub fn show_net<C: Cells>(
     cells: &mut C,
     name: &CellName,
     net: &Ident,
-) -> Result<Reply, NoMemory>
-    ensures { IsDoneOrFails result (C.state cells.old) (C.state cells.new) (Op.ShowNet name.now net.now) }
+) -> Result<Reply, OpError>
+    ensures { IsDoneOrRefused result (C.state cells.old) (C.state cells.new) (Op.ShowNet name.now net.now) }
 {
-    let id = match read_named(cells, name)? {
-        Ok(id) => id,
-        Err(refusal) => return Ok(refusal),
-    };
+    let id = read_named(cells, name)?;
     let Some(ends) = ends_of(alloc, cells.contents(id)?, id, net)? else {
-        return Ok(Reply::NoNet);
+        return Err(OpError::Refused(Reply::NoNet));
     };
     let shown = name_ends(alloc, cells, ends.as_slice())?;
     Ok(Reply::Net {
@@ -129,18 +123,15 @@ pub fn show_inst<C: Cells>(
     cells: &mut C,
     name: &CellName,
     inst: &Ident,
-) -> Result<Reply, NoMemory>
-    ensures { IsDoneOrFails result (C.state cells.old) (C.state cells.new) (Op.ShowInst name.now inst.now) }
+) -> Result<Reply, OpError>
+    ensures { IsDoneOrRefused result (C.state cells.old) (C.state cells.new) (Op.ShowInst name.now inst.now) }
 {
-    let id = match read_named(cells, name)? {
-        Ok(id) => id,
-        Err(refusal) => return Ok(refusal),
-    };
+    let id = read_named(cells, name)?;
     let Some((of, properties)) = inst_of(alloc, cells.contents(id)?, inst)? else {
-        return Ok(Reply::NoInst);
+        return Err(OpError::Refused(Reply::NoInst));
     };
     match name_of(alloc, cells, of)? {
         Some(of) => Ok(Reply::Inst { of, properties }),
-        None => Ok(Reply::NoInst),
+        None => Err(OpError::Refused(Reply::NoInst)),
     }
 }

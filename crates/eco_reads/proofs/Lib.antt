@@ -2,6 +2,7 @@ pub mod Below
 pub mod Found
 pub mod Going
 pub mod NoteReads
+pub mod Outcomes
 pub mod Paths
 pub mod Within
 pub mod Reading

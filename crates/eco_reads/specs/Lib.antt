@@ -1,4 +1,5 @@
 pub mod Done
+pub mod Outcome
 pub mod Plan
 pub mod Walk
 pub mod Named

@@ -3,6 +3,7 @@
 
 mod find;
 mod named;
+mod op_error;
 mod places;
 mod plan;
 mod read;
@@ -13,8 +14,9 @@ pub use find::{
     inst_place, is_inst_taken, is_net_taken, is_same, net_place, port_place, property_place,
 };
 pub use named::NamedInsts;
+pub use op_error::OpError;
 pub use places::places_by_name;
 pub use plan::Plan;
-pub use read::read_named;
+pub use read::{find_named, read_named};
 pub use walk::{add_inside, goes_through, leads, reaches};
-pub use write::{put_notes, put_planned, write_one};
+pub use write::{put_notes, put_plan, write_one};

@@ -1,8 +1,10 @@
 //! What an operation writes.
-ghost use Rattle.std.specs.Prelude.{◌≡◌, IfOk, OnErr, OnOk, MatchResult, None, [], ◌∷◌};
+ghost use Rattle.std.specs.Prelude.{◌≡◌, IfOk, OnErr, OnOk, MatchResult, None, Ok, [], ◌∷◌};
 ghost use Rattle.edit_cells.specs.Change.{HasMade, edits_of};
+ghost use Rattle.eco_reads.specs.Outcome.{IsNotRefused};
 ghost use Rattle.eco_reads.specs.Plan.{AreNotesPut, CanBePut, CanNotesBePut, IsGood, IsPut, one_change, only_notes};
 
+use crate::op_error::OpError;
 use crate::plan::Plan;
 use edit_cells::{CellChange, Cells, Change};
 use edit_spec::Reply;
@@ -36,24 +38,21 @@ pub fn write_one<C: Cells>(
     })
 }
 
-/// Puts what was planned into a cell, with other notes where they are given; or answers the refusal.
-pub fn put_planned<C: Cells>(
+/// Puts what was planned into a cell, with other notes where they are given, and answers `Done`. The one error is `NoMemory`,
+/// after which nothing is changed.
+pub fn put_plan<C: Cells>(
     alloc: Global,
     cells: &mut C,
     id: CellId,
-    planned: Result<Plan, Reply>,
+    plan: Plan,
     notes: Option<Row<Note>>,
-) -> Result<Reply, NoMemory>
-    requires { CanBePut (C.state cells.old).design id notes planned }
-    ensures { MatchResult result (IsPut (C.state cells.old) (C.state cells.new) id notes planned) (λ _. C.state cells.new ≡ C.state cells.old) }
+) -> Result<Reply, OpError>
+    requires { CanBePut (C.state cells.old).design id notes (Ok plan) }
+    ensures put { MatchResult result (IsPut (C.state cells.old) (C.state cells.new) id notes (Ok plan)) (λ _. C.state cells.new ≡ C.state cells.old) }
+    ensures err { IsNotRefused result }
 {
-    match planned {
-        Ok(plan) => {
-            write_one(alloc, cells, plan.change(id), notes)?;
-            Ok(Reply::Done)
-        }
-        Err(refusal) => Ok(refusal),
-    }
+    write_one(alloc, cells, plan.change(id), notes)?;
+    Ok(Reply::Done)
 }
 
 /// Puts other notes in place. Takes no memory of its own.
@@ -68,20 +67,12 @@ fn write_notes<C: Cells>(alloc: Global, cells: &mut C, notes: Row<Note>) -> Resu
     })
 }
 
-/// Puts the notes that were planned in place, or answers the refusal.
-pub fn put_notes<C: Cells>(
-    alloc: Global,
-    cells: &mut C,
-    planned: Result<Row<Note>, Reply>,
-) -> Result<Reply, NoMemory>
-    requires { CanNotesBePut (C.state cells.old).design planned }
-    ensures { MatchResult result (AreNotesPut (C.state cells.old) (C.state cells.new) planned) (λ _. C.state cells.new ≡ C.state cells.old) }
+/// Puts the notes that were planned in place, and answers `Done`. The one error is `NoMemory`, after which nothing is changed.
+pub fn put_notes<C: Cells>(alloc: Global, cells: &mut C, notes: Row<Note>) -> Result<Reply, OpError>
+    requires { CanNotesBePut (C.state cells.old).design (Ok notes) }
+    ensures put { MatchResult result (AreNotesPut (C.state cells.old) (C.state cells.new) (Ok notes)) (λ _. C.state cells.new ≡ C.state cells.old) }
+    ensures err { IsNotRefused result }
 {
-    match planned {
-        Ok(notes) => {
-            write_notes(alloc, cells, notes)?;
-            Ok(Reply::Done)
-        }
-        Err(refusal) => Ok(refusal),
-    }
+    write_notes(alloc, cells, notes)?;
+    Ok(Reply::Done)
 }

@@ -1,11 +1,12 @@
 //! The operation.
 ghost use Rattle.std.specs.Prelude.{◌≡◌, MatchResult};
 ghost use Rattle.edit_spec.specs.declared.ops.Op.TheVariants.{Ungroup};
-ghost use Rattle.eco_reads.specs.Done.{IsDone, IsDoneOrFails};
+ghost use Rattle.eco_reads.specs.Done.{IsDone};
+ghost use Rattle.eco_reads.specs.Outcome.{IsDoneOrRefused};
 
 use crate::notes::read_notes;
 use crate::reads::{read_inst, read_within};
-use eco_reads::{Plan, put_planned, read_named};
+use eco_reads::{OpError, Plan, put_plan, read_named};
 use edit_cells::Cells;
 use edit_spec::{CellName, Reply};
 use netlist_schema::{Ident, NoMemory};
@@ -18,26 +19,18 @@ fn try_ungroup<C: Cells>(
     cells: &mut C,
     cell: &CellName,
     inst: &Ident,
-) -> Result<Reply, NoMemory>
-    ensures { IsDoneOrFails result (C.state cells.old) (C.state cells.new) (Ungroup cell.now inst.now) }
+) -> Result<Reply, OpError>
+    ensures { IsDoneOrRefused result (C.state cells.old) (C.state cells.new) (Ungroup cell.now inst.now) }
 {
-    let id = match read_named(cells, cell)? {
-        Ok(id) => id,
-        Err(refusal) => return Ok(refusal),
-    };
+    let id = read_named(cells, cell)?;
     let read = read_notes(alloc, cells, id, inst)?;
     let of = read_inst(cells, id, inst)?;
     let within = read_within(alloc, cells, of)?;
     let places = read.places.as_slice();
     let notes = read.notes.as_slice();
-    let planned = plan_ungroup(alloc, cells.contents(id)?, inst, &within, notes, places)?;
-    match planned {
-        Ok(made) => {
-            let Ungrouped { contents, notes } = made;
-            put_planned(alloc, cells, id, Ok(Plan::Whole(contents)), notes)
-        }
-        Err(refusal) => Ok(refusal),
-    }
+    let made = plan_ungroup(alloc, cells.contents(id)?, inst, &within, notes, places)?;
+    let Ungrouped { contents, notes } = made;
+    put_plan(alloc, cells, id, Plan::Whole(contents), notes)
 }
 
 /// Dissolves an instance of a cell with contents into the cell that holds it: the reply and the design are those of the definition
@@ -59,9 +52,10 @@ pub fn ungroup<C: Cells>(
     let mark = cells.mark();
     match try_ungroup(alloc, cells, cell, inst) {
         Ok(reply) => Ok(reply),
-        Err(refused) => {
+        Err(OpError::Refused(reply)) => Ok(reply),
+        Err(OpError::NoMemory) => {
             cells.back(mark);
-            Err(refused)
+            Err(NoMemory)
         }
     }
 }

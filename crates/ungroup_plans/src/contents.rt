@@ -1,6 +1,7 @@
 //! The contents afterwards.
 ghost use Rattle.std.specs.Prelude.{◌≡◌, ◌<◌, IfOk, Some, length, slice_get};
 ghost use Rattle.netlist_schema.specs.Types.{Inst as InstType};
+ghost use Rattle.eco_reads.specs.Outcome.{UnlessNoMemory};
 ghost use Rattle.ungroup_plans.specs.Heads.{AreSound, site};
 ghost use Rattle.ungroup_plans.specs.Planned.{IsDissolved};
 
@@ -8,8 +9,8 @@ use crate::groups::group_nets;
 use crate::insts::insts_after;
 use crate::limits::{over_insts, over_nets};
 use crate::nets::nets_after;
-use edit_spec::Reply;
-use netlist_schema::{Contents, NoMemory};
+use eco_reads::OpError;
+use netlist_schema::Contents;
 use std::alloc::Global;
 
 /// The contents after the instance at a place is dissolved into them, or the first limit that they would pass: of instances, nets,
@@ -19,22 +20,22 @@ pub(crate) fn dissolved(
     around: &Contents,
     place: u32,
     within: &Contents,
-) -> Result<Result<Contents, Reply>, NoMemory>
+) -> Result<Contents, OpError>
     requires around { AreSound around.now }
     requires within { AreSound within.now }
     requires place { place < length around.now.insts }
-    ensures { IfOk result (λ made. (inst : InstType) → slice_get around.now.insts place ≡ Some inst → IsDissolved (site around.now place inst within.now) made) }
+    ensures { (inst : InstType) → slice_get around.now.insts place ≡ Some inst → UnlessNoMemory (IsDissolved (site around.now place inst within.now)) result }
 {
     let outer = around.insts.as_slice();
     if let Some(refusal) = over_insts(outer.len(), within.insts.as_slice().len()) {
-        return Ok(Err(refusal));
+        return Err(OpError::Refused(refusal));
     }
     let grouped = group_nets(alloc, around, place, within)?;
     if let Some(refusal) = over_nets(&grouped) {
-        return Ok(Err(refusal));
+        return Err(OpError::Refused(refusal));
     }
     let insts = insts_after(alloc, around, place, within)?;
     let name = &outer[place as usize].name;
     let nets = nets_after(alloc, around.nets.as_slice(), name, grouped)?;
-    Ok(Ok(Contents { insts, nets }))
+    Ok(Contents { insts, nets })
 }

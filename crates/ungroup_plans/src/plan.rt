@@ -1,14 +1,15 @@
 //! What is planned for an instance that is dissolved.
 ghost use Rattle.std.specs.Prelude.{◌≡◌, IfOk, IfSome, length};
 ghost use Rattle.std.specs.Option.{option_copied};
+ghost use Rattle.eco_reads.specs.Outcome.{UnlessNoMemory};
 ghost use Rattle.ungroup_plans.specs.Heads.{AreSound};
 ghost use Rattle.ungroup_plans.specs.Planned.{IsPlanned};
 
 use crate::contents::dissolved;
 use crate::notes::moved_notes;
-use eco_reads::inst_place;
+use eco_reads::{OpError, inst_place};
 use edit_spec::Reply;
-use netlist_schema::{Contents, Ident, NoMemory, Note, Row};
+use netlist_schema::{Contents, Ident, Note, Row};
 use std::alloc::Global;
 
 /// Contents and notes after an instance is dissolved.
@@ -30,27 +31,24 @@ pub fn plan_ungroup(
     within: &Option<Contents>,
     notes: &[Note],
     places: &[Option<usize>],
-) -> Result<Result<Ungrouped, Reply>, NoMemory>
+) -> Result<Ungrouped, OpError>
     requires around { IfSome around (λ contents. AreSound contents.now) }
     requires within { IfSome within.now AreSound }
     requires long { length places.now ≡ length notes.now }
-    ensures { IfOk result (IsPlanned (option_copied around.entry) inst.now within.now notes.now places.now) }
+    ensures { UnlessNoMemory (IsPlanned (option_copied around.entry) inst.now within.now notes.now places.now) result }
 {
     let Some(around) = around else {
-        return Ok(Err(Reply::NoInst));
+        return Err(OpError::Refused(Reply::NoInst));
     };
     let Some(place) = inst_place(&around.insts, inst) else {
-        return Ok(Err(Reply::NoInst));
+        return Err(OpError::Refused(Reply::NoInst));
     };
     let Some(within) = within else {
-        return Ok(Err(Reply::IsLeaf));
+        return Err(OpError::Refused(Reply::IsLeaf));
     };
-    let contents = match dissolved(alloc, around, place as u32, within)? {
-        Ok(contents) => contents,
-        Err(refusal) => return Ok(Err(refusal)),
-    };
+    let contents = dissolved(alloc, around, place as u32, within)?;
     let inner = within.insts.as_slice();
     let children = &contents.insts.as_slice()[place..place + inner.len()];
     let notes = moved_notes(alloc, notes, places, inner, children)?;
-    Ok(Ok(Ungrouped { contents, notes }))
+    Ok(Ungrouped { contents, notes })
 }
