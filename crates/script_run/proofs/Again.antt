@@ -25,12 +25,14 @@ use Rattle.script_run_spec.proofs.Pins.{held_is_live, live_is_there}
 use Rattle.script_run_spec.proofs.Places.{commit_full}
 use Rattle.db_share.specs.Passes.{Shared, Pass, HasPin, IsReady}
 use Rattle.db_share.specs.Calls.{GoesOn as PassGoesOn}
+use Rattle.db_share.proofs.Opened.{goes_on_twice}
 use Rattle.script_held.specs.Holding.{block_of, held_of}
 use Rattle.script_held.specs.declared.held.Block.{Block}
 use Rattle.script_held.specs.declared.held.Held.{Held}
 use Rattle.script_held.specs.declared.held.Held.TheVariants as held
 use Rattle.script_held.specs.declared.held.Stop.{Stop}
 use Rattle.script_held.specs.declared.held.Stop.TheVariants.{Full, Short}
+use Rattle.script_held.proofs.Calls.{stays}
 use Rattle.script_run.specs.Coming.{Again, Begun, Comes, Refused, Starts, Stops, Tries, reply_lines}
 use Rattle.script_run.specs.Holding.{Stands}
 use Rattle.script_run.proofs.Calls.{makes_later, stands_then}
@@ -278,3 +280,25 @@ module _ (db : Shared) (old mid new : Pass) (before between text : List ℕ) (bl
         (of_next (λ (n : ℕ) (b : SessionHeld). IsBroken db.base n mid.seen new.seen b step.Commit (held_of h)) k.0)),
     k.1,
   )
+
+-- ---- a block that is committed until it is accepted or no retries are left
+
+-- the first block has come so far, and what comes of this one comes of the first
+pub record IsUnderWay (db : Shared) (first pass : Pass) (before text : List ℕ) (block next : Block) : Type 0 where
+  pub stands : Stands db pass (held.InBlock next)
+  pub on : PassGoesOn db first pass
+  pub rest : (new : Pass) (more : List ℕ) (result : Result Held Stop) → Comes db pass new text more (block_of next) step.Commit result → Comes db first new before more (block_of block) step.Commit result
+
+pub under_way : (db : Shared) (pass : Pass) (text : List ℕ) (block : Block) → Stands db pass (held.InBlock block) → IsUnderWay db pass pass text text block block
+under_way db pass text block stands = record { stands = stands; on = stays db pass stands.ready; rest = λ new more result comes. comes }
+
+pub further : (db : Shared) (first pass new : Pass) (before text more : List ℕ) (block now next : Block) → IsUnderWay db first pass before text block now → PassGoesOn db pass new → Again db pass new text more now next
+    → IsUnderWay db first new before more block next
+further db first pass new before text more block now next way on again = record {
+  stands = again.stands;
+  on = goes_on_twice db first pass new way.on on;
+  rest = λ last end result comes. way.rest last end result (again_comes db pass new last text more end now next again on.number result comes);
+}
+
+pub one_retry_less : (db : Shared) (old new : Pass) (before text : List ℕ) (block next : Block) → Again db old new before text block next → next.retries < block.retries
+one_retry_less db old new before text block next again = let less = again.retries in omega arith

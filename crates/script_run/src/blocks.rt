@@ -10,13 +10,13 @@ ghost use Rattle.script_held.specs.Holding.{block_of};
 ghost use Rattle.script_run.specs.Coming.{BeginsAgain, Comes, Commits, Tries, accepted, refused, reply_lines};
 ghost use Rattle.script_run.specs.Holding.{Stands};
 
+use crate::along::Along;
 use crate::lines::start_block;
-use db_share::{CommitError, Db, Pass, Tx};
+use db_share::{CommitError, Pass, Tx};
 use edit_spec::Op;
 use netdb_outside::Gate;
 use netlist_schema::{Copied, NoMemory, Object, Row};
 use script_held::{Block, Held, Stop, filled};
-use script_lang::{ScriptLine, Step};
 use script_say::{say_committed, say_conflict, say_log_full, say_reply};
 use std::alloc::Global;
 use std::sync::Wait;
@@ -35,18 +35,18 @@ pub(crate) fn try_op(alloc: Global, tx: &mut Tx, op: &Op, out: &mut Vec<u8>) -> 
 }
 
 /// Tells the gate that the caller is at the line so many behind the first one of a block.
-fn reach<G: Gate>(gate: &G, caller: u32, lines: &[ScriptLine], first: usize, behind: usize) {
+fn reach<G: Gate>(along: &Along<'_, G>, caller: u32, first: usize, behind: usize) {
+    let lines = along.lines;
     if first < lines.len() && behind < lines.len() - first {
-        gate.reached(caller, lines[first + behind].number);
+        along.gate.reached(caller, lines[first + behind].number);
     }
 }
 
 /// Tells the gate that the caller is at the commit line of a block.
-fn reach_commit<G: Gate>(gate: &G, caller: u32, lines: &[ScriptLine], block: &Block) {
+fn reach_commit<G: Gate>(along: &Along<'_, G>, caller: u32, block: &Block) {
     reach(
-        gate,
+        along,
         caller,
-        lines,
         block.first,
         block.tx.ops().as_slice().len() + 1,
     );
@@ -54,12 +54,10 @@ fn reach_commit<G: Gate>(gate: &G, caller: u32, lines: &[ScriptLine], block: &Bl
 
 /// Runs the operations of a block again, each at its line, and says their replies. The pin stays.
 fn run_ops<G: Gate>(
-    alloc: Global,
+    along: &Along<'_, G>,
     block: &mut Block,
     ops: &[Op],
     caller: u32,
-    lines: &[ScriptLine],
-    gate: &G,
     out: &mut Vec<u8>,
 ) -> Result<(), NoMemory>
     requires { block.old.tx ≡ started block.old.tx.pin }
@@ -69,64 +67,73 @@ fn run_ops<G: Gate>(
     ensures retries { block.new.retries ≡ block.old.retries }
 {
     for done in 0..ops.len() {
-        reach(gate, caller, lines, block.first, done + 1);
-        let Ok(()) = try_op(alloc, &mut block.tx, &ops[done], out) else {
+        reach(along, caller, block.first, done + 1);
+        let Ok(()) = try_op(along.alloc, &mut block.tx, &ops[done], out) else {
             return Err(NoMemory);
         };
     }
     Ok(())
 }
 
-/// Begins a block whose commit was refused on a new pin of the last version, and runs its operations again. So many retries are
-/// left then.
-fn begin_again<G: Gate>(
-    rt: &impl Wait,
-    alloc: Global,
-    db: &Db,
-    pass: &mut Pass,
-    ops: &[Op],
+/// A block whose commit was refused, as it is to be begun again.
+#[derive(Clone, Copy)]
+struct Begin<'a> {
+    ops: &'a [Op],
+    /// How many retries are left then.
     retries: u32,
     first: usize,
-    lines: &[ScriptLine],
-    gate: &G,
+}
+
+/// Begins a block whose commit was refused on a new pin of the last version, and runs its operations again.
+fn begin_again<G: Gate>(
+    rt: &impl Wait,
+    along: &Along<'_, G>,
+    pass: &mut Pass,
+    begin: Begin<'_>,
     out: &mut Vec<u8>,
 ) -> Result<Block, Stop>
-    requires { Stands db.now pass.old Held.Nothing }
-    ensures on { GoesOn db.now pass.old pass.new }
-    ensures begins { BeginsAgain db.now pass.old pass.new out.old.items out.new.items ops.now retries result }
+    requires { Stands along.now.db.now pass.old Held.Nothing }
+    ensures on { GoesOn along.now.db.now pass.old pass.new }
+    ensures begins { BeginsAgain along.now.db.now pass.old pass.new out.old.items out.new.items begin.ops.now begin.retries result }
 {
-    reach(gate, pass.number(), lines, first, 0);
-    let mut block = match start_block(rt, alloc, db, pass, retries, first, out) {
+    reach(along, pass.number(), begin.first, 0);
+    let mut block = match start_block(rt, along, pass, begin.retries, begin.first, out) {
         Ok(block) => block,
         Err(stop) => return Err(stop),
     };
-    match run_ops(alloc, &mut block, ops, pass.number(), lines, gate, out) {
+    match run_ops(along, &mut block, begin.ops, pass.number(), out) {
         Ok(()) => Ok(block),
         Err(NoMemory) => Err(Stop::Short(Held::InBlock(block))),
     }
 }
 
-/// Says the conflict that refused a transaction, and releases its pin. The operations come back.
-fn give_up(
-    rt: &impl Wait,
-    alloc: Global,
-    db: &Db,
-    pass: &mut Pass,
-    tx: Tx,
+/// Why a commit was refused: the object that it read, and the later commit that wrote it.
+#[derive(Clone, Copy)]
+struct Conflict {
     object: Object,
     version: u64,
+}
+
+/// Says the conflict that refused a transaction, and releases its pin. The operations come back.
+fn give_up<G: Gate>(
+    rt: &impl Wait,
+    along: &Along<'_, G>,
+    pass: &mut Pass,
+    tx: Tx,
+    conflict: Conflict,
     out: &mut Vec<u8>,
 ) -> Result<Row<Op>, NoMemory>
-    requires ready { IsReady db.now pass.old }
-    requires pin { HasPin db.now pass.old tx.pin }
-    ensures on { GoesOn db.now pass.old pass.new }
-    ensures released { HasReleased db.now pass.old pass.new tx.pin }
+    requires ready { IsReady along.now.db.now pass.old }
+    requires pin { HasPin along.now.db.now pass.old tx.pin }
+    ensures on { GoesOn along.now.db.now pass.old pass.new }
+    ensures released { HasReleased along.now.db.now pass.old pass.new tx.pin }
     ensures ops { IfOk result (λ ops. ops ≡ tx.ops) }
-    ensures said { OnOk result (out.new.items ≡ out.old.items ++ line (conflict_words tx.pin.design object version)) }
+    ensures said { OnOk result (out.new.items ≡ out.old.items ++ line (conflict_words tx.pin.design conflict.object conflict.version)) }
 {
     let (pin, ops, _replies) = tx.into_parts();
-    let said = say_conflict(alloc, pin.snapshot_ref(), object, version, out);
-    db.release(rt, pass, pin);
+    let Conflict { object, version } = conflict;
+    let said = say_conflict(along.alloc, pin.snapshot_ref(), object, version, out);
+    along.db.release(rt, pass, pin);
     match said {
         Ok(()) => Ok(ops),
         Err(NoMemory) => Err(NoMemory),
@@ -154,21 +161,20 @@ fn refused(said: Result<Row<Op>, NoMemory>) -> Result<Option<Row<Op>>, Stop>
 }
 
 /// Commits a block once, and releases its pin. Where the commit meets a conflict, the operations come back.
-fn commit_once(
+fn commit_once<G: Gate>(
     rt: &impl Wait,
-    alloc: Global,
-    db: &Db,
+    along: &Along<'_, G>,
     pass: &mut Pass,
     block: Block,
     out: &mut Vec<u8>,
 ) -> Result<Option<Row<Op>>, Stop>
-    requires { Stands db.now pass.old (Held.InBlock block) }
-    ensures on { GoesOn db.now pass.old pass.new }
-    ensures commits { Commits db.now pass.old pass.new out.old.items out.new.items block result }
+    requires { Stands along.now.db.now pass.old (Held.InBlock block) }
+    ensures on { GoesOn along.now.db.now pass.old pass.new }
+    ensures commits { Commits along.now.db.now pass.old pass.new out.old.items out.new.items block result }
 {
-    match db.commit(rt, alloc, pass, block.tx) {
+    match along.db.commit(rt, along.alloc, pass, block.tx) {
         Ok((version, pin)) => {
-            db.release(rt, pass, pin);
+            along.db.release(rt, pass, pin);
             accepted(say_committed(version, out))
         }
         Err((CommitError::LogFull, tx)) => {
@@ -176,7 +182,8 @@ fn commit_once(
         }
         Err((CommitError::NoMemory, tx)) => Err(Stop::Short(Held::OnPin(tx.abandon()))),
         Err((CommitError::Conflict { object, version }, tx)) => {
-            refused(give_up(rt, alloc, db, pass, tx, object, version, out))
+            let conflict = Conflict { object, version };
+            refused(give_up(rt, along, pass, tx, conflict, out))
         }
     }
 }
@@ -184,21 +191,18 @@ fn commit_once(
 /// Commits a block once, and begins it again where its commit meets a conflict and retries are left.
 fn try_block<G: Gate>(
     rt: &impl Wait,
-    alloc: Global,
-    db: &Db,
+    along: &Along<'_, G>,
     pass: &mut Pass,
     block: Block,
-    lines: &[ScriptLine],
-    gate: &G,
     out: &mut Vec<u8>,
 ) -> Result<Option<Block>, Stop>
-    requires { Stands db.now pass.old (Held.InBlock block) }
-    ensures on { GoesOn db.now pass.old pass.new }
-    ensures tries { Tries db.now pass.old pass.new out.old.items out.new.items block result }
+    requires { Stands along.now.db.now pass.old (Held.InBlock block) }
+    ensures on { GoesOn along.now.db.now pass.old pass.new }
+    ensures tries { Tries along.now.db.now pass.old pass.new out.old.items out.new.items block result }
 {
     let retries = block.retries;
     let first = block.first;
-    let ops = match commit_once(rt, alloc, db, pass, block, out) {
+    let ops = match commit_once(rt, along, pass, block, out) {
         Ok(Some(ops)) => ops,
         Ok(None) => return Ok(None),
         Err(stop) => return Err(stop),
@@ -206,18 +210,12 @@ fn try_block<G: Gate>(
     if retries == 0 {
         return Ok(None);
     }
-    match begin_again(
-        rt,
-        alloc,
-        db,
-        pass,
-        ops.as_slice(),
-        retries - 1,
+    let begin = Begin {
+        ops: ops.as_slice(),
+        retries: retries - 1,
         first,
-        lines,
-        gate,
-        out,
-    ) {
+    };
+    match begin_again(rt, along, pass, begin, out) {
         Ok(next) => Ok(Some(next)),
         Err(stop) => Err(stop),
     }
@@ -226,24 +224,22 @@ fn try_block<G: Gate>(
 /// Commits a block, which is run again after a conflict while retries are left. The gate is called again for each of its lines then.
 pub(crate) fn commit_block<G: Gate>(
     rt: &impl Wait,
-    alloc: Global,
-    db: &Db,
+    along: &Along<'_, G>,
     pass: &mut Pass,
     block: Block,
-    lines: &[ScriptLine],
-    gate: &G,
     out: &mut Vec<u8>,
 ) -> Result<Held, Stop>
-    requires { Stands db.now pass.old (Held.InBlock block) }
-    ensures on { GoesOn db.now pass.old pass.new }
-    ensures comes { Comes db.now pass.old pass.new out.old.items out.new.items (block_of block) Step.Commit result }
+    requires { Stands along.now.db.now pass.old (Held.InBlock block) }
+    ensures on { GoesOn along.now.db.now pass.old pass.new }
+    ensures comes { Comes along.now.db.now pass.old pass.new out.old.items out.new.items (block_of block) Step.Commit result }
 {
-    match try_block(rt, alloc, db, pass, block, lines, gate, out) {
-        Ok(None) => Ok(Held::Nothing),
-        Ok(Some(next)) => {
-            reach_commit(gate, pass.number(), lines, &next);
-            commit_block(rt, alloc, db, pass, next, lines, gate, out)
+    let mut block = block;
+    'again: loop {
+        match try_block(rt, along, pass, block, out) {
+            Ok(Some(next)) => block = next,
+            Ok(None) => return Ok(Held::Nothing),
+            Err(stop) => return Err(stop),
         }
-        Err(stop) => Err(stop),
+        reach_commit(along, pass.number(), &block);
     }
 }

@@ -1,6 +1,7 @@
 //! One script, run as one caller of a shared database.
 #![tactic(auto)]
 
+mod along;
 mod blocks;
 mod lines;
 mod places;

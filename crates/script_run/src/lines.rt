@@ -8,7 +8,9 @@ ghost use Rattle.script_held.specs.Holding.{block_of, held_of};
 ghost use Rattle.script_run.specs.Coming.{Comes, Starts};
 ghost use Rattle.script_run.specs.Holding.{Stands};
 
+use crate::along::Along;
 use db_share::{CollectError, Db, Pass, Pin, PinAtError, PinError, Tx};
+use netdb_outside::Gate;
 use netlist_schema::NoMemory;
 use script_held::{Block, Held, Stop, filled, told};
 use script_lang::Step;
@@ -118,20 +120,19 @@ pub(crate) fn show(
 }
 
 /// Begins a transaction on a pin of the last version. Its line stands at this place among the lines of the script.
-pub(crate) fn start_block(
+pub(crate) fn start_block<G: Gate>(
     rt: &impl Wait,
-    alloc: Global,
-    db: &Db,
+    along: &Along<'_, G>,
     pass: &mut Pass,
     retries: u32,
     first: usize,
     out: &mut Vec<u8>,
 ) -> Result<Block, Stop>
-    requires { Stands db.now pass.old Held.Nothing }
-    ensures on { GoesOn db.now pass.old pass.new }
-    ensures starts { Starts db.now pass.old pass.new out.old.items out.new.items retries result }
+    requires { Stands along.now.db.now pass.old Held.Nothing }
+    ensures on { GoesOn along.now.db.now pass.old pass.new }
+    ensures starts { Starts along.now.db.now pass.old pass.new out.old.items out.new.items retries result }
 {
-    let pin = match db.pin(rt, alloc, pass) {
+    let pin = match along.db.pin(rt, along.alloc, pass) {
         Ok(pin) => pin,
         Err(PinError::LogFull) => return Err(filled(say_log_full(out), Held::Nothing)),
         Err(PinError::NoMemory) => return Err(Stop::Short(Held::Nothing)),
@@ -139,7 +140,7 @@ pub(crate) fn start_block(
     let Ok(()) = say_begin(pin.version(), out) else {
         return Err(Stop::Short(Held::OnPin(pin)));
     };
-    match Tx::start(alloc, pin) {
+    match Tx::start(along.alloc, pin) {
         Ok(tx) => Ok(Block { tx, retries, first }),
         Err((_, pin)) => Err(Stop::Short(Held::OnPin(pin))),
     }

@@ -9,6 +9,7 @@ ghost use Rattle.script_held.specs.Holding.{block_of, held_of};
 ghost use Rattle.script_run.specs.Coming.{Comes, MayStand, step_at};
 ghost use Rattle.script_run.specs.Holding.{Stands};
 
+use crate::along::Along;
 use crate::blocks::{commit_block, try_op};
 use crate::lines::{
     abandon_line, collect_line, pin_at_line, pin_line, release_line, show, start_block,
@@ -16,34 +17,33 @@ use crate::lines::{
 use db_share::{Db, Pass, Pin};
 use netdb_outside::Gate;
 use script_held::{Block, Held, Stop, told};
-use script_lang::{ScriptLine, Step};
+use script_lang::Step;
 use script_say::say_no_pin;
 use std::alloc::Global;
 use std::sync::Wait;
 
 /// A line where nothing is held, at this place among the lines of the script.
-fn free_line(
+fn free_line<G: Gate>(
     rt: &impl Wait,
-    alloc: Global,
-    db: &Db,
+    along: &Along<'_, G>,
     pass: &mut Pass,
     step: &Step,
     at: usize,
     out: &mut Vec<u8>,
 ) -> Result<Held, Stop>
-    requires stands { Stands db.now pass.old Held.Nothing }
+    requires stands { Stands along.now.db.now pass.old Held.Nothing }
     requires placed { MayStand Free step.now }
-    ensures on { GoesOn db.now pass.old pass.new }
-    ensures comes { Comes db.now pass.old pass.new out.old.items out.new.items Nothing step.now result }
+    ensures on { GoesOn along.now.db.now pass.old pass.new }
+    ensures comes { Comes along.now.db.now pass.old pass.new out.old.items out.new.items Nothing step.now result }
 {
     match step {
-        Step::Begin { retries } => match start_block(rt, alloc, db, pass, *retries, at, out) {
+        Step::Begin { retries } => match start_block(rt, along, pass, *retries, at, out) {
             Ok(block) => Ok(Held::InBlock(block)),
             Err(stop) => Err(stop),
         },
-        Step::Pin => pin_line(rt, alloc, db, pass, out),
-        Step::PinAt(version) => pin_at_line(rt, alloc, db, pass, *version, out),
-        Step::Collect => collect_line(rt, alloc, db, pass, Held::Nothing, out),
+        Step::Pin => pin_line(rt, along.alloc, along.db, pass, out),
+        Step::PinAt(version) => pin_at_line(rt, along.alloc, along.db, pass, *version, out),
+        Step::Collect => collect_line(rt, along.alloc, along.db, pass, Held::Nothing, out),
         _ => unreachable!(),
     }
 }
@@ -51,54 +51,50 @@ fn free_line(
 /// A line in a transaction.
 fn block_line<G: Gate>(
     rt: &impl Wait,
-    alloc: Global,
-    db: &Db,
+    along: &Along<'_, G>,
     pass: &mut Pass,
     mut block: Block,
     step: &Step,
-    lines: &[ScriptLine],
-    gate: &G,
     out: &mut Vec<u8>,
 ) -> Result<Held, Stop>
-    requires stands { Stands db.now pass.old (Held.InBlock block) }
+    requires stands { Stands along.now.db.now pass.old (Held.InBlock block) }
     requires placed { MayStand InsideBlock step.now }
-    ensures on { GoesOn db.now pass.old pass.new }
-    ensures comes { Comes db.now pass.old pass.new out.old.items out.new.items (block_of block) step.now result }
+    ensures on { GoesOn along.now.db.now pass.old pass.new }
+    ensures comes { Comes along.now.db.now pass.old pass.new out.old.items out.new.items (block_of block) step.now result }
 {
     match step {
         Step::Run(op) => {
-            let said = try_op(alloc, &mut block.tx, op, out);
+            let said = try_op(along.alloc, &mut block.tx, op, out);
             told(said, Held::InBlock(block))
         }
-        Step::Commit => commit_block(rt, alloc, db, pass, block, lines, gate, out),
-        Step::Abandon => abandon_line(rt, db, pass, block, out),
+        Step::Commit => commit_block(rt, along, pass, block, out),
+        Step::Abandon => abandon_line(rt, along.db, pass, block, out),
         _ => unreachable!(),
     }
 }
 
 /// A line where a pin is held.
-fn pinned_line(
+fn pinned_line<G: Gate>(
     rt: &impl Wait,
-    alloc: Global,
-    db: &Db,
+    along: &Along<'_, G>,
     pass: &mut Pass,
     pin: Pin,
     step: &Step,
     out: &mut Vec<u8>,
 ) -> Result<Held, Stop>
-    requires stands { Stands db.now pass.old (Held.OnPin pin) }
+    requires stands { Stands along.now.db.now pass.old (Held.OnPin pin) }
     requires placed { MayStand Holding step.now }
-    requires top { IsWalk step.now → ¬ (db.now.base.top ≡ None) }
-    ensures on { GoesOn db.now pass.old pass.new }
-    ensures comes { Comes db.now pass.old pass.new out.old.items out.new.items (OnPin pin.number pin.version) step.now result }
+    requires top { IsWalk step.now → ¬ (along.now.db.now.base.top ≡ None) }
+    ensures on { GoesOn along.now.db.now pass.old pass.new }
+    ensures comes { Comes along.now.db.now pass.old pass.new out.old.items out.new.items (OnPin pin.number pin.version) step.now result }
 {
     match step {
         Step::Walk { limit } => {
-            let said = show(alloc, &pin, *limit, out);
+            let said = show(along.alloc, &pin, *limit, out);
             told(said, Held::OnPin(pin))
         }
-        Step::Release => release_line(rt, db, pass, pin, out),
-        Step::Collect => collect_line(rt, alloc, db, pass, Held::OnPin(pin), out),
+        Step::Release => release_line(rt, along.db, pass, pin, out),
+        Step::Collect => collect_line(rt, along.alloc, along.db, pass, Held::OnPin(pin), out),
         _ => unreachable!(),
     }
 }
@@ -128,27 +124,24 @@ fn off_line(
 /// The line at this place of the script.
 pub(crate) fn run_line<G: Gate>(
     rt: &impl Wait,
-    alloc: Global,
-    db: &Db,
+    along: &Along<'_, G>,
     pass: &mut Pass,
     held: Held,
-    lines: &[ScriptLine],
     at: usize,
-    gate: &G,
     out: &mut Vec<u8>,
 ) -> Result<Held, Stop>
-    requires stands { Stands db.now pass.old held }
-    requires at { at < length lines.now }
-    requires placed { MayStand (place_of (held_of held)) (step_at lines.now at) }
-    requires top { IsWalk (step_at lines.now at) → ¬ (db.now.base.top ≡ None) }
-    ensures on { GoesOn db.now pass.old pass.new }
-    ensures comes { Comes db.now pass.old pass.new out.old.items out.new.items (held_of held) (step_at lines.now at) result }
+    requires stands { Stands along.now.db.now pass.old held }
+    requires at { at < length along.now.lines.now }
+    requires placed { MayStand (place_of (held_of held)) (step_at along.now.lines.now at) }
+    requires top { IsWalk (step_at along.now.lines.now at) → ¬ (along.now.db.now.base.top ≡ None) }
+    ensures on { GoesOn along.now.db.now pass.old pass.new }
+    ensures comes { Comes along.now.db.now pass.old pass.new out.old.items out.new.items (held_of held) (step_at along.now.lines.now at) result }
 {
-    let step = &lines[at].step;
+    let step = &along.lines[at].step;
     match held {
-        Held::Nothing => free_line(rt, alloc, db, pass, step, at, out),
-        Held::OnPin(pin) => pinned_line(rt, alloc, db, pass, pin, step, out),
-        Held::OffPin => off_line(rt, alloc, db, pass, step, out),
-        Held::InBlock(block) => block_line(rt, alloc, db, pass, block, step, lines, gate, out),
+        Held::Nothing => free_line(rt, along, pass, step, at, out),
+        Held::OnPin(pin) => pinned_line(rt, along, pass, pin, step, out),
+        Held::OffPin => off_line(rt, along.alloc, along.db, pass, step, out),
+        Held::InBlock(block) => block_line(rt, along, pass, block, step, out),
     }
 }

@@ -7,12 +7,13 @@ ghost use Rattle.db_share.specs.Passes.{IsReady};
 ghost use Rattle.db_share.specs.Calls.{GoesOn};
 ghost use Rattle.script_run.specs.Coming.{Ends};
 
+use crate::along::Along;
 use crate::places::run_line;
 use db_share::{Db, Pass};
 use netdb_outside::Gate;
 use netlist_schema::{NoMemory, Text};
 use script_held::{Held, Stop, settle};
-use script_lang::{Script, ScriptLine};
+use script_lang::Script;
 use std::alloc::Global;
 use std::sync::Wait;
 
@@ -26,25 +27,22 @@ pub struct Transcript {
 /// Runs the lines of a script, from nothing held, until they end or one of them stops it.
 fn run_lines<G: Gate>(
     rt: &impl Wait,
-    alloc: Global,
-    db: &Db,
+    along: &Along<'_, G>,
     pass: &mut Pass,
-    lines: &[ScriptLine],
-    gate: &G,
     out: &mut Vec<u8>,
 ) -> Result<Held, Stop>
-    requires ready { IsReady db.now pass.old }
+    requires ready { IsReady along.now.db.now pass.old }
     requires fresh { pass.old.own ≡ [] }
-    requires placed { ArePlaced Free (steps_of lines.now) }
-    requires top { CanWalk db.now.base (steps_of lines.now ∷ []) }
+    requires placed { ArePlaced Free (steps_of along.now.lines.now) }
+    requires top { CanWalk along.now.db.now.base (steps_of along.now.lines.now ∷ []) }
     requires empty { out.old.items ≡ [] }
-    ensures on { GoesOn db.now pass.old pass.new }
-    ensures ends { Ends db.now pass.new (steps_of lines.now) out.new.items result }
+    ensures on { GoesOn along.now.db.now pass.old pass.new }
+    ensures ends { Ends along.now.db.now pass.new (steps_of along.now.lines.now) out.new.items result }
 {
     let mut held = Held::Nothing;
-    for at in 0..lines.len() {
-        gate.reached(pass.number(), lines[at].number);
-        match run_line(rt, alloc, db, pass, held, lines, at, gate, out) {
+    for at in 0..along.lines.len() {
+        along.gate.reached(pass.number(), along.lines[at].number);
+        match run_line(rt, along, pass, held, at, out) {
             Ok(next) => held = next,
             Err(stop) => return Err(stop),
         }
@@ -76,7 +74,13 @@ pub fn run_script<G: Gate>(
     ensures broken { OnErr result (IsBrokenOff db.now.base pass.new.seen pass.new.number (steps_of script.now.lines)) }
 {
     let mut out = Vec::new(alloc);
-    let ended = run_lines(rt, alloc, db, pass, script.lines(), gate, &mut out);
+    let along = Along {
+        alloc,
+        db,
+        lines: script.lines(),
+        gate,
+    };
+    let ended = run_lines(rt, &along, pass, &mut out);
     let settled = settle(rt, db, pass, ended);
     gate.reached(pass.number(), script.last() + 1);
     match settled {
