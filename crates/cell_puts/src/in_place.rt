@@ -7,10 +7,7 @@ ghost use Rattle.edit_cells.specs.Patch.{cells_after, lib_after, place_of};
 ghost use Rattle.cell_puts.specs.Whole.{IsWhole};
 
 use edit_cells::{CellChange, Change, patched};
-use netlist_schema::{
-    CellBody, Contents, Copied, Design, Lib, Name, NoMemory, Note, Property, Row, Shared, Shown,
-    TopHead,
-};
+use netlist_schema::{CellBody, Contents, Copied, Design, Lib, Name, NoMemory, Note, Property, Row, Shared, Shown, TopHead, design_is_valid};
 use std::alloc::Global;
 
 /// Gives the cell at a place other properties, where there is one.
@@ -121,7 +118,7 @@ fn change_libs(alloc: Global, libs: &mut Vec<Lib>, change: CellChange) -> Result
 fn titled(alloc: Global, design: &Design) -> Result<Design, NoMemory>
     ensures { IfOk result (λ made. made ≡ record { title = design.now.title; libs = []; top = None; notes = [] }) }
 {
-    let _valid = design.lib_count();
+    design_is_valid(design);
     let title = design.title().copy(alloc)?;
     Ok(Design::of(
         title,

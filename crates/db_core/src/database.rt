@@ -14,7 +14,7 @@ use crate::vecs::{make_room, push_within};
 use conflict_check::{Later, Stamps};
 use db_spec::{Answer, Call, Event};
 use edit_tx::{Left, Pin, Snapshot, Tx, Version};
-use netlist_schema::{Copied, Design, MOST_EVENTS, NoMemory, Shown};
+use netlist_schema::{Copied, Design, MOST_EVENTS, NoMemory, design_is_valid};
 use pin_registry::Pins as Registry;
 use std::alloc::Global;
 use std::marker::Model;
@@ -68,7 +68,7 @@ impl Core {
         ensures { IfOk result (λ core. core ≡ record { opening = design; events = [] }) }
     {
         let opening = Snapshot::of(0, Arc::new(alloc, Version::of(alloc, design)?)?);
-        let _libs = opening.lib_count();
+        design_is_valid(&opening);
         let newest = opening.share()?;
         let first = opening.share()?;
         let mut versions = Vec::new(alloc);
@@ -91,6 +91,14 @@ impl Core {
         ensures short { length self.now.events ≤ most_events }
     {
         self.log.as_slice()
+    }
+
+    /// Tells what each history keeps: it is legal, and within its limit. Takes no memory, and does nothing.
+    pub fn history_is_legal(&self)
+        ensures history { IsHistory self.now }
+        ensures short { length self.now.events ≤ most_events }
+    {
+        let _ = &self.log;
     }
 
     /// Lends the design that the history begins with, whether version 0 is still kept or not. Takes no memory.

@@ -76,7 +76,7 @@ impl Db {
         ensures { IfOk result (λ r. Opens design callers r.0 r.1.items) }
     {
         let core = Core::new(alloc, design)?;
-        let _log = core.log();
+        core.history_is_legal();
         let (turn, passes) = Turn::new(alloc, SharedCore { core }, callers)?;
         Ok((Db { turn }, passes))
     }
@@ -88,7 +88,7 @@ impl Db {
         ensures core { result ≡ story self.now (taken pass.new) }
     {
         let shared = self.turn.enter(rt, pass);
-        let _log = shared.core.log();
+        shared.core.history_is_legal();
         shared
     }
 
@@ -98,7 +98,7 @@ impl Db {
         requires steps { Steps pass.old.number added (story self.now (taken pass.old)) shared }
         ensures { Leaves self.now pass.old pass.new shared }
     {
-        let _log = shared.core.log();
+        shared.core.history_is_legal();
         self.turn.leave(pass, shared, added);
     }
 
@@ -200,7 +200,7 @@ impl Db {
     {
         let Db { turn } = self;
         let SharedCore { core } = turn.close(passes);
-        let _log = core.log();
+        core.history_is_legal();
         core
     }
 }

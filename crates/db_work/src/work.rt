@@ -15,9 +15,7 @@ use db_version::{Snapshot, Version};
 use edit_cells::{
     Cells, Change, Face, Marks, contents_object, face_object, inside, object_for, seen,
 };
-use netlist_schema::{
-    CellBody, CellId, Contents, Ident, LibHead, LibId, NoMemory, Note, Object, Row, Shown,
-};
+use netlist_schema::{CellBody, CellId, Contents, Ident, LibHead, LibId, NoMemory, Note, Object, Row, Shown, design_is_valid};
 use std::alloc::Global;
 use std::marker::Model;
 use std::sync::Arc;
@@ -58,7 +56,7 @@ impl Work {
     pub fn new(alloc: Global, base: Snapshot) -> Result<Work, NoMemory>
         ensures { IfOk result (λ work. work ≡ record { base = base.design; design = base.design; reads = []; written = [] }) }
     {
-        let _valid = base.lib_count();
+        design_is_valid(&base);
         let draft = Draft::new(alloc, base)?;
         Ok(Work {
             alloc,

@@ -3,9 +3,7 @@ ghost use Rattle.std.specs.Prelude.{◌≡◌, IfOk};
 ghost use Rattle.std.specs.Option.{option_copied};
 ghost use Rattle.netlist_schema.specs.Design.{cells_in};
 
-use netlist_schema::{
-    CellBody, CellId, Copied, Design, Lib, LibHead, LibId, NoMemory, Row, Shown, TopHead,
-};
+use netlist_schema::{CellBody, CellId, Copied, Design, Lib, LibHead, LibId, NoMemory, Row, Shown, TopHead, design_is_valid};
 use std::alloc::Global;
 
 /// Copies of the cells of a library.
@@ -58,7 +56,7 @@ pub fn top_of(alloc: Global, top: Option<&TopHead>) -> Result<Option<TopHead>, N
 pub fn copy_of<S: Shown>(alloc: Global, design: &S) -> Result<Design, NoMemory>
     ensures { IfOk result (λ made. made ≡ S.design design.now) }
 {
-    let _valid = design.lib_count();
+    design_is_valid(design);
     let title = design.title().copy(alloc)?;
     let notes = design.notes().copy(alloc)?;
     let top = top_of(alloc, design.top())?;

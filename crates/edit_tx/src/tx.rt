@@ -16,7 +16,7 @@ use crate::pin::Pin;
 use db_version::Snapshot;
 use db_work::Work;
 use edit_spec::{Op, Reply, told};
-use netlist_schema::{NoMemory, Object, Row, Shown};
+use netlist_schema::{NoMemory, Object, Row, design_is_valid};
 use std::alloc::Global;
 use std::marker::Model;
 use std::sync::Arc;
@@ -94,8 +94,8 @@ impl Tx {
         requires agree { AgreesOn self.now.pin.design head.now.design (Reads self.now.pin.design self.now.ops) }
         ensures { IfOk result (λ made. made ≡ record { version = version; design = (run head.now.design self.now.ops).design }) }
     {
-        let _valid = self.pin.snapshot_ref().lib_count();
-        let _head = head.lib_count();
+        design_is_valid(self.pin.snapshot_ref());
+        design_is_valid(head);
         let made = self.work.onto(alloc, head)?;
         Ok(Snapshot::of(version, Arc::new(alloc, made)?))
     }

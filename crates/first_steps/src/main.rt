@@ -74,7 +74,7 @@ fn begin(rt: &HostRuntime, core: &mut Core, caller: u32) -> Result<Tx, Stop>
     ensures pin { IfOk result (λ tx. IsPinBy core.new caller tx.pin) }
     ensures others { KeepsPins core.old core.new }
 {
-    let _history = core.log();
+    core.history_is_legal();
     let pin = core.pin(caller)?;
     match Tx::start(rt.alloc(), pin) {
         Ok(tx) => Ok(tx),
@@ -88,7 +88,7 @@ fn commit(rt: &HostRuntime, core: &mut Core, tx: Tx) -> Result<Pin, Stop>
     ensures pin { IfOk result (λ pin. pin ≡ tx.pin) }
     ensures others { KeepsPins core.old core.new }
 {
-    let _history = core.log();
+    core.history_is_legal();
     match core.commit(tx) {
         Ok((version, pin)) => {
             println!(rt; "committed {version}")?;
@@ -109,7 +109,7 @@ fn edit(rt: &HostRuntime, core: &mut Core) -> Result<(), Stop> {
     add_net(rt, &mut theirs, "spare")?;
     let our_pin = commit(rt, core, ours)?;
     let their_pin = commit(rt, core, theirs)?;
-    let _history = core.log();
+    core.history_is_legal();
     core.release(our_pin);
     core.release(their_pin);
     Ok(())

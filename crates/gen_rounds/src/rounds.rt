@@ -47,7 +47,7 @@ fn commit(core: &mut Core, tx: Tx) -> Result<Pin, NoMemory>
     requires last { tx.pin.version ≡ head (state core.old) }
     ensures { IfOk result (IsAccepted core.old core.new tx) }
 {
-    let _events = core.log().len();
+    core.history_is_legal();
     match core.commit(tx) {
         Ok((_, back)) => Ok(back),
         Err((CommitError::NoMemory, _)) => Err(NoMemory),

@@ -64,6 +64,6 @@ pub fn end(run: Run) -> Core
     } = run;
     core.release(last);
     core.release(first);
-    let _events = core.log().len();
+    core.history_is_legal();
     core
 }

@@ -76,7 +76,7 @@ fn call(
     requires top { CanWalk core.old.opening (all_steps scripts.now) }
     ensures { IfOk result (CallComes core.old core.new (all_steps scripts.now) next most seats.old.items seats.new.items) }
 {
-    let _events = core.log().len();
+    core.history_is_legal();
     let place = next.caller as usize;
     let seat = swap_seat(seats, place, first_seat(alloc));
     let lines = scripts[place].lines();

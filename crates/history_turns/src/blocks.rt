@@ -61,7 +61,7 @@ pub(crate) fn begin_again(
 ) -> Result<Option<At>, NoMemory>
     ensures { (r : Bool) (lines : List Step) → IfOk result (ComesThere core.old core.new caller r (Again retries ops.now) lines said.old.items said.new.items) }
 {
-    let _events = core.log().len();
+    core.history_is_legal();
     match core.pin(caller) {
         Ok(pin) => {
             say_begin(pin.version(), said)?;
@@ -97,7 +97,7 @@ pub(crate) fn commit_line(
     requires { IsPinOf core.old block.tx.pin }
     ensures { IfOk result (Comes core.old core.new block.tx.pin.caller false (phase_of (At.InBlock block)) Commit said.old.items said.new.items) }
 {
-    let _events = core.log().len();
+    core.history_is_legal();
     let Block { tx, retries } = block;
     match core.commit(tx) {
         Ok((version, pin)) => {

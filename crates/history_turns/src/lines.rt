@@ -104,7 +104,7 @@ pub(crate) fn collect_line(
     requires at { IsAt core.old caller at }
     ensures { IfOk result (Comes core.old core.new caller false (phase_of at) Step.Collect said.old.items said.new.items) }
 {
-    let _events = core.log().len();
+    core.history_is_legal();
     match core.collect(caller) {
         Ok(count) => {
             say_collected(count, said)?;

@@ -221,7 +221,7 @@ pub fn take_turn(
     requires top { HasWalk (steps_of lines.now) → HasTop seat.at }
     ensures { IfOk result (λ next. MatchOption next (IsHalted core.old release (phase_of seat.at) (drop seat.line (steps_of lines.now)) seat.said.items most) (Turned core.old core.new caller release (steps_of lines.now) seat)) }
 {
-    let _events = core.log().len();
+    core.history_is_legal();
     let Seat { at, line, mut said } = seat;
     let Some((at, line)) = pass_quiet(alloc, at, lines, line, most, &mut said)? else {
         return Ok(None);

@@ -34,6 +34,6 @@ pub use property::{Name, Num, Property, Value};
 pub use row::Row;
 pub use shared::Shared;
 pub use shared_row::SharedRow;
-pub use shown::Shown;
+pub use shown::{Shown, design_is_valid};
 pub use text::Text;
 pub use width::Width;

@@ -20,7 +20,7 @@ pub fn pin_last(rt: &impl Abort, core: &mut Core, caller: u32) -> Pin
     ensures keeps { KeepsPins core.old core.new }
     ensures pin { IsPinBy core.new caller result }
 {
-    let _history = core.log();
+    core.history_is_legal();
     match core.pin(caller) {
         Ok(pin) => pin,
         Err(_) => rt.panic("no pin"),
@@ -32,7 +32,7 @@ fn pin_version(core: &mut Core, caller: u32, version: u64) -> Result<Pin, PinAtE
     ensures keeps { KeepsPins core.old core.new }
     ensures pin { IfOk result (IsPinBy core.new caller) }
 {
-    let _history = core.log();
+    core.history_is_legal();
     core.pin_at(caller, version)
 }
 
@@ -41,7 +41,7 @@ pub fn end_pin(core: &mut Core, caller: u32, pin: Pin)
     requires { IsPinBy core.old caller pin }
     ensures { KeepsOthers caller core.old core.new }
 {
-    let _history = core.log();
+    core.history_is_legal();
     core.release(pin);
 }
 
@@ -59,7 +59,7 @@ pub fn look_at(core: &mut Core, caller: u32, version: u64) -> Result<u64, PinAtE
 pub fn collect(core: &mut Core, caller: u32) -> Result<u32, CollectError>
     ensures { KeepsPins core.old core.new }
 {
-    let _history = core.log();
+    core.history_is_legal();
     core.collect(caller)
 }
 
@@ -73,7 +73,7 @@ pub fn accepted(rt: &impl Abort, core: &mut Core, caller: u32, tx: Tx, wanted: u
     ensures keeps { KeepsPins core.old core.new }
     ensures pin { IsPinBy core.new caller result }
 {
-    let _history = core.log();
+    core.history_is_legal();
     match core.commit(tx) {
         Ok((version, pin)) => {
             is_version(rt, version, wanted);
@@ -95,7 +95,7 @@ pub fn refused(rt: &impl Abort, core: &mut Core, caller: u32, tx: Tx, wanted: (O
     ensures keeps { KeepsPins core.old core.new }
     ensures back { IsPinBy core.new caller result.pin }
 {
-    let _history = core.log();
+    core.history_is_legal();
     match core.commit(tx) {
         Ok(_) => rt.panic("no conflict"),
         Err((error, back)) => {

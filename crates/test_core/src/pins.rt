@@ -34,7 +34,7 @@ fn pin_last(rt: &impl Abort, core: &mut Core, held: &Pin) -> Pin
     ensures held { IsPinBy core.new 0 held.now }
     ensures pin { IsPinBy core.new 1 result }
 {
-    let _history = core.log();
+    core.history_is_legal();
     match core.pin(1) {
         Ok(pin) => pin,
         Err(_) => rt.panic("no pin"),
@@ -48,7 +48,7 @@ fn commit(rt: &impl Abort, core: &mut Core, tx: Tx, held: &Pin) -> Pin
     ensures held { IsPinBy core.new 0 held.now }
     ensures pin { IsPinBy core.new 1 result }
 {
-    let _history = core.log();
+    core.history_is_legal();
     match core.commit(tx) {
         Ok((_, pin)) => pin,
         Err(_) => rt.panic("refused"),
@@ -64,6 +64,6 @@ pub fn commit_net(rt: &impl Abort, alloc: Global, core: &mut Core, held: &Pin)
     let mut tx = started(rt, alloc, own);
     run(rt, &mut tx, add_net(rt, alloc));
     let own = commit(rt, core, tx, held);
-    let _history = core.log();
+    core.history_is_legal();
     core.release(own);
 }

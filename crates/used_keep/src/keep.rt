@@ -5,7 +5,7 @@ ghost use Rattle.used_spec.specs.Kept.{kept, kept_below, kept_places};
 use crate::cells::{new_libs, new_top};
 use crate::error::KeepError;
 use crate::places::Places;
-use netlist_schema::{Copied, Design, NoMemory, Shown, TopHead};
+use netlist_schema::{Copied, Design, NoMemory, Shown, TopHead, design_is_valid};
 use std::alloc::Global;
 
 /// The design with nothing but its top and the cells below it, whose ids are numbered anew; libraries, properties, the top and the
@@ -31,7 +31,7 @@ fn keep_below<S: Shown>(alloc: Global, design: &S, top: &TopHead) -> Result<Desi
     requires { (S.design design.now).top ≡ Some top.now }
     ensures { IfOk result (λ made. made ≡ kept_below (S.design design.now) top.now) }
 {
-    let _valid = design.lib_count();
+    design_is_valid(design);
     let places = Places::of(alloc, design, top.cell)?;
     with_places(alloc, design, top, &places)
 }
@@ -47,7 +47,7 @@ fn with_places<S: Shown>(
     requires places { places.now ≡ kept_places (S.design design.now) top.now.cell }
     ensures { IfOk result (λ made. made ≡ kept_below (S.design design.now) top.now) }
 {
-    let _valid = design.lib_count();
+    design_is_valid(design);
     let title = design.title().copy(alloc)?;
     let notes = design.notes().copy(alloc)?;
     let head = new_top(alloc, places, top)?;

@@ -13,7 +13,7 @@ ghost use Rattle.used_spec.specs.Kept.{is_kept, kept_places};
 ghost use Rattle.used_keep.specs.Places.{IsRising, places_by, row_at, slots_by};
 
 use flat_cells::cells_below;
-use netlist_schema::{CellId, LibId, NoMemory, Row, Shown};
+use netlist_schema::{CellId, LibId, NoMemory, Row, Shown, design_is_valid};
 use std::alloc::Global;
 use std::collections::BTreeSet;
 use std::marker::Model;
@@ -109,7 +109,7 @@ impl Places {
         requires { IsCell (S.design design.now) top }
         ensures { IfOk result (λ places. places ≡ kept_places (S.design design.now) top) }
     {
-        let _valid = design.lib_count();
+        design_is_valid(design);
         let cells = cells_below(alloc, design, top)?;
         let set = set_of(alloc, cells.as_slice())?;
         let libs = rows(alloc, design, &set)?;

@@ -18,9 +18,7 @@ use cell_puts::put_in_place;
 use design_copy::top_of;
 use edit_cells::{CellChange, Change, patched};
 use flat_lookup::{inst_at, insts_at};
-use netlist_schema::{
-    CellBody, CellId, Contents, Copied, Design, Lib, LibId, NoMemory, Note, Row, Shown,
-};
+use netlist_schema::{CellBody, CellId, Contents, Copied, Design, Lib, LibId, NoMemory, Note, Row, Shown, design_is_valid};
 use std::alloc::Global;
 use std::marker::Model;
 use used_spec::UsedAt;
@@ -251,7 +249,7 @@ fn make_blank(alloc: Global, pair: &mut Pair, change: Change, lib: LibId) -> Res
     ensures ok { OnOk result (pair.new.design ≡ edited pair.old.design (edits_of pair.old.design change)) }
     ensures err { OnErr result (pair.new.design ≡ pair.old.design) }
 {
-    let _valid = pair.design.lib_count();
+    design_is_valid(&pair.design);
     pair.used.add_cell(alloc, lib)?;
     match put_in_place(alloc, &mut pair.design, change) {
         Ok(()) => Ok(()),

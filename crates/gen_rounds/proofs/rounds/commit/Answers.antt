@@ -12,4 +12,4 @@ unreachable-requires c =
 pub unreachable-requires-in-Err-Conflict-default : goal.unreachable-requires-in-Err-Conflict-default
 unreachable-requires-in-Err-Conflict-default c =
     let refused = rw c.in-Err-Conflict-default.field-0-0-is at c.in-Err-Conflict-default.ensures in
-    meets_no_conflict c.args.core.now c.commit.new.self c.args.tx _ _ c.log-events.ensures.history c.requires.pin c.requires.last refused.1
+    meets_no_conflict c.args.core.now c.commit.new.self c.args.tx _ _ c.history_is_legal.ensures.history c.requires.pin c.requires.last refused.1

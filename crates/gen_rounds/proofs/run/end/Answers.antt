@@ -11,4 +11,4 @@ release-requires-2 c =
 
 pub returns : goal.returns
 returns c =
-    has_ended c.args.run.count c.args.run.core c.release.new.self c.release-2.new.self c.args.run.first c.args.run.last c.requires c.release.ensures c.release-2.ensures c.log-events.ensures.history.legal
+    has_ended c.args.run.count c.args.run.core c.release.new.self c.release-2.new.self c.args.run.first c.args.run.last c.requires c.release.ensures c.release-2.ensures c.history_is_legal.ensures.history.legal

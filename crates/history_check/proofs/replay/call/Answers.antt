@@ -19,7 +19,7 @@ take_turn-requires-clause-line c =
 pub take_turn-requires-clause-top : goal.take_turn-requires-clause-top
 take_turn-requires-clause-top c =
     let known = known_steps c.args.scripts.now c.args.next.caller c.requires.known in
-    top_here c.args.core.now (all_steps c.args.scripts.now) c.args.next.caller (steps_of c.lines-lines.result.now) c.swap_seat-seat.result c.log-events.ensures.history.legal c.requires.top known
+    top_here c.args.core.now (all_steps c.args.scripts.now) c.args.next.caller (steps_of c.lines-lines.result.now) c.swap_seat-seat.result c.history_is_legal.ensures.history.legal c.requires.top known
     (lines_at c.args.scripts.now c.args.next.caller c.index-scripts-place.result c.lines-lines.result.now c.requires.known c.index-scripts-place.is c.lines-lines.ensures.value)
     (stands_at c.args.core.now (all_steps c.args.scripts.now) c.args.seats.now.items c.args.next.caller _ c.swap_seat-seat.result _ c.requires.stands known refl c.swap_seat-seat.ensures.left).pin
 
@@ -27,7 +27,7 @@ pub returns-in-Some : goal.returns-in-Some
 returns-in-Some c =
     is_called_so c.args.core.now (all_steps c.args.scripts.now) c.args.seats.now.items c.args.next (steps_of c.lines-lines.result.now) c.swap_seat-seat.result _ c.requires.stands (known_steps c.args.scripts.now c.args.next.caller c.requires.known)
     (lines_at c.args.scripts.now c.args.next.caller c.index-scripts-place.result c.lines-lines.result.now c.requires.known c.index-scripts-place.is c.lines-lines.ensures.value) c.swap_seat-seat.ensures.left
-    c.take_turn.new.core c.in-Some.turned c.first_seat.result c.log-events.ensures.history.legal (rw c.in-Some.is at c.in_ok-turned.ensures) c.swap_seat-seat.new.seats.items c.swap_seat.new.seats.items
+    c.take_turn.new.core c.in-Some.turned c.first_seat.result c.history_is_legal.ensures.history.legal (rw c.in-Some.is at c.in_ok-turned.ensures) c.swap_seat-seat.new.seats.items c.swap_seat.new.seats.items
     c.swap_seat-seat.ensures.put c.swap_seat.ensures.put
 
 pub returns-in-None : goal.returns-in-None

@@ -12,6 +12,6 @@ returns-in_ok-run_ops-in-Ok c r lines =
     let ran = c.in_ok-run_ops-in-Ok.ensures in
     let on = ap (λ (t : TxFacts). t.pin) c.in_ok-block-in-Ok.ensures.0 in
     again_called c.args.core.now c.pin.new.self c.args.caller r c.args.said.now.items c.say_begin.new.out.items c.run_ops.new.said.items pin c.version.result c.args.retries c.args.ops.now lines
-    (record { tx = c.run_ops.new.tx; retries = block.retries }) c.log-events.ensures.history.legal c.in-Ok.ensures c.version.ensures c.in_ok-say_begin-in-Ok.ensures.ok
+    (record { tx = c.run_ops.new.tx; retries = block.retries }) c.history_is_legal.ensures.history.legal c.in-Ok.ensures c.version.ensures c.in_ok-say_begin-in-Ok.ensures.ok
     (ran.said ∙ ap (λ (p : PinFacts). c.say_begin.new.out.items ++ reply_lines (run p.design c.args.ops.now).replies) on)
     c.in_ok-block-in-Ok.ensures.1 ran.ops (ran.pin ∙ on)

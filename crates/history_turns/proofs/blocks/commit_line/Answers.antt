@@ -7,11 +7,11 @@ use Rattle.history_turns.proofs.blocks.commit_line.Goals as goal
 
 pub returns-in_ok-say_committed-in-Ok : goal.returns-in_ok-say_committed-in-Ok
 returns-in_ok-say_committed-in-Ok c =
-    commit_accepted c.args.core.now c.commit.new.self c.args.said.now.items c.say_committed.new.out.items c.args.block c.log-events.ensures.history.legal c.requires c.in-Ok.version c.in-Ok.pin c.in-Ok.ensures c.in_ok-say_committed-in-Ok.ensures.ok
+    commit_accepted c.args.core.now c.commit.new.self c.args.said.now.items c.say_committed.new.out.items c.args.block c.history_is_legal.ensures.history.legal c.requires c.in-Ok.version c.in-Ok.pin c.in-Ok.ensures c.in_ok-say_committed-in-Ok.ensures.ok
 
 pub returns-in_ok-say_conflict-in-Err-Conflict-default : goal.returns-in_ok-say_conflict-in-Err-Conflict-default
 returns-in_ok-say_conflict-in-Err-Conflict-default c =
     let answer = rw c.in-Err-Conflict-default.field-0-0-is at c.in-Err-Conflict-default.ensures in
     let said = subst (λ (d : Design). c.say_conflict.new.out.items ≡ c.args.said.now.items ++ line (conflict_words d c.in-Err-Conflict-default.object c.in-Err-Conflict-default.version)) (ap (λ (s : Shot). s.design) c.head.ensures)
     c.in_ok-say_conflict-in-Err-Conflict-default.ensures.ok in
-    commit_refused c.args.core.now c.commit.new.self c.args.said.now.items c.say_conflict.new.out.items c.args.block c.in-Err-Conflict-default.tx c.behind_conflict.result answer.0 c.behind_conflict.ensures c.log-events.ensures.history.legal c.requires c.in-Err-Conflict-default.object c.in-Err-Conflict-default.version answer.1 said
+    commit_refused c.args.core.now c.commit.new.self c.args.said.now.items c.say_conflict.new.out.items c.args.block c.in-Err-Conflict-default.tx c.behind_conflict.result answer.0 c.behind_conflict.ensures c.history_is_legal.ensures.history.legal c.requires c.in-Err-Conflict-default.object c.in-Err-Conflict-default.version answer.1 said

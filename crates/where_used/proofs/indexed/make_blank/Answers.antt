@@ -8,7 +8,7 @@ pub returns-in-Ok-clause-index : goal.returns-in-Ok-clause-index
 returns-in-Ok-clause-index c =
     c.in_ok-add_cell.ensures.ok
     ∙ ap (with_row c.args.lib) c.requires.index
-    ∙ blank_is c.args.pair.now.design c.args.change c.args.lib c.lib_count-valid.ensures.valid c.requires.can c.requires.blank
+    ∙ blank_is c.args.pair.now.design c.args.change c.args.lib c.design_is_valid.ensures c.requires.can c.requires.blank
     ∙ ap uses (sym c.in-Ok.ensures.ok)
 
 pub returns-in-Err-clause-index : goal.returns-in-Err-clause-index

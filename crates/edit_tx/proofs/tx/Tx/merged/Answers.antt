@@ -14,8 +14,8 @@ use Rattle.edit_tx.proofs.tx.Tx.merged.Goals.{After-lib_count-head}
 can : (c : After-lib_count-head) → CanBecome c.args.head.now.design c.self.inside.work (run c.args.head.now.design c.self.inside.ops).design
 can c =
     let tried = c.self.invariant.tried in
-    let valid : IsValid c.self.inside.pin.design = subst (λ (x : Shot). IsValid x.design) c.snapshot_ref.ensures c.lib_count-valid.ensures.valid in
-    merges c.self.inside.pin.design c.args.head.now.design c.self.inside.ops c.self.inside.work valid c.lib_count-head.ensures.valid tried.typed
+    let valid : IsValid c.self.inside.pin.design = subst (λ (x : Shot). IsValid x.design) c.snapshot_ref.ensures c.design_is_valid.ensures in
+    merges c.self.inside.pin.design c.args.head.now.design c.self.inside.ops c.self.inside.work valid c.design_is_valid-2.ensures tried.typed
     (subst (λ (f : TxFacts). Grown f.pin.design c.args.head.now.design) (sym c.self.view_is) c.requires.grown)
     (subst (λ (f : TxFacts). AgreesOn f.pin.design c.args.head.now.design (Reads f.pin.design f.ops)) (sym c.self.view_is) c.requires.agree)
     c.self.invariant.design tried.written
