@@ -3,6 +3,7 @@ ghost use Rattle.std.specs.Prelude.{◌≤◌, length};
 ghost use Rattle.script_run_spec.specs.Scripts.{all_steps};
 ghost use Rattle.netdb_spec.specs.Counts.{CountsWriting};
 ghost use Rattle.netdb_spec.specs.Checked.{CheckGives};
+ghost use Rattle.script_spec.specs.declared.limits.TheConstants.{MOST_SCRIPTS};
 
 use history_check::{CheckError, Verdict, check_report};
 use netdb_commands::put_bytes;
@@ -21,7 +22,7 @@ pub fn write_verdict<K: Sink>(
     report: &[u8],
     out: &mut K,
 ) -> Status
-    requires { length scripts.now ≤ 64 }
+    requires { length scripts.now ≤ MOST_SCRIPTS }
     ensures gives { CheckGives design (all_steps scripts.now) report.now (K.written out.old) (K.written out.new) result }
     ensures counts { CountsWriting (K.faults out.old) (K.faults out.new) result }
 {

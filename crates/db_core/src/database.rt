@@ -6,6 +6,7 @@ ghost use Rattle.db_spec.specs.Answers.{Admits, HasPlaces, HasNoConflict, IsConf
 ghost use Rattle.db_spec.specs.Laws.{IsTypedCall};
 ghost use Rattle.db_core.specs.Story.{IsHistory, IsPinOf, shot, state};
 ghost use Rattle.db_core.specs.Calls.{Accepts, Adds, Collects, Commits, IsRefused, Pins, PinsAt, PinsLast, Releases, event_of};
+ghost use Rattle.db_core.specs.declared.database.TheConstants.{MOST_MORE};
 
 use crate::errors::{CollectError, CommitError, PinAtError, PinError};
 use crate::kept::{find, first_of, keep_held, share_dropped};
@@ -19,6 +20,9 @@ use pin_registry::Pins as Registry;
 use std::alloc::Global;
 use std::marker::Model;
 use std::sync::Arc;
+
+/// The most places that one call asks for.
+const MOST_MORE: usize = 2;
 
 /// A design that callers share, in versions. Contracts see its opening design and the history of the calls.
 pub struct Core {
@@ -132,7 +136,7 @@ impl Core {
 
     /// Whether the history has this many places more, beside those of the releases of the live pins.
     fn has_places(&self, more: usize) -> bool
-        requires { more < 1000 }
+        requires { more ≤ MOST_MORE }
         ensures { IsTrue result ↔ HasPlaces (state self.now) more }
     {
         (self.log.len() + self.pins.live() as usize + more) as u64 <= MOST_EVENTS

@@ -4,6 +4,7 @@ ghost use Rattle.turn_cell.specs.Seats.{HasEachSeat, taken};
 ghost use Rattle.db_share.specs.Passes.{IsReady, HasPin, story};
 ghost use Rattle.db_share.specs.Calls.{GoesOn, Opens, Closes, HasPinned, HasPinnedAt, HasReleased, HasCollected, HasCommitted};
 ghost use Rattle.db_share.specs.Inside.{Enters, HasTurn, Leaves, Steps};
+ghost use Rattle.turn_cell.specs.declared.limits.TheConstants.{MOST_SEATS};
 
 use crate::events::{commit_adds, pin_at_adds};
 use db_core::{CollectError, CommitError, Core, Pin, PinAtError, PinError, Tx};
@@ -72,7 +73,7 @@ impl Db {
     /// A database with this design as version 0, which is kept, an empty log, and a pass for each of 1 to 64 callers, in the
     /// order of their numbers from 0. No pass is made later. After `NoMemory` the design is dropped.
     pub fn new(alloc: Global, design: Design, callers: u32) -> Result<(Db, Vec<Pass>), NoMemory>
-        requires { (1 ≤ callers) × (callers ≤ 64) }
+        requires { (1 ≤ callers) × (callers ≤ MOST_SEATS) }
         ensures { IfOk result (λ r. Opens design callers r.0 r.1.items) }
     {
         let core = Core::new(alloc, design)?;

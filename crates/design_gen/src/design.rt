@@ -4,6 +4,7 @@ ghost use Rattle.netlist_schema.specs.Design.{insts_of, nets_of};
 ghost use Rattle.design_gen.specs.Letters.{are_letters};
 ghost use Rattle.flat_spec.specs.ExampleParts.{named, own_port, on_port};
 ghost use Rattle.gen_spec.specs.Generated.{cell, generated, inverter_at, inverters, net_at, left_end, right_end, pair, row, row_nets};
+ghost use Rattle.gen_spec.specs.declared.limits.TheConstants.{MOST_SIZE};
 
 use crate::parts::{cell, inst, letters, name, net, numbered};
 use netlist_schema::{
@@ -68,7 +69,7 @@ fn inverters(alloc: Global, count: u32) -> Result<Vec<Shared<Inst>>, NoMemory>
 
 /// The nets of the row.
 fn row_nets(alloc: Global, count: u32) -> Result<Vec<Shared<Net>>, NoMemory>
-    requires { count ≤ 4096 }
+    requires { count ≤ MOST_SIZE }
     ensures { IfOk result (λ made. made.items ≡ row_nets count) }
 {
     let mut made = Vec::new(alloc);
@@ -82,7 +83,7 @@ fn row_nets(alloc: Global, count: u32) -> Result<Vec<Shared<Net>>, NoMemory>
 
 /// The row of inverters.
 fn row(alloc: Global, count: u32) -> Result<CellBody, NoMemory>
-    requires { count ≤ 4096 }
+    requires { count ≤ MOST_SIZE }
     ensures { IfOk result (λ made. made ≡ row count) }
 {
     let insts = Row::of(inverters(alloc, count)?);
@@ -139,7 +140,7 @@ fn lib(alloc: Global, bytes: &[u8], external: bool, cells: Vec<CellBody>) -> Res
 
 /// The libraries.
 fn libs(alloc: Global, count: u32) -> Result<Row<Lib>, NoMemory>
-    requires { count ≤ 4096 }
+    requires { count ≤ MOST_SIZE }
     ensures { IfOk result (λ made. made ≡ (generated count).libs) }
 {
     let mut prims = Vec::new(alloc);
@@ -156,7 +157,7 @@ fn libs(alloc: Global, count: u32) -> Result<Row<Lib>, NoMemory>
 /// The design of this number: a row of so many inverters, and the row placed twice, the one behind the other. `count` is from 1 to
 /// 4,096.
 pub fn gen_design(alloc: Global, count: u32) -> Result<Design, NoMemory>
-    requires { (1 ≤ count) × (count ≤ 4096) }
+    requires { (1 ≤ count) × (count ≤ MOST_SIZE) }
     ensures { IfOk result (λ design. design ≡ generated count) }
 {
     let title = name(alloc, b"gen")?;

@@ -1,6 +1,7 @@
 //! Edits of the design.
 ghost use Rattle.std.specs.Prelude.{◌≡◌, ◌≤◌, IfOk};
 ghost use Rattle.gen_spec.specs.Generated.{edit_at};
+ghost use Rattle.gen_spec.specs.declared.limits.TheConstants.{MOST_SIZE};
 
 use crate::parts::{letters, name, numbered};
 use edit_spec::{CellName, Op, Target};
@@ -12,8 +13,8 @@ const STEP: u64 = 7919;
 
 /// The edit of this number of the design of `count`: it sets a property of an inverter. Both are from 1 to 4,096.
 pub fn gen_op(alloc: Global, count: u32, number: u32) -> Result<Op, NoMemory>
-    requires count { (1 ≤ count) × (count ≤ 4096) }
-    requires number { (1 ≤ number) × (number ≤ 4096) }
+    requires count { (1 ≤ count) × (count ≤ MOST_SIZE) }
+    requires number { (1 ≤ number) × (number ≤ MOST_SIZE) }
     ensures { IfOk result (λ op. op ≡ edit_at count number) }
 {
     let inverter = (STEP * u64::from(number)) % u64::from(count);

@@ -3,6 +3,7 @@ ghost use Rattle.std.specs.Prelude.{◌≡◌, ◌≤◌, IfOk, string_bytes};
 ghost use Rattle.gen_spec.specs.Summary.{IsSummaryOf};
 ghost use Rattle.gen_run.specs.Pieces.{summary_pieces, walk_pieces};
 ghost use Rattle.gen_run.specs.Told.{IsTold};
+ghost use Rattle.gen_spec.specs.declared.limits.TheConstants.{MOST_SIZE};
 
 use gen_rounds::{commits_in, dropped_in, end, go_through, walk_pinned};
 use gen_spec::{Summary, Walked};
@@ -11,7 +12,7 @@ use std::alloc::{AllocError, Global};
 
 /// The run, counted.
 fn tell(alloc: Global, count: u32) -> Result<Summary, NoMemory>
-    requires { (1 ≤ count) × (count ≤ 4096) }
+    requires { (1 ≤ count) × (count ≤ MOST_SIZE) }
     ensures { IfOk result (λ told. IsTold count told) }
 {
     let made = go_through(alloc, count)?;
@@ -58,7 +59,7 @@ fn lines_of(alloc: Global, told: &Summary, first: &str, last: &str) -> Result<St
 /// last version, both pinned versions are walked, and the pins are released. What is told is counted over that history and the two
 /// flattenings, of which a walk has one item at a time. The one error is that an allocation was refused.
 pub fn summary(alloc: Global, count: u32) -> Result<Text, NoMemory>
-    requires { (1 ≤ count) × (count ≤ 4096) }
+    requires { (1 ≤ count) × (count ≤ MOST_SIZE) }
     ensures { IfOk result (λ text. IsSummaryOf count text) }
 {
     let told = tell(alloc, count)?;

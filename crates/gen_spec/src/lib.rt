@@ -3,7 +3,9 @@
 #![tactic(auto)]
 
 mod laws;
+mod limits;
 mod summary;
 
 pub use laws::{one_run, one_summary};
+pub use limits::MOST_SIZE;
 pub use summary::{Counts, Summary, Walked};

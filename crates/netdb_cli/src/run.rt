@@ -8,6 +8,7 @@ ghost use Rattle.netdb_spec.specs.Counts.{CountsReading, CountsWriting};
 ghost use Rattle.netdb_spec.specs.Visits.{Adds, CommandReads, report_file, script_files};
 ghost use Rattle.netdb_spec.specs.Outcome.{Gives, ReadChecks, ReadGives, ReadUsesGive, ReportGives};
 ghost use Rattle.netdb_spec.specs.Reads.{LeavesFiles, files_of};
+ghost use Rattle.script_spec.specs.declared.limits.TheConstants.{MOST_SCRIPTS};
 
 use call_check::write_verdict;
 use netdb_commands::{
@@ -60,7 +61,7 @@ fn run_files<R: Threads + Wait + Sync, F: Files, K: Sink, G: Gate + Sync>(
     out: &mut K,
     gate: &G,
 ) -> Status
-    requires { (1 ≤ length names.now) × (length names.now ≤ 64) }
+    requires { (1 ≤ length names.now) × (length names.now ≤ MOST_SCRIPTS) }
     ensures gives { ReadGives design (spelled names.now) (F.told files.new) (K.written out.old) (K.written out.new) result }
     ensures reading { CountsReading (F.faults files.old) (F.faults files.new) result }
     ensures writing { CountsWriting (K.faults out.old) (K.faults out.new) result }
@@ -83,7 +84,7 @@ fn run_on_file<R: Threads + Wait + Sync, F: Files, K: Sink, G: Gate + Sync>(
     out: &mut K,
     gate: &G,
 ) -> Status
-    requires { (1 ≤ length names.now) × (length names.now ≤ 64) }
+    requires { (1 ≤ length names.now) × (length names.now ≤ MOST_SCRIPTS) }
     ensures gives { Gives (Run name.now (spelled names.now)) (F.told files.new) (K.written out.old) (K.written out.new) result }
     ensures reading { CountsReading (F.faults files.old) (F.faults files.new) result }
     ensures writing { CountsWriting (K.faults out.old) (K.faults out.new) result }
@@ -106,7 +107,7 @@ fn use_files<R: Threads + Wait + Sync, F: Files, K: Sink, G: Gate + Sync>(
     out: &mut K,
     gate: &G,
 ) -> Status
-    requires { (1 ≤ length names.now) × (length names.now ≤ 64) }
+    requires { (1 ≤ length names.now) × (length names.now ≤ MOST_SCRIPTS) }
     ensures gives { ReadUsesGive design (spelled names.now) (F.told files.new) (K.written out.old) (K.written out.new) result }
     ensures reading { CountsReading (F.faults files.old) (F.faults files.new) result }
     ensures writing { CountsWriting (K.faults out.old) (K.faults out.new) result }
@@ -129,7 +130,7 @@ fn uses_of_file<R: Threads + Wait + Sync, F: Files, K: Sink, G: Gate + Sync>(
     out: &mut K,
     gate: &G,
 ) -> Status
-    requires { (1 ≤ length names.now) × (length names.now ≤ 64) }
+    requires { (1 ≤ length names.now) × (length names.now ≤ MOST_SCRIPTS) }
     ensures gives { Gives (Uses name.now (spelled names.now)) (F.told files.new) (K.written out.old) (K.written out.new) result }
     ensures reading { CountsReading (F.faults files.old) (F.faults files.new) result }
     ensures writing { CountsWriting (K.faults out.old) (K.faults out.new) result }
@@ -151,7 +152,7 @@ fn check_text<F: Files, K: Sink>(
     files: &mut F,
     out: &mut K,
 ) -> Status
-    requires { length names.now ≤ 64 }
+    requires { length names.now ≤ MOST_SCRIPTS }
     ensures gives { ReadChecks design report.now (spelled names.now) (F.told files.new) (K.written out.old) (K.written out.new) result }
     ensures reading { CountsReading (F.faults files.old) (F.faults files.new) result }
     ensures writing { CountsWriting (K.faults out.old) (K.faults out.new) result }
@@ -176,7 +177,7 @@ fn check_report_file<F: Files, K: Sink>(
     files: &mut F,
     out: &mut K,
 ) -> Status
-    requires { length names.now ≤ 64 }
+    requires { length names.now ≤ MOST_SCRIPTS }
     ensures gives { ReportGives design report.now (spelled names.now) (F.told files.new) (K.written out.old) (K.written out.new) result }
     ensures reading { CountsReading (F.faults files.old) (F.faults files.new) result }
     ensures writing { CountsWriting (K.faults out.old) (K.faults out.new) result }
@@ -198,7 +199,7 @@ fn check_files<F: Files, K: Sink>(
     files: &mut F,
     out: &mut K,
 ) -> Status
-    requires { length names.now ≤ 64 }
+    requires { length names.now ≤ MOST_SCRIPTS }
     ensures gives { Gives (Check name.now report.now (spelled names.now)) (F.told files.new) (K.written out.old) (K.written out.new) result }
     ensures reading { CountsReading (F.faults files.old) (F.faults files.new) result }
     ensures writing { CountsWriting (K.faults out.old) (K.faults out.new) result }

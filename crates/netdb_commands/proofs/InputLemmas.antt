@@ -18,7 +18,7 @@ use Rattle.netdb_spec.specs.Counts.{CountsReading}
 use Rattle.netdb_spec.specs.Refusals.{IsBad, RefusesDesign, RefusesScript, RefusesScripts}
 use Rattle.netdb_spec.specs.Steps.{IsNoDesign, IsNoScript, status_of}
 use Rattle.netdb_spec.specs.Told.{AreRead, IsBadScript, IsFile, IsLastRead, IsRead, IsReadThrough, IsScriptFile}
-use Rattle.netdb_spec.specs.declared.limits.TheConstants.{MOST_SCRIPT_BYTES}
+use Rattle.script_spec.specs.declared.limits.TheConstants.{MOST_SCRIPT_BYTES}
 use Rattle.netdb_spec.specs.declared.status.Status.{Status}
 use Rattle.netdb_spec.specs.declared.status.Status.TheVariants as status
 

@@ -12,7 +12,7 @@ use Rattle.netdb_spec.specs.Command.{spelled}
 use Rattle.netdb_spec.specs.Steps.{IsNoDesign, IsNoScript}
 use Rattle.netdb_spec.specs.Told.{IsScriptFile}
 use Rattle.netdb_spec.specs.Visits.{Adds, AreReadToEnd, AreReadUpTo, FileReads, IsReadToEnd, Reading, StopsAt, design_file, script_file, script_files}
-use Rattle.netdb_spec.specs.declared.limits.TheConstants.{MOST_SCRIPT_BYTES}
+use Rattle.script_spec.specs.declared.limits.TheConstants.{MOST_SCRIPT_BYTES}
 use Rattle.netdb_spec.specs.declared.status.Status.{Status}
 use Rattle.netdb_spec.specs.declared.status.Status.TheVariants as status
 use Rattle.netdb_commands.proofs.InputLemmas.{names_parted, names_up_to}

@@ -16,13 +16,14 @@ ghost use Rattle.netdb_spec.specs.Steps.{IsNoDesign, IsNoScript, status_of};
 ghost use Rattle.netdb_spec.specs.declared.limits.TheConstants.{MOST_REPORT_BYTES as MOST_REPORT};
 ghost use Rattle.netdb_spec.specs.Told.{AreRead, IsFile, IsLastRead, IsRead, IsReadThrough, IsReportFile, IsScriptFile};
 ghost use Rattle.netdb_spec.specs.Visits.{Adds, FileReads, StepReads, design_file, report_file, script_file, script_files};
+ghost use Rattle.script_spec.specs.declared.limits.TheConstants.{MOST_SCRIPTS};
 
 use edif_file::{DesignReader, NoDesign};
 use netdb_outside::{Contents, Ended, Files, read_file, read_pieces};
-use netdb_spec::{MOST_REPORT_BYTES, MOST_SCRIPT_BYTES, Status};
+use netdb_spec::{MOST_REPORT_BYTES, Status};
 use netlist_schema::{Design, MOST_FILE_BYTES, Text};
 use script_reader::{ScriptError, parse};
-use script_spec::Script;
+use script_spec::{MOST_SCRIPT_BYTES, Script};
 use std::alloc::Global;
 
 /// The position of the design file's name among the words.
@@ -143,7 +144,7 @@ pub fn read_scripts<F: Files>(
     names: &[String],
     first: u32,
 ) -> Result<Vec<Script>, Status>
-    requires few { length names.now ≤ 64 }
+    requires few { length names.now ≤ MOST_SCRIPTS }
     requires near { first ≤ 3 }
     ensures read { IfOk result (λ scripts. AreRead (F.told files.new) (spelled names.now) (all_steps scripts.items) × IsLastRead (F.told files.new) (spelled names.now)) }
     ensures many { IfOk result (λ scripts. vec_len scripts ≡ length names.now) }

@@ -8,6 +8,7 @@ ghost use Rattle.netdb_spec.specs.Command.{AreWorkers, IsGoodWanted, IsSize};
 ghost use Rattle.netdb_spec.specs.Gives.{OutputGives, RunGives, SummaryGives, TextGives, UsesGive};
 ghost use Rattle.netdb_spec.specs.Counts.{CountsWriting};
 ghost use Rattle.netdb_commands.specs.Walks.{is_walk};
+ghost use Rattle.script_spec.specs.declared.limits.TheConstants.{MOST_SCRIPTS};
 
 use edif_writer::write_design;
 use erc_report::write_findings;
@@ -190,7 +191,7 @@ fn report<R: Threads + Wait + Sync, K: Sink, G: Gate + Sync>(
     gate: &G,
     out: &mut K,
 ) -> Status
-    requires many { (1 ≤ length scripts.now) × (length scripts.now ≤ 64) }
+    requires many { (1 ≤ length scripts.now) × (length scripts.now ≤ MOST_SCRIPTS) }
     requires walks { CanWalk design (all_steps scripts.now) }
     ensures gives { RunGives design (all_steps scripts.now) (K.written out.old) (K.written out.new) result }
     ensures counts { CountsWriting (K.faults out.old) (K.faults out.new) result }
@@ -212,7 +213,7 @@ pub fn write_report<R: Threads + Wait + Sync, K: Sink, G: Gate + Sync>(
     gate: &G,
     out: &mut K,
 ) -> Status
-    requires { (1 ≤ length scripts.now) × (length scripts.now ≤ 64) }
+    requires { (1 ≤ length scripts.now) × (length scripts.now ≤ MOST_SCRIPTS) }
     ensures gives { RunGives design (all_steps scripts.now) (K.written out.old) (K.written out.new) result }
     ensures counts { CountsWriting (K.faults out.old) (K.faults out.new) result }
 {
@@ -231,7 +232,7 @@ fn report_uses<R: Threads + Wait + Sync, K: Sink, G: Gate + Sync>(
     gate: &G,
     out: &mut K,
 ) -> Status
-    requires many { (1 ≤ length scripts.now) × (length scripts.now ≤ 64) }
+    requires many { (1 ≤ length scripts.now) × (length scripts.now ≤ MOST_SCRIPTS) }
     requires walks { CanWalk design (all_steps scripts.now) }
     ensures gives { UsesGive design (all_steps scripts.now) (K.written out.old) (K.written out.new) result }
     ensures counts { CountsWriting (K.faults out.old) (K.faults out.new) result }
@@ -253,7 +254,7 @@ pub fn write_with_uses<R: Threads + Wait + Sync, K: Sink, G: Gate + Sync>(
     gate: &G,
     out: &mut K,
 ) -> Status
-    requires { (1 ≤ length scripts.now) × (length scripts.now ≤ 64) }
+    requires { (1 ≤ length scripts.now) × (length scripts.now ≤ MOST_SCRIPTS) }
     ensures gives { UsesGive design (all_steps scripts.now) (K.written out.old) (K.written out.new) result }
     ensures counts { CountsWriting (K.faults out.old) (K.faults out.new) result }
 {

@@ -3,17 +3,10 @@ ghost use Rattle.std.specs.Prelude.{◌≡◌, ◌∷◌, [], ◌<◌, ◌^◌, 
 ghost use Rattle.std.specs.Fmt.{decimal};
 ghost use Rattle.netdb_spec.specs.Command.{AreWorkers, Asks, IsCommand, IsCrew, IsLimit, IsSize, request_of, spelled};
 
+use gen_spec::MOST_SIZE;
 use itoa::Buffer;
-use netdb_spec::{Command, Wanted};
-
-/// The most scripts of a run.
-const MOST_SCRIPTS: usize = 64;
-
-/// The most workers of a flattening.
-const MOST_WORKERS: u32 = 64;
-
-/// The largest size of a generated design.
-const MOST_SIZE: u32 = 4_096;
+use netdb_spec::{Command, MOST_WORKERS, Wanted};
+use script_spec::MOST_SCRIPTS;
 
 /// The command that the words are, where they are one.
 pub fn command_of(words: &[String]) -> Option<Command<'_>>

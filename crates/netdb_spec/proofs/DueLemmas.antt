@@ -22,7 +22,8 @@ use Rattle.netdb_spec.specs.Gives.{OutputGives, RunGives, SummaryGives, TextGive
 use Rattle.netdb_spec.specs.Outcome.{Gives, ReportGives, ScriptsGive}
 use Rattle.netdb_spec.specs.Refusals.{RefusesDesign, RefusesFile, RefusesScript, RefusesScripts}
 use Rattle.netdb_spec.specs.Told.{AreRead, IsBadScript, IsLarge, IsScriptFile}
-use Rattle.netdb_spec.specs.declared.limits.TheConstants.{MOST_REPORT_BYTES, MOST_SCRIPT_BYTES}
+use Rattle.netdb_spec.specs.declared.limits.TheConstants.{MOST_REPORT_BYTES}
+use Rattle.script_spec.specs.declared.limits.TheConstants.{MOST_SCRIPT_BYTES}
 use Rattle.netdb_spec.specs.declared.command.Wanted.{Wanted}
 use Rattle.netdb_spec.specs.declared.status.Status.{Status}
 use Rattle.netdb_spec.specs.declared.status.Status.TheVariants as status

@@ -6,6 +6,9 @@ use Rattle.netdb_spec.specs.declared.command.Command.{Command}
 use Rattle.netdb_spec.specs.declared.command.Command.TheVariants as commands
 use Rattle.netdb_spec.specs.declared.command.Wanted.{Wanted}
 use Rattle.netdb_spec.specs.declared.command.Wanted.TheVariants.{Text, Items, Pins, Used, Spread, Findings}
+use Rattle.netdb_spec.specs.declared.limits.TheConstants.{MOST_WORKERS}
+use Rattle.gen_spec.specs.declared.limits.TheConstants.{MOST_SIZE}
+use Rattle.script_spec.specs.declared.limits.TheConstants.{MOST_SCRIPTS}
 
 -- the words, as bytes
 abbrev pub spelled : List (String Global) → List (List ℕ)
@@ -31,15 +34,15 @@ IsLimit n = (1 ≤ n) × (n < 2 ^ 32)
 
 -- a number of workers that may be given
 abbrev pub AreWorkers : ℕ → Type 0
-AreWorkers n = (1 ≤ n) × (n ≤ 64)
+AreWorkers n = (1 ≤ n) × (n ≤ MOST_WORKERS)
 
 -- a size of a generated design
 abbrev pub IsSize : ℕ → Type 0
-IsSize n = (1 ≤ n) × (n ≤ 4096)
+IsSize n = (1 ≤ n) × (n ≤ MOST_SIZE)
 
 -- as many scripts as a run may have
 abbrev pub IsCrew : List (List ℕ) → Type 0
-IsCrew scripts = (1 ≤ length scripts) × (length scripts ≤ 64)
+IsCrew scripts = (1 ≤ length scripts) × (length scripts ≤ MOST_SCRIPTS)
 
 -- The words ask for this. Behind `write`, `flat`, `csv` and `erc` stands the name of a file: its text, the items of its flattening, its
 -- pin table, what an electrical check finds. `used` behind `write` and a name asks for the text without what the top does not use;

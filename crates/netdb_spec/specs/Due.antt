@@ -9,7 +9,8 @@ use Rattle.edif_spec.specs.Files.{IsDesignFile, IsNoDesignFile}
 use Rattle.netdb_spec.specs.Command.{Request, Show, Run, Generate, Uses, Check}
 use Rattle.netdb_spec.specs.Output.{HasTop, LacksTop}
 use Rattle.netdb_spec.specs.Told.{IsBadScript, IsLarge, IsScriptFile}
-use Rattle.netdb_spec.specs.declared.limits.TheConstants.{MOST_REPORT_BYTES, MOST_SCRIPT_BYTES}
+use Rattle.netdb_spec.specs.declared.limits.TheConstants.{MOST_REPORT_BYTES}
+use Rattle.script_spec.specs.declared.limits.TheConstants.{MOST_SCRIPT_BYTES}
 use Rattle.netdb_spec.specs.declared.command.Wanted.{Wanted}
 use Rattle.netdb_spec.specs.declared.status.Status.{Status}
 use Rattle.netdb_spec.specs.declared.status.Status.TheVariants as status

@@ -6,7 +6,8 @@ use Rattle.script_spec.specs.declared.script.Step.{Step}
 use Rattle.edif_spec.specs.Files.{IsWrong}
 use Rattle.edif_spec.specs.declared.file_fault.EdifFault.{EdifFault}
 use Rattle.netdb_spec.specs.Told.{IsBadScript, IsFile, IsLarge, IsMissing, IsReadThrough, IsScriptFile}
-use Rattle.netdb_spec.specs.declared.limits.TheConstants.{MOST_REPORT_BYTES, MOST_SCRIPT_BYTES}
+use Rattle.netdb_spec.specs.declared.limits.TheConstants.{MOST_REPORT_BYTES}
+use Rattle.script_spec.specs.declared.limits.TheConstants.{MOST_SCRIPT_BYTES}
 use Rattle.netdb_spec.specs.declared.status.Status.{Status}
 use Rattle.netdb_spec.specs.declared.status.Status.TheVariants as status
 

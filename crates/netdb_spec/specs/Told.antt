@@ -7,7 +7,8 @@ use Rattle.edif_spec.specs.Arranged.{canonical_text}
 use Rattle.script_spec.specs.ScriptText.{Parts, IsScriptText, IsFirstBad, steps_of}
 use Rattle.script_spec.specs.declared.script.Step.{Step}
 use Rattle.edif_spec.specs.Files.{IsDesignFile, ReadsBack}
-use Rattle.netdb_spec.specs.declared.limits.TheConstants.{MOST_REPORT_BYTES, MOST_SCRIPT_BYTES}
+use Rattle.netdb_spec.specs.declared.limits.TheConstants.{MOST_REPORT_BYTES}
+use Rattle.script_spec.specs.declared.limits.TheConstants.{MOST_SCRIPT_BYTES}
 
 -- there is no file of this name
 abbrev pub IsMissing : Option Shelf → List ℕ → Type 0

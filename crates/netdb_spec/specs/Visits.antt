@@ -2,7 +2,8 @@
 use Rattle.std.specs.Prelude.{◌≡◌, ◌⊎◌, ◌+◌, ◌≤◌, ℕ, List, [], ◌∷◌, ◌++◌, Result, Ok, Err, map}
 use Rattle.netlist_schema.specs.declared.limits.TheConstants.{MOST_FILE_BYTES}
 use Rattle.netdb_outside.specs.Visits.{Visit, IsVisit, AtEnd, Absent, Broken, Going}
-use Rattle.netdb_spec.specs.declared.limits.TheConstants.{MOST_REPORT_BYTES, MOST_SCRIPT_BYTES}
+use Rattle.netdb_spec.specs.declared.limits.TheConstants.{MOST_REPORT_BYTES}
+use Rattle.script_spec.specs.declared.limits.TheConstants.{MOST_SCRIPT_BYTES}
 use Rattle.netdb_spec.specs.declared.status.Status.{Status}
 use Rattle.netdb_spec.specs.declared.status.Status.TheVariants as status
 

@@ -9,5 +9,5 @@ mod status;
 
 pub use command::{Command, Wanted};
 pub use laws::given_is_due;
-pub use limits::{MOST_REPORT_BYTES, MOST_SCRIPT_BYTES};
+pub use limits::{MOST_REPORT_BYTES, MOST_WORKERS};
 pub use status::Status;

@@ -10,6 +10,7 @@ ghost use Rattle.script_run_spec.specs.Written.{written_report};
 ghost use Rattle.used_spec.specs.LastUses.{last_uses_text};
 ghost use Rattle.script_run_all.specs.Run.{HaveRun};
 ghost use Rattle.run_uses.specs.Written.{UsesWrite};
+ghost use Rattle.script_spec.specs.declared.limits.TheConstants.{MOST_SCRIPTS};
 
 use last_uses::write_last_uses;
 use netdb_outside::{Gate, Sink, WriteError};
@@ -92,7 +93,7 @@ pub fn write_run_uses<R: Threads + Wait + Sync, K: Sink, G: Gate + Sync>(
     gate: &G,
     out: &mut K,
 ) -> Result<RunEnd, WriteError>
-    requires many { (1 ≤ length scripts.now) × (length scripts.now ≤ 64) }
+    requires many { (1 ≤ length scripts.now) × (length scripts.now ≤ MOST_SCRIPTS) }
     requires walks { CanWalk design (all_steps scripts.now) }
     ensures writes { UsesWrite design (all_steps scripts.now) (K.written out.old) (K.written out.new) result }
     ensures fault { result ≡ Err WriteError.WriteFault → Rose (K.faults out.old) (K.faults out.new) }

@@ -7,6 +7,7 @@ ghost use Rattle.script_reader.specs.Line.{AreRead, Goes, IsBadLine, IsFirst, pl
 ghost use Rattle.script_words.specs.Reading.{lent};
 ghost use Rattle.script_words.specs.declared.unread.Unread.TheVariants.{Bad};
 ghost use Rattle.script_reader.specs.declared.script.ScriptError.TheVariants.{NoMemory};
+ghost use Rattle.script_spec.specs.declared.limits.TheConstants.{MOST_SCRIPT_BYTES};
 
 use crate::cut::cut_lines;
 use crate::line::read_line;
@@ -87,7 +88,7 @@ impl Progress {
 
 /// Reads lines.
 fn read_lines(alloc: Global, lines: &[&[u8]]) -> Result<Vec<ScriptLine>, ScriptError>
-    requires { length lines.now ≤ 262144 }
+    requires { length lines.now ≤ MOST_SCRIPT_BYTES }
     ensures ok { IfOk result (λ found. (place : text.Place) × AreRead (lent lines.now) found.items place) }
     ensures bad { IfErr result (λ e. (at : ℕ) → e ≡ ScriptError.BadLine at → IsFirst (lent lines.now) at) }
 {
@@ -110,7 +111,7 @@ fn read_lines(alloc: Global, lines: &[&[u8]]) -> Result<Vec<ScriptLine>, ScriptE
 /// The script that a text is: `docs/scripts.md` has the table of lines. `BadLine` exactly where it is none, at the first line that
 /// is bad or stands where it may not. It takes time and memory in proportion to the text.
 pub fn parse(alloc: Global, bytes: &[u8]) -> Result<Script, ScriptError>
-    requires { length bytes.now ≤ 262144 }
+    requires { length bytes.now ≤ MOST_SCRIPT_BYTES }
     ensures ok { IfOk result (λ script. IsScriptText bytes.now script) }
     ensures bad { IfErr result (λ e. (at : ℕ) → e ≡ ScriptError.BadLine at → IsFirstBad bytes.now at) }
 {

@@ -7,6 +7,7 @@ ghost use Rattle.script_spec.specs.declared.script.Step.{Step};
 ghost use Rattle.script_run_spec.specs.Scripts.{all_steps};
 ghost use Rattle.script_run_all.specs.Run.{HaveRun};
 ghost use Rattle.script_run_all.specs.Written.{RunWrites};
+ghost use Rattle.script_spec.specs.declared.limits.TheConstants.{MOST_SCRIPTS};
 
 use crate::ended::RunEnd;
 use crate::run::{Closed, run_scripts};
@@ -55,7 +56,7 @@ pub fn write_run<R: Threads + Wait + Sync, K: Sink, G: Gate + Sync>(
     gate: &G,
     out: &mut K,
 ) -> Result<RunEnd, WriteError>
-    requires many { (1 ≤ length scripts.now) × (length scripts.now ≤ 64) }
+    requires many { (1 ≤ length scripts.now) × (length scripts.now ≤ MOST_SCRIPTS) }
     requires walks { CanWalk design (all_steps scripts.now) }
     ensures writes { RunWrites design (all_steps scripts.now) (K.written out.old) (K.written out.new) result }
     ensures fault { result ≡ Err WriteError.WriteFault → Rose (K.faults out.old) (K.faults out.new) }

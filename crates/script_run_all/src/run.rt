@@ -3,6 +3,7 @@ ghost use Rattle.std.specs.Prelude.{◌≡◌, ◌≤◌, IfOk, length};
 ghost use Rattle.script_spec.specs.Headline.{CanWalk};
 ghost use Rattle.script_run_spec.specs.Scripts.{all_steps};
 ghost use Rattle.script_run_all.specs.Run.{HaveRun};
+ghost use Rattle.script_spec.specs.declared.limits.TheConstants.{MOST_SCRIPTS};
 
 use crate::workers::{parts_of, run_all, some_met_full};
 use db_share::{Core, Db};
@@ -35,7 +36,7 @@ pub fn run_scripts<R: Threads + Wait + Sync, G: Gate + Sync>(
     scripts: &[Script],
     gate: &G,
 ) -> Result<Closed, NoMemory>
-    requires many { (1 ≤ length scripts.now) × (length scripts.now ≤ 64) }
+    requires many { (1 ≤ length scripts.now) × (length scripts.now ≤ MOST_SCRIPTS) }
     requires walks { CanWalk design (all_steps scripts.now) }
     ensures { IfOk result (λ closed. HaveRun design (all_steps scripts.now) closed.core closed.texts closed.log_full) }
 {

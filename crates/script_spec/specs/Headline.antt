@@ -11,13 +11,14 @@ use Rattle.script_spec.specs.declared.script.Step.TheVariants.{Begin, Pin, PinAt
 use Rattle.script_spec.specs.ScriptText.{Parts, IsScriptText, steps_of}
 use Rattle.script_spec.specs.Session.{Word, Ending, Whole, Full, Session}
 use Rattle.script_spec.specs.Report.{Prints, Story, transcript}
+use Rattle.script_spec.specs.declared.limits.TheConstants.{MOST_SCRIPT_BYTES}
 
 -- ---- the texts of the scripts
 
 -- the texts are these scripts, each of at most 262,144 bytes
 abbrev pub AreScripts : List (List ℕ) → List (List Step) → Type 0
 AreScripts [] [] = Unit {0}
-AreScripts (text ∷ texts) (steps ∷ scripts) = (length text ≤ 262144) × ((script : Parts) × IsScriptText text script × (steps ≡ steps_of script.lines)) × AreScripts texts scripts
+AreScripts (text ∷ texts) (steps ∷ scripts) = (length text ≤ MOST_SCRIPT_BYTES) × ((script : Parts) × IsScriptText text script × (steps ≡ steps_of script.lines)) × AreScripts texts scripts
 AreScripts texts scripts = ⊥
 
 -- a line that walks; a design without a top has none to walk

@@ -8,6 +8,7 @@ use Rattle.script_spec.specs.declared.script.Step.{Step}
 use Rattle.script_spec.specs.declared.script.Step.TheVariants.{Begin, Run, Commit, Abandon, Pin, PinAt, Walk, Release, Collect}
 use Rattle.script_spec.specs.Lines.{IsPlainOp, IsSayable, said, number, step_pieces}
 use Rattle.script_spec.specs.Pieces.{SpellPieces}
+use Rattle.script_spec.specs.declared.limits.TheConstants.{MOST_SCRIPT_BYTES}
 
 -- ---- lines of a text
 
@@ -150,6 +151,6 @@ pub record IsFirstBad (text : List ℕ) (at : ℕ) : Type 0 where
 pub record IsScript (script : Parts) : Type 0 where
   pub rising : AllPairs (λ line later. line.number < later.number) script.lines
   pub within : All (λ line. (1 ≤ line.number) × (line.number ≤ script.last)) script.lines
-  pub short : script.last ≤ 262144
+  pub short : script.last ≤ MOST_SCRIPT_BYTES
   pub sayable : All (λ line. IsSayable line.step) script.lines
   pub placed : ArePlaced Free (steps_of script.lines)

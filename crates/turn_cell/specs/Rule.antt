@@ -10,6 +10,7 @@ use Rattle.turn_cell.specs.declared.board.Holder.{Holder}
 use Rattle.turn_cell.specs.declared.board.View.{View}
 use Rattle.turn_cell.specs.declared.board.View.TheVariants.{Spent, Live}
 use Rattle.turn_cell.specs.Seats.{AgreeWith}
+use Rattle.turn_cell.specs.declared.limits.TheConstants.{MOST_SEATS}
 
 module _ {E : Type 0} where
   -- the phase has the ticket t
@@ -77,8 +78,8 @@ module _ {B E : Type 0} where
 
   -- The numbers of the seats differ and are below the number of seats that were made.
   pub record AreNumbered (made_by : E → ℕ) (seats : ℕ) (log : List E) (views : List (View B E)) : Type 0 where
-    -- at most as many seats were made as were asked for, which is at most 64
-    pub few : (length views ≤ seats) × (seats ≤ 64)
+    -- at most as many seats were made as were asked for, which is a number of seats that there may be
+    pub few : (length views ≤ seats) × (seats ≤ MOST_SEATS)
     -- the number of a seat is its place among those that were made
     pub placed : EachSeat (λ place h. h.number ≡ place) views
     -- the first seat knows how many were made, and it alone keeps others

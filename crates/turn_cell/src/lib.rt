@@ -5,9 +5,11 @@
 #![tactic(auto)]
 
 mod board;
+mod limits;
 mod logged;
 mod plays;
 mod turn;
 
+pub use limits::MOST_SEATS;
 pub use logged::Logged;
 pub use turn::{Turn, TurnSeat};

@@ -4,6 +4,7 @@ ghost use mathlib.Core.List.{IsPrefix};
 ghost use Rattle.turn_cell.specs.Seats.{SeatFacts, new_seat, IsAtRest, IsSameSeat, HasSeat, HasEachSeat, HasTheTurn, taken, Adds, Gains, log_of, entries_of, AgreeWith};
 ghost use Rattle.turn_cell.specs.Views.{phase_of, number_of, seen_of, own_of, ticket_of, IsLive, IsResting, IsIn};
 ghost use Rattle.turn_cell.specs.Steps.{newcomer};
+ghost use Rattle.turn_cell.specs.declared.limits.TheConstants.{MOST_SEATS};
 
 use crate::board::{About, COUNT, SERVING, SLOT, TICKET, TurnRule, View};
 use crate::logged::Logged;
@@ -15,6 +16,9 @@ use std::marker::Model;
 use std::snapshot::Snapshot;
 use std::sync::Wait;
 use std::thread;
+
+/// How often a caller looks for its ticket before it sleeps.
+const LOOKS: u32 = 64;
 
 /// One value, and the order in which seats have it. It is shared by `&`; each caller has a `TurnSeat` of its own.
 #[derive(Drop)]
@@ -126,7 +130,7 @@ impl<V: Logged> Turn<V> {
     /// A turn round the value, whose list has to be empty, and its seats, 1 to 64, in the order of their numbers from 0. No
     /// seat is made later. After `NoMemory` the value is dropped.
     pub fn new(alloc: Global, value: V, seats: u32) -> Result<(Turn<V>, Vec<TurnSeat<V>>), NoMemory>
-        requires count { (1 ≤ seats) × (seats ≤ 64) }
+        requires count { (1 ≤ seats) × (seats ≤ MOST_SEATS) }
         requires empty { V.entries value ≡ [] }
         ensures turn { IfOk result (λ r. (r.0.seats ≡ seats) × (r.0.base ≡ V.base value)) }
         ensures seats { IfOk result (λ r. (vec_len r.1 ≡ seats)
@@ -216,7 +220,7 @@ impl<V: Logged> Turn<V> {
 
     // Lets others go on, and after some looks sleeps while the served ticket is the one that was found.
     fn rest_a_while(&self, rt: &impl Wait, found: u64, looks: &mut u32) {
-        if *looks < 64 {
+        if *looks < LOOKS {
             *looks += 1;
             thread::yield_now();
         } else {

@@ -3,7 +3,7 @@ use Prim.Native.Nat.{ℕ}
 use Rattle.script_spec.specs.ScriptText.{steps_of}
 use Rattle.netdb_spec.specs.Refusals.{RefusesScript}
 use Rattle.netdb_spec.specs.Told.{IsFile, IsReadThrough, IsScriptFile}
-use Rattle.netdb_spec.specs.declared.limits.TheConstants.{MOST_SCRIPT_BYTES}
+use Rattle.script_spec.specs.declared.limits.TheConstants.{MOST_SCRIPT_BYTES}
 use Rattle.netdb_outside.specs.Visits.{AddsVisit}
 use Rattle.netdb_spec.specs.Visits.{IsReadToEnd, StopsAt, script_file}
 use Rattle.netdb_commands.proofs.InputLemmas.{pushed, pushed_count, read_one_more, refused_at}
