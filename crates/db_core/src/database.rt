@@ -11,7 +11,7 @@ ghost use Rattle.db_core.specs.declared.database.TheConstants.{MOST_MORE};
 use crate::errors::{CollectError, CommitError, PinAtError, PinError};
 use crate::kept::{find, first_of, keep_held, share_dropped};
 use crate::next::next_version;
-use crate::vecs::{make_room, push_within};
+use crate::vecs::make_room;
 use conflict_check::{Later, Stamps};
 use db_spec::{Answer, Call, Event};
 use edit_tx::{Left, Pin, Snapshot, Tx, Version};
@@ -153,7 +153,7 @@ impl Core {
     {
         let taken = self.pins.live() as usize + 1;
         make_room(&mut self.log, taken)?;
-        push_within(&mut self.log, event);
+        self.log.push_reserved(event);
         Ok(())
     }
 
@@ -170,17 +170,14 @@ impl Core {
         make_room(&mut self.log, taken)?;
         let version = at.version();
         let number = self.pins.add(version)?;
-        push_within(
-            &mut self.log,
-            Event {
+        self.log.push_reserved(Event {
                 caller,
                 call,
                 answer: Answer::Pinned {
                     pin: number,
                     version,
                 },
-            },
-        );
+            });
         Ok(Pin::of(number, caller, at))
     }
 
@@ -293,14 +290,11 @@ impl Core {
         let number = pin.number();
         let caller = pin.caller();
         self.pins.remove(number);
-        push_within(
-            &mut self.log,
-            Event {
+        self.log.push_reserved(Event {
                 caller,
                 call: Call::Release(number),
                 answer: Answer::Released,
-            },
-        );
+            });
     }
 
     /// Drops the versions that no live pin holds, all but the last one, and answers how many. `LogFull` comes exactly where
@@ -334,14 +328,11 @@ impl Core {
         let before = self.versions.len();
         keep_held(&mut self.versions, self.newest.version(), &self.pins);
         let dropped = (before - self.versions.len()) as u32;
-        push_within(
-            &mut self.log,
-            Event {
+        self.log.push_reserved(Event {
                 caller,
                 call: Call::Collect,
                 answer: Answer::Collected(dropped),
-            },
-        );
+            });
         Ok(dropped)
     }
 
@@ -427,21 +418,18 @@ impl Core {
         let Ok(()) = self.stamps.mark(tx.written(), version) else {
             return Err(tx);
         };
-        push_within(&mut self.versions, kept);
+        self.versions.push_reserved(kept);
         self.newest = next;
         let (pin, ops, replies, rest) = tx.split();
         *left = Some(rest);
-        push_within(
-            &mut self.log,
-            Event {
+        self.log.push_reserved(Event {
                 caller: pin.caller(),
                 call: Call::Commit {
                     pin: pin.number(),
                     ops,
                 },
                 answer: Answer::Committed { version, replies },
-            },
-        );
+            });
         Ok((version, pin))
     }
 

@@ -3,20 +3,6 @@ ghost use Rattle.std.specs.Prelude.{◌≡◌, ◌+◌, ◌<◌, ◌≤◌, ◌+
 
 use netlist_schema::NoMemory;
 
-/// Adds an item where there is room for it.
-pub(crate) fn push_within<T: Drop>(items: &mut Vec<T>, item: T)
-    requires { vec_len items.old < vec_capacity items.old }
-    ensures items { items.new.items ≡ items.old.items ++ item ∷ [] }
-    ensures capacity { vec_capacity items.old ≤ vec_capacity items.new }
-{
-    match items.push(item) {
-        Ok(()) => {}
-        Err(_) => {
-            prove!(false);
-        }
-    }
-}
-
 /// Makes room for more items.
 pub(crate) fn make_room<T: Drop>(items: &mut Vec<T>, more: usize) -> Result<(), NoMemory>
     ensures items { items.new.items ≡ items.old.items }

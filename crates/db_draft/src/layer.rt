@@ -216,7 +216,7 @@ impl Layer {
     {
         self.cells.reserve(1)?;
         self.names.add(alloc, &body.name.id)?;
-        push_within(&mut self.cells, body);
+        self.cells.push_reserved(body);
         Ok(())
     }
 
@@ -268,19 +268,6 @@ impl Layer {
             return Ok(Arc::new(alloc, changed)?);
         }
         Ok(Arc::new(alloc, changed.with_more(alloc, self.cells.as_slice())?)?)
-    }
-}
-
-/// Adds an item where there is room for it.
-fn push_within<T: Drop>(items: &mut Vec<T>, item: T)
-    requires { vec_len items.old < vec_capacity items.old }
-    ensures { items.new.items ≡ items.old.items ++ item ∷ [] }
-{
-    match items.push(item) {
-        Ok(()) => {}
-        Err(_) => {
-            prove!(false);
-        }
     }
 }
 

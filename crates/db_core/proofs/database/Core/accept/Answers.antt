@@ -28,7 +28,7 @@ use Rattle.db_core.proofs.Steps.{roomier, core_adds, state_of}
 use Rattle.db_core.proofs.Commits.{agrees_head, grown_head, stands_committed}
 use Rattle.db_core.proofs.Staying.{pinned_there}
 use Rattle.db_core.proofs.database.Core.accept.Goals as goal
-use Rattle.db_core.proofs.database.Core.accept.Goals.{After-push_within-2}
+use Rattle.db_core.proofs.database.Core.accept.Goals.{After-push_reserved-2}
 
 -- ---- over the fields
 
@@ -89,7 +89,7 @@ invariant_of-self-in_default-make_room-2 c = roomier c.self.inside c.make_room.n
 
 -- ---- once the event is added
 
-module _ (c : After-push_within-2) where
+module _ (c : After-push_reserved-2) where
   abbrev i : Inside
   i = c.self.inside
 
@@ -111,10 +111,10 @@ module _ (c : After-push_within-2) where
   abbrev event : Event
   event = commit_event c.args.tx (Committed (c.version-version.result + 1) c.args.tx.replies)
 
-  is_logged : c.push_within-2.new.items.items ≡ i.log.items ++ event ∷ []
+  is_logged : c.push_reserved-2.new.self.items ≡ i.log.items ++ event ∷ []
   is_logged =
       let pin = c.split-pin.ensures.pin in
-      c.push_within-2.ensures.items
+      c.push_reserved-2.ensures.items
       ∙ (ap (λ (xs : List Event). xs ++ event_of c.caller.result (Commit c.number.result c.split-pin.result.1) (Committed (c.version-version.result + 1) c.split-pin.result.2) ∷ []) c.make_room-2.ensures.items
       ∙ λ k. i.log.items ++ event_of ((c.caller.ensures ∙ ap (λ (p : PinFacts). p.caller) pin) k) (Commit ((c.number.ensures ∙ ap (λ (p : PinFacts). p.number) pin) k) (c.split-pin.ensures.ops k)) (Committed (c.version-version.result + 1) (c.split-pin.ensures.replies k)) ∷ [])
 
@@ -135,20 +135,20 @@ invariant_of-self-2 c =
     let tx = c.args.tx in
     let h = c.self.invariant.stands in
     let log = is_logged c in
-    let long : length c.push_within-2.new.items.items ≡ length i.log.items + 1 = ap length log ∙ length-append i.log.items (event c ∷ []) in
+    let long : length c.push_reserved-2.new.self.items ≡ length i.log.items + 1 = ap length log ∙ length-append i.log.items (event c ∷ []) in
     let items : length c.make_room-2.new.items.items ≡ length i.log.items = ap length c.make_room-2.ensures.items in
     let live : length i.pins.live ≡ length s.pins = ap length h.live ∙ few_held s.pins in
-    let places : length c.push_within-2.new.items.items + length s.pins ≤ vec_capacity c.push_within-2.new.items = omega (arith, c.in-Ok-make_room-2.ensures.room, c.live.ensures, c.push_within-2.ensures.capacity) in
+    let places : length c.push_reserved-2.new.self.items + length s.pins ≤ vec_capacity c.push_reserved-2.new.self = omega (arith, c.in-Ok-make_room-2.ensures.room, c.live.ensures, c.push_reserved-2.ensures.capacity) in
     let next : c.in-Ok.next ≡ record { version = head s + 1; design = (run (design s (head s)) tx.ops).design } =
     c.in-Ok.ensures ∙ λ k. record { version = is_next c k; design = (run ((ap (λ (x : Shot). x.design) h.newest) k) tx.ops).design } in
-    let versions : c.push_within.new.items.items ≡ i.versions.items ++ c.in-Ok.next ∷ [] =
-    c.push_within.ensures.items ∙ (ap (λ (xs : List Shot). xs ++ c.in-Ok-share.kept ∷ []) c.make_room.ensures.items ∙ ap (λ (x : Shot). i.versions.items ++ x ∷ []) c.in-Ok-share.ensures) in
+    let versions : c.push_reserved.new.self.items ≡ i.versions.items ++ c.in-Ok.next ∷ [] =
+    c.push_reserved.ensures.items ∙ (ap (λ (xs : List Shot). xs ++ c.in-Ok-share.kept ∷ []) c.make_room.ensures.items ∙ ap (λ (x : Shot). i.versions.items ++ x ∷ []) c.in-Ok-share.ensures) in
     let fine = (kept_up_after i.opening.design i.log.items c.self.invariant.history.legal).fine in
     let marks : IsMarked i.stamps c.mark.new.self c.written.result.now (head s + 1) = subst (λ (v : ℕ). IsMarked i.stamps c.mark.new.self c.written.result.now v) (is_next c) c.in-Ok-mark.ensures.ok in
     core_adds i _ (event c) c.self.invariant refl log (is_admitted c) c.written.ensures.tried.typed
-    (stands_committed i s tx.ops c.push_within.new.items c.in-Ok.next c.mark.new.self c.push_within-2.new.items c.written.result.now h fine.there versions next marks (writes_same c) places)
+    (stands_committed i s tx.ops c.push_reserved.new.self c.in-Ok.next c.mark.new.self c.push_reserved-2.new.self c.written.result.now h fine.there versions next marks (writes_same c) places)
 
 pub returns-clause-ok : goal.returns-clause-ok
 returns-clause-ok c =
-    subst (λ (st : Story). Accepts st (record { opening = c.self.inside.opening.design; events = c.push_within-2.new.items.items }) c.args.tx (c.version-version.result + 1) c.split-pin.result.0) c.self.view_is
+    subst (λ (st : Story). Accepts st (record { opening = c.self.inside.opening.design; events = c.push_reserved-2.new.self.items }) c.args.tx (c.version-version.result + 1) c.split-pin.result.0) c.self.view_is
     (record { pin_is = c.split-pin.ensures.pin; adds = record { opening = refl; events = is_logged c; admits = is_admitted c } })

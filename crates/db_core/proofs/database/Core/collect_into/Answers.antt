@@ -15,7 +15,7 @@ use Rattle.db_core.specs.Story.{Story, shot, state}
 use Rattle.db_core.proofs.Pins.{few_held, any_held}
 use Rattle.db_core.proofs.Steps.{roomy, core_adds, stands_collected, kept_after, state_of}
 use Rattle.db_core.proofs.database.Core.collect_into.Goals as goal
-use Rattle.db_core.proofs.database.Core.collect_into.Goals.{After-push_within}
+use Rattle.db_core.proofs.database.Core.collect_into.Goals.{After-push_reserved}
 
 pub invariant_of-self : goal.invariant_of-self
 invariant_of-self c = roomy c.self.inside c.make_room.new.items c.self.invariant c.make_room.ensures.items c.make_room.ensures.capacity
@@ -30,7 +30,7 @@ overflow_cast-dropped c =
     omega (arith, c.len-before.ensures, c.len.ensures, length-map s.kept (shot s))
 
 -- the versions that are left are those that stay
-left : (c : After-push_within) (new : List Shot)
+left : (c : After-push_reserved) (new : List Shot)
     → new ≡ filter (λ (kept : Shot). (kept.version == c.self.inside.newest.version) || list_any (λ (pin : HeldPin). pin.version == kept.version) c.self.inside.pins.live) c.self.inside.versions.items
     → new ≡ filter (λ (k : Shot). stays (state_of c.self.inside) k.version) c.self.inside.versions.items
 left c new is =
@@ -40,13 +40,13 @@ left c new is =
     ∙ (ap (λ (ps : List HeldPin). filter (λ (k : Shot). (k.version == head s) || list_any (λ (pin : HeldPin). pin.version == k.version) ps) c.self.inside.versions.items) h.live
     ∙ λ i. filter (λ (k : Shot). (k.version == head s) || any_held k.version s.pins i) c.self.inside.versions.items))
 
-kept_is : (c : After-push_within) (head : ℕ) (new : List Shot) → head ≡ c.self.inside.newest.version
+kept_is : (c : After-push_reserved) (head : ℕ) (new : List Shot) → head ≡ c.self.inside.newest.version
     → new ≡ filter (λ (kept : Shot). (kept.version == head) || list_any (λ (pin : HeldPin). pin.version == kept.version) c.self.inside.pins.live) c.self.inside.versions.items
     → new ≡ filter (λ (k : Shot). stays (state_of c.self.inside) k.version) c.self.inside.versions.items
 kept_is c head new same is = left c new (is ∙ ap (λ (n : ℕ). filter (λ (k : Shot). (k.version == n) || list_any (λ (pin : HeldPin). pin.version == k.version) c.self.inside.pins.live) c.self.inside.versions.items) same)
 
 -- how many are dropped
-admits : (c : After-push_within) (count : ℕ) (versions : List Shot) → versions ≡ filter (λ (k : Shot). stays (state_of c.self.inside) k.version) c.self.inside.versions.items
+admits : (c : After-push_reserved) (count : ℕ) (versions : List Shot) → versions ≡ filter (λ (k : Shot). stays (state_of c.self.inside) k.version) c.self.inside.versions.items
     → count ≡ length c.self.inside.versions.items - length versions → HasPlaces (state_of c.self.inside) 1 → Admits (state_of c.self.inside) (event_of c.args.caller Collect (Collected count))
 admits c count versions is counts room =
     let s : State = state_of c.self.inside in
@@ -57,7 +57,7 @@ admits c count versions is counts room =
     let told : count ≡ dropped s = omega (arith, length-map (filter (stays s) s.kept) (shot s), length-map s.kept (shot s)) in
     record { room = room; callers = tt; answers = told }
 
-room_is : (c : After-push_within) → HasPlaces (state c.args.self.now) 1 → HasPlaces (state_of c.self.inside) 1
+room_is : (c : After-push_reserved) → HasPlaces (state c.args.self.now) 1 → HasPlaces (state_of c.self.inside) 1
 room_is c room = subst (λ (st : Story). HasPlaces (state st) 1) (sym c.self.view_is) room
 
 pub invariant_of-self-2 : goal.invariant_of-self-2
@@ -67,20 +67,20 @@ invariant_of-self-2 c =
     let event : Event = event_of c.args.caller Collect (Collected (c.len-before.result - c.len.result)) in
     let room : HasPlaces s 1 = room_is c (search rules) in
     let versions = kept_is c c.version.result c.keep_held.new.versions.items c.version.ensures c.keep_held.ensures.items in
-    let log : c.push_within.new.items.items ≡ c.self.inside.log.items ++ event ∷ [] = c.push_within.ensures.items ∙ ap (λ (xs : List Event). xs ++ event ∷ []) c.make_room.ensures.items in
-    let long : length c.push_within.new.items.items ≡ length c.self.inside.log.items + 1 = ap length log ∙ length-append c.self.inside.log.items (event ∷ []) in
+    let log : c.push_reserved.new.self.items ≡ c.self.inside.log.items ++ event ∷ [] = c.push_reserved.ensures.items ∙ ap (λ (xs : List Event). xs ++ event ∷ []) c.make_room.ensures.items in
+    let long : length c.push_reserved.new.self.items ≡ length c.self.inside.log.items + 1 = ap length log ∙ length-append c.self.inside.log.items (event ∷ []) in
     let items : length c.make_room.new.items.items ≡ length c.self.inside.log.items = ap length c.make_room.ensures.items in
     let live : length c.self.inside.pins.live ≡ length s.pins = ap length h.live ∙ few_held s.pins in
-    let places : length c.push_within.new.items.items + length s.pins ≤ vec_capacity c.push_within.new.items = omega (arith, c.in-Ok-make_room.ensures.room, c.live.ensures, c.push_within.ensures.capacity) in
+    let places : length c.push_reserved.new.self.items + length s.pins ≤ vec_capacity c.push_reserved.new.self = omega (arith, c.in-Ok-make_room.ensures.room, c.live.ensures, c.push_reserved.ensures.capacity) in
     core_adds c.self.inside _ event c.self.invariant refl log
     (admits c (c.len-before.result - c.len.result) c.keep_held.new.versions.items versions (omega (arith, c.len-before.ensures, c.len.ensures)) room) tt
-    (stands_collected c.self.inside s c.keep_held.new.versions c.push_within.new.items h versions places)
+    (stands_collected c.self.inside s c.keep_held.new.versions c.push_reserved.new.self h versions places)
 
 pub returns : goal.returns
 returns c =
     let event : Event = event_of c.args.caller Collect (Collected (c.len-before.result - c.len.result)) in
     let room = room_is c (search rules) in
     let versions = kept_is c c.version.result c.keep_held.new.versions.items c.version.ensures c.keep_held.ensures.items in
-    let log : c.push_within.new.items.items ≡ c.self.inside.log.items ++ event ∷ [] = c.push_within.ensures.items ∙ ap (λ (xs : List Event). xs ++ event ∷ []) c.make_room.ensures.items in
-    subst (λ (st : Story). Adds st (record { opening = c.self.inside.opening.design; events = c.push_within.new.items.items }) event) c.self.view_is
+    let log : c.push_reserved.new.self.items ≡ c.self.inside.log.items ++ event ∷ [] = c.push_reserved.ensures.items ∙ ap (λ (xs : List Event). xs ++ event ∷ []) c.make_room.ensures.items in
+    subst (λ (st : Story). Adds st (record { opening = c.self.inside.opening.design; events = c.push_reserved.new.self.items }) event) c.self.view_is
     (record { opening = refl; events = log; admits = admits c (c.len-before.result - c.len.result) c.keep_held.new.versions.items versions (omega (arith, c.len-before.ensures, c.len.ensures)) room })

@@ -53,18 +53,18 @@ invariant_of-self-2 c =
     let s : State = state_of c.self.inside in
     let h = c.self.invariant.stands in
     let event : Event = event_of c.args.caller c.args.call (Pinned c.in_ok-number.number c.args.at.version) in
-    let log = added c c.push_within.new.items.items c.push_within.ensures.items in
-    let long : length c.push_within.new.items.items ≡ length c.self.inside.log.items + 1 = ap length log ∙ length-append c.self.inside.log.items (event ∷ []) in
+    let log = added c c.push_reserved.new.self.items c.push_reserved.ensures.items in
+    let long : length c.push_reserved.new.self.items ≡ length c.self.inside.log.items + 1 = ap length log ∙ length-append c.self.inside.log.items (event ∷ []) in
     let items : length c.make_room.new.items.items ≡ length c.self.inside.log.items = ap length c.make_room.ensures.items in
     let live : length c.self.inside.pins.live ≡ length s.pins = ap length h.live ∙ few_held s.pins in
-    let places : length c.push_within.new.items.items + (length s.pins + 1) ≤ vec_capacity c.push_within.new.items = omega (arith, c.in_ok-make_room.ensures.room, c.live.ensures, c.push_within.ensures.capacity) in
+    let places : length c.push_reserved.new.self.items + (length s.pins + 1) ≤ vec_capacity c.push_reserved.new.self = omega (arith, c.in_ok-make_room.ensures.room, c.live.ensures, c.push_reserved.ensures.capacity) in
     let pins : c.add.new.self ≡ with_pin c.self.inside.pins c.args.at.version = c.in_ok-number.ensures.ok.1 ∙ ap (λ (v : ℕ). with_pin c.self.inside.pins v) c.version-version.ensures in
     core_adds c.self.inside _ event c.self.invariant refl log (admits c) c.requires.typed
-    (stands_pinned c.self.inside s c.args.caller c.args.at.version c.add.new.self c.push_within.new.items h pins places)
+    (stands_pinned c.self.inside s c.args.caller c.args.at.version c.add.new.self c.push_reserved.new.self h pins places)
 
 pub returns-clause-ok : goal.returns-clause-ok
 returns-clause-ok c =
-    let log = added c c.push_within.new.items.items c.push_within.ensures.items in
+    let log = added c c.push_reserved.new.self.items c.push_reserved.ensures.items in
     let shot_is : c.args.at ≡ shot (state_of c.self.inside) c.args.at.version = subst (λ (st : Story). c.args.at ≡ shot (state st) c.args.at.version) (sym c.self.view_is) c.requires.shot in
-    subst (λ (st : Story). Pins st (record { opening = c.self.inside.opening.design; events = c.push_within.new.items.items }) c.args.caller c.args.call c.of.result) c.self.view_is
-    (pins_made c.self.inside c.push_within.new.items c.args.caller c.args.call c.args.at c.in_ok-number.number c.of.result (number_is c) shot_is log (admits c) c.of.ensures)
+    subst (λ (st : Story). Pins st (record { opening = c.self.inside.opening.design; events = c.push_reserved.new.self.items }) c.args.caller c.args.call c.of.result) c.self.view_is
+    (pins_made c.self.inside c.push_reserved.new.self c.args.caller c.args.call c.args.at c.in_ok-number.number c.of.result (number_is c) shot_is log (admits c) c.of.ensures)

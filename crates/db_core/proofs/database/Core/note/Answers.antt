@@ -17,9 +17,9 @@ invariant_of-self-2 c =
     let event : Event = c.args.event in
     let admits : Admits s event = subst (λ (st : Story). Admits (state st) event) (sym c.self.view_is) c.requires.admits in
     let same : changed s event.caller event.call event.answer ≡ s = subst (λ (st : Story). changed (state st) event.caller event.call event.answer ≡ state st) (sym c.self.view_is) c.requires.same in
-    let added : c.push_within.new.items.items ≡ c.self.inside.log.items ++ event ∷ [] = c.push_within.ensures.items ∙ ap (λ (xs : List Event). xs ++ event ∷ []) c.make_room.ensures.items in
-    let long : length c.push_within.new.items.items ≡ length c.self.inside.log.items + 1 = ap length added ∙ length-append c.self.inside.log.items (event ∷ []) in
+    let added : c.push_reserved.new.self.items ≡ c.self.inside.log.items ++ event ∷ [] = c.push_reserved.ensures.items ∙ ap (λ (xs : List Event). xs ++ event ∷ []) c.make_room.ensures.items in
+    let long : length c.push_reserved.new.self.items ≡ length c.self.inside.log.items + 1 = ap length added ∙ length-append c.self.inside.log.items (event ∷ []) in
     let items : length c.make_room.new.items.items ≡ length c.self.inside.log.items = ap length c.make_room.ensures.items in
     let live : length c.self.inside.pins.live ≡ length s.pins = ap length h.live ∙ few_held s.pins in
-    let places : length c.push_within.new.items.items + length s.pins ≤ vec_capacity c.push_within.new.items = omega (arith, c.in_ok-make_room.ensures.room, c.live.ensures, c.push_within.ensures.capacity) in
-    core_adds c.self.inside _ event c.self.invariant refl added admits c.requires.typed (stands_noted c.self.inside s event c.push_within.new.items h same places)
+    let places : length c.push_reserved.new.self.items + length s.pins ≤ vec_capacity c.push_reserved.new.self = omega (arith, c.in_ok-make_room.ensures.room, c.live.ensures, c.push_reserved.ensures.capacity) in
+    core_adds c.self.inside _ event c.self.invariant refl added admits c.requires.typed (stands_noted c.self.inside s event c.push_reserved.new.self h same places)

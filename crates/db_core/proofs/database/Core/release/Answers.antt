@@ -31,14 +31,14 @@ invariant_of-self c =
     let pin = c.args.pin in
     let event : Event = event_of pin.caller (Release pin.number) Released in
     let live : IsLive s pin.number pin.caller pin.version = subst (λ (st : Story). IsLive (state st) pin.number pin.caller pin.version) (sym c.self.view_is) c.requires in
-    let added : c.push_within.new.items.items ≡ c.self.inside.log.items ++ event ∷ [] =
-    c.push_within.ensures.items ∙ (ap (λ (n : ℕ). c.self.inside.log.items ++ event_of c.caller-caller.result (Release n) Released ∷ []) c.number-number.ensures
+    let added : c.push_reserved.new.self.items ≡ c.self.inside.log.items ++ event ∷ [] =
+    c.push_reserved.ensures.items ∙ (ap (λ (n : ℕ). c.self.inside.log.items ++ event_of c.caller-caller.result (Release n) Released ∷ []) c.number-number.ensures
     ∙ ap (λ (n : ℕ). c.self.inside.log.items ++ event_of n (Release pin.number) Released ∷ []) c.caller-caller.ensures) in
-    let long : length c.push_within.new.items.items ≡ length c.self.inside.log.items + 1 = ap length added ∙ length-append c.self.inside.log.items (event ∷ []) in
+    let long : length c.push_reserved.new.self.items ≡ length c.self.inside.log.items + 1 = ap length added ∙ length-append c.self.inside.log.items (event ∷ []) in
     let fine = (kept_up_after c.self.inside.opening.design c.self.inside.log.items c.self.invariant.history.legal).fine in
     let less : length (released s pin.number).pins + 1 ≡ length s.pins = one_goes (λ (p : LivePin). p.number) pin.number s.pins (live_pin pin.number pin.caller pin.version) fine.rising live refl in
     let before = h.places in
-    let places : length c.push_within.new.items.items + length (released s pin.number).pins ≤ vec_capacity c.push_within.new.items = omega (arith, c.push_within.ensures.capacity) in
+    let places : length c.push_reserved.new.self.items + length (released s pin.number).pins ≤ vec_capacity c.push_reserved.new.self = omega (arith, c.push_reserved.ensures.capacity) in
     let gone : c.remove.new.self ≡ without_pin c.self.inside.pins pin.number = c.remove.ensures ∙ ap (without_pin c.self.inside.pins) c.number-number.ensures in
     core_adds c.self.inside _ event c.self.invariant refl added (record { room = tt; callers = (pin.version, live); answers = tt }) tt
-    (stands_released c.self.inside s pin.number c.remove.new.self c.push_within.new.items h gone places)
+    (stands_released c.self.inside s pin.number c.remove.new.self c.push_reserved.new.self h gone places)

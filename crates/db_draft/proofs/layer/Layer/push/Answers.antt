@@ -13,6 +13,6 @@ returns-clause-ok c =
     let none = ap (λ (n : List ℕ). list_any (is_name n) old.names) id ∙ c.requires in
     record {
       changed = λ slot. refl;
-      added_are = ap (map arc_value) (c.push_within.ensures ∙ ap (λ xs. xs ++ c.args.body ∷ []) c.in_ok-reserve.ensures.items) ∙ map-append arc_value old.cells.items (c.args.body ∷ []);
+      added_are = ap (map arc_value) (c.push_reserved.ensures.items ∙ ap (λ xs. xs ++ c.args.body ∷ []) c.in_ok-reserve.ensures.items) ∙ map-append arc_value old.cells.items (c.args.body ∷ []);
       names_are = c.in_ok-add.ensures.ok ∙ (ap (λ b. cond b old.names (old.names ++ c.deref.result.now.name.id ∷ [])) none ∙ ap (λ (n : List ℕ). old.names ++ n ∷ []) id);
     }
