@@ -188,7 +188,7 @@ impl Draft {
     {
         let count = match self.base.parts().shelf(id.lib) {
             Some(shelf) => shelf.cell_count(),
-            None => return Ok(()),
+            None => unreachable!(),
         };
         put_in(&mut self.layers, id.lib, count, id.slot, body)
     }
@@ -200,7 +200,7 @@ impl Draft {
     {
         let count = match self.base.parts().shelf(id.lib) {
             Some(shelf) => shelf.cell_count(),
-            None => return Tried::NotHere(change),
+            None => unreachable!(),
         };
         try_in(&mut self.layers, id.lib, count, id.slot, change)
     }

@@ -171,7 +171,7 @@ impl Draft {
     {
         let mut made = match self.body(id) {
             Some(body) => body.copy(alloc)?,
-            None => return Ok(()),
+            None => unreachable!(),
         };
         change_body(&mut made, change)?;
         self.set(id, Arc::new(alloc, made)?)

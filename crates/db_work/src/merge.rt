@@ -75,7 +75,7 @@ impl Work {
     {
         match self.draft().share(alloc, id)? {
             Some(body) => moved.push(alloc, id.lib, body),
-            None => Ok(()),
+            None => unreachable!(),
         }
     }
 

@@ -1,9 +1,15 @@
-use Rattle.std.proofs.Common.{◌≡◌, ap, ◌∙◌, Some}
+use Rattle.std.proofs.Common.{◌≡◌, ap, ◌∙◌, Option, Some, subst, sym}
 use Rattle.std.specs.Arc.{arc_value}
 use Rattle.edit_cells.specs.Patch.{body_after}
 use Rattle.edit_cells.proofs.Patches.{cell_changed_same}
 use Rattle.db_draft.proofs.Drafting.{on_ok}
+use Rattle.netlist_schema.specs.Types.{CellBody}
+use Rattle.std.specs.Prelude.{IsSomeAnd}
+use Rattle.db_draft.specs.Make.{CanFit}
 use Rattle.db_draft.proofs.draft.Draft.edit_copy.Goals as goal
+
+pub unreachable-requires : goal.unreachable-requires
+unreachable-requires c = subst (λ (o : Option CellBody). IsSomeAnd o (CanFit c.args.change)) (sym c.in-None.ensures) c.requires
 
 pub returns-clause-ok : goal.returns-clause-ok
 returns-clause-ok c =

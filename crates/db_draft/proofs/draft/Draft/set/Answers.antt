@@ -9,8 +9,8 @@ use Rattle.db_draft.proofs.Drafting.{can_put, either_way, on_ok, on_err, put_lai
 use Rattle.db_draft.proofs.Works.{no_cells_here}
 use Rattle.db_draft.proofs.draft.Draft.set.Goals as goal
 
-pub returns-in-None-clause-ok : goal.returns-in-None-clause-ok
-returns-in-None-clause-ok c =
+pub unreachable-requires : goal.unreachable-requires
+unreachable-requires c =
     let w = c.self.inside in
     let none : None ≡ lib_at w.base.design c.args.id.lib = c.in-None.ensures.value ∙ ap (λ (d : Design). lib_at d c.args.id.lib) c.parts.ensures in
     let empty = no_cells_here w.base.design w.layers.items (notes_of w) c.args.id.lib none in

@@ -1,4 +1,4 @@
-use Rattle.std.proofs.Common.{ap, map, sym, subst, ◌∙◌}
+use Rattle.std.proofs.Common.{◌≡◌, List, None, ap, map, slice_get, sym, subst, ◌∙◌}
 use Rattle.db_draft.specs.Laid.{laid}
 use Rattle.db_draft.specs.Layers.{over_of}
 use Rattle.std.specs.Prelude.{IsSomeAnd}
@@ -7,7 +7,17 @@ use Rattle.db_draft.specs.Drafts.{Drafted, notes_of}
 use Rattle.db_draft.specs.Make.{CanFit}
 use Rattle.db_draft.specs.Place.{IsTriedCell}
 use Rattle.db_draft.proofs.Placing.{can_try, tried_laid, tried_suits}
+use Rattle.netlist_schema.specs.Types.{CellBody}
+use Rattle.db_draft.proofs.Works.{no_cells_here}
 use Rattle.db_draft.proofs.draft.Draft.try_change.Goals as goal
+
+pub unreachable-requires : goal.unreachable-requires
+unreachable-requires c =
+    let w = c.self.inside in
+    let none : None ≡ lib_at w.base.design c.args.id.lib = c.in-None.ensures.value ∙ ap (λ (d : Design). lib_at d c.args.id.lib) c.parts.ensures in
+    let empty = no_cells_here w.base.design w.layers.items (notes_of w) c.args.id.lib none in
+    subst (λ (cells : List CellBody). IsSomeAnd (slice_get cells c.args.id.slot) (CanFit c.args.change)) (sym empty)
+    (subst (λ (f : Drafted). IsSomeAnd (cell_at f.design c.args.id) (CanFit c.args.change)) (sym c.self.view_is) c.requires)
 
 pub try_in-requires : goal.try_in-requires
 try_in-requires c =

@@ -33,7 +33,7 @@ returns-in-Some-clause-count c =
     (shared_at c.in_ok-body.field-0 c.in-Some.body c.draft.result.now.design c.args.self.now.design c.args.id c.in-Some.is c.in_ok-body.ensures c.draft.ensures))
     c.push.ensures.ok
 
-pub returns-in-None-clause-count : goal.returns-in-None-clause-count
-returns-in-None-clause-count c =
-    absurd (next_there c.args.self.now c.requires.behind.0 c.args.moved.now.design c.requires.behind.1 c.args.id c.requires.within
-    (none_at c.in_ok-body.field-0 c.draft.result.now.design c.args.self.now.design c.args.id c.in-None.is c.in_ok-body.ensures c.draft.ensures))
+pub unreachable-requires : goal.unreachable-requires
+unreachable-requires c =
+    next_there c.args.self.now c.requires.behind.0 c.args.moved.now.design c.requires.behind.1 c.args.id c.requires.within
+    (none_at c.in_ok-body.field-0 c.draft.result.now.design c.args.self.now.design c.args.id c.in-None.is c.in_ok-body.ensures c.draft.ensures)
