@@ -11,7 +11,7 @@ use Rattle.edit_rules_spec.specs.declared.reply.EndName.{EndName}
 use Rattle.edit_rules_spec.specs.declared.reply.Reply.{Reply}
 use Rattle.edit_rules_spec.specs.declared.reply.Reply.TheVariants.{NoInst, NotJoined}
 use Rattle.edit_rules_spec.proofs.Lists.{Apart, apart_of, each_left}
-use Rattle.edit_spec.specs.Cut.{is_end, net_without_end, not_joined, without_end}
+use Rattle.edit_spec.specs.Cut.{is_end, net_without_end, not_joined, without_end, no_cut}
 use Rattle.flat_spec.specs.ConnectionTest.{same_end}
 use Rattle.flat_spec.proofs.TestLemmas.{same_end-true}
 use Rattle.edit_spec.specs.Ends.{bad_bit, end_named, joins_end, no_end_inst, no_port}
@@ -22,7 +22,6 @@ use Rattle.eco_reads.specs.declared.plan.Plan.{Plan}
 use Rattle.eco_reads.specs.declared.plan.Plan.TheVariants.{Net as PlannedNet}
 use Rattle.eco_reads.proofs.Within.{put_within}
 use Rattle.eco_reads.proofs.Found.{or_front}
-use Rattle.eco_ops.specs.Ends.{no_cut}
 use Rattle.eco_ops.proofs.Joined.{both_none, found_at, not_found, one_place, place_of_rest}
 
 -- ---- ends that are other ones

@@ -18,7 +18,7 @@ use Rattle.edit_rules_spec.specs.declared.reply.CellName.{CellName}
 use Rattle.edit_rules_spec.specs.declared.reply.EndName.{EndName}
 use Rattle.edit_rules_spec.specs.declared.reply.Reply.{Reply}
 use Rattle.edit_rules_spec.specs.declared.reply.Reply.TheVariants.{Done}
-use Rattle.edit_spec.specs.Cut.{without_end}
+use Rattle.edit_spec.specs.Cut.{without_end, no_cut}
 use Rattle.edit_spec.specs.Ends.{end_named}
 use Rattle.edit_spec.specs.Inside.{set_nets}
 use Rattle.edit_spec.specs.Join.{no_join, with_end}
@@ -32,7 +32,7 @@ use Rattle.eco_reads.specs.Plan.{CanBePut, IsPlanned, IsPut}
 use Rattle.eco_reads.specs.declared.plan.Plan.{Plan}
 use Rattle.eco_reads.proofs.Found.{face_is, found_row, inside_is, refused_row}
 use Rattle.eco_reads.proofs.Reading.{both_edits, done_read, face_needs, inside_needs, only_name, planned_can, planned_done, put_result, read_both, read_then}
-use Rattle.eco_ops.specs.Ends.{IsFaceAt, cell_of_end, end_ports_at, no_cut}
+use Rattle.eco_ops.specs.Ends.{IsFaceAt, cell_of_end, end_ports_at}
 
 -- what is inside the cell was read, and the face of the cell of the end's instance where there is one
 at_is : (s : State) (id : CellId) (inst : Option (List ℕ)) (contents : Option Contents) (of : Option CellId) → contents ≡ contents_at s.design id → of ≡ cell_of_end contents id inst → of ≡ cell_of_end (contents_at s.design id) id inst

@@ -16,7 +16,7 @@ use Rattle.edit_rules_spec.specs.Paths.{is_below, same_cell}
 use Rattle.edit_rules_spec.specs.Seen.{contents_at, holder, inside, named}
 use Rattle.edit_rules_spec.specs.Rule.{first, is_leaf, no_cell, no_lib, refuse, too_many, unless}
 use Rattle.edit_rules_spec.specs.Paths.{is_cyclic}
-use Rattle.edit_spec.specs.AddInst.{is_later, taken_inst, with_inst}
+use Rattle.edit_spec.specs.AddInst.{is_later, taken_inst, with_inst, no_new_inst}
 use Rattle.edit_spec.specs.Inside.{set_insts}
 use Rattle.edit_spec.specs.Rows.{outcome}
 use Rattle.edit_spec.specs.Typed.{IsTypedOp}
@@ -31,7 +31,7 @@ use Rattle.edit_rules_spec.specs.Objects.{contents_object}
 use Rattle.edit_cells.specs.State.{State, HasRead}
 use Rattle.eco_reads.specs.declared.plan.Plan.{Plan}
 use Rattle.eco_reads.specs.Done.{IsDone, IsDoneOrFails}
-use Rattle.eco_ops.specs.Insts.{more_insts, no_new_inst}
+use Rattle.eco_ops.specs.Insts.{more_insts}
 use Rattle.eco_reads.specs.Plan.{CanBePut, IsPlanned, IsPut}
 use Rattle.eco_reads.specs.Walk.{IsAtOrBelow, IsInsideBelow}
 use Rattle.eco_reads.proofs.Found.{found_row, inside_is, refused_row}

@@ -6,11 +6,11 @@ use Rattle.std.proofs.lemmas.Bool.{le-leb, lt-leb}
 use Rattle.netlist_schema.specs.Types.{CellId, Contents, Inst}
 use Rattle.edit_rules_spec.specs.Find.{is_same}
 use Rattle.edit_rules_spec.specs.Rule.{first}
-use Rattle.edit_spec.specs.AddInst.{new_inst}
+use Rattle.edit_spec.specs.AddInst.{new_inst, no_new_inst}
 use Rattle.edit_rules_spec.specs.declared.reply.Reply.TheVariants.{TooMany}
 use Rattle.eco_reads.specs.declared.plan.Plan.TheVariants.{Inst as PlannedInst}
 use Rattle.eco_reads.proofs.Within.{put_last}
-use Rattle.eco_ops.specs.Insts.{more_insts, no_new_inst}
+use Rattle.eco_ops.specs.Insts.{more_insts}
 use Rattle.eco_reads.specs.Plan.{IsPlanned}
 
 pub too_many_insts : (contents : Option Contents) (c : Contents) (name : List ℕ) (later cyclic : Bool) → contents ≡ Some c → list_any (λ inst. is_same inst.name.id name) c.insts ≡ false → later ≡ false → cyclic ≡ false → 1048576 ≤ length c.insts → first (no_new_inst contents name later cyclic) ≡ Some (TooMany 1048576)

@@ -40,11 +40,6 @@ abbrev pub IsFaceAt : Option CellId → Object → Type 0
 IsFaceAt None o = ⊥
 IsFaceAt (Some id) o = o ≡ face_object id
 
--- the refusals to cut an end in contents
-abbrev pub no_cut : Option Contents → Option (List Port) → EndName → List (Option Reply)
-no_cut contents ports name =
-    no_end_inst contents name.inst ∷ no_port ports name.port ∷ bad_bit ports name.port name.bit ∷ not_joined contents (end_named contents ports name) ∷ []
-
 -- the refusals to join an end whose place is found
 abbrev pub no_more_end : Contents → End → List (Option Reply)
 no_more_end contents end = already_joined (Some contents) (Some end) ∷ too_many (length (ends_in (Some contents))) MOST_ENDS ∷ []

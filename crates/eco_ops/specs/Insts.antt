@@ -9,11 +9,6 @@ use Rattle.edit_spec.specs.AddInst.{taken_inst, with_inst}
 use Rattle.edit_rules_spec.specs.declared.reply.Reply.{Reply}
 use Rattle.edit_rules_spec.specs.declared.reply.Reply.TheVariants.{IsCyclic, LaterLibrary}
 
--- the refusals to add an instance to contents, where both cells are found
-abbrev pub no_new_inst : Option Contents → List ℕ → Bool → Bool → List (Option Reply)
-no_new_inst contents inst later cyclic =
-    is_leaf contents ∷ taken_inst contents inst ∷ refuse later LaterLibrary ∷ refuse cyclic IsCyclic ∷ too_many (length (insts_in contents)) MOST_INSTS ∷ []
-
 -- the contents with one more
 abbrev pub more_insts : List ℕ → CellId → Option Contents → Contents
 more_insts inst of contents = record { insts = with_inst inst of (insts_in contents); nets = nets_in contents }

@@ -6,7 +6,7 @@ ghost use Rattle.netlist_schema.specs.Design.{insts_in, nets_in};
 ghost use Rattle.netlist_schema.specs.Names.{AreDistinct};
 ghost use Rattle.netlist_schema.specs.Types.{Port};
 ghost use Rattle.netlist_schema.specs.declared.limits.TheConstants.{MOST_ENDS, MOST_PORTS};
-ghost use Rattle.edit_spec.specs.Cut.{is_end, net_without_end, not_joined, without_end};
+ghost use Rattle.edit_spec.specs.Cut.{is_end, net_without_end, not_joined, without_end, no_cut};
 ghost use Rattle.edit_spec.specs.Ends.{bad_bit, end_inst, end_named, joins_end, no_end_inst, no_port};
 ghost use Rattle.flat_spec.specs.ConnectionTest.{same_end};
 ghost use Rattle.edit_spec.specs.Join.{net_with_end, no_join, with_end};
@@ -20,8 +20,7 @@ ghost use Rattle.edit_cells.specs.State.{HasRead, HasReadSome};
 ghost use Rattle.eco_reads.specs.Done.{IsDoneOrFails};
 ghost use Rattle.eco_reads.specs.Outcome.{UnlessNoMemory};
 ghost use Rattle.eco_reads.specs.Plan.{IsPlanned};
-ghost use Rattle.eco_ops.specs.Ends.{IsFaceAt, cell_of_end, end_ports_at, no_cut, no_more_end, port_in, seen_port};
-
+ghost use Rattle.eco_ops.specs.Ends.{IsFaceAt, cell_of_end, end_ports_at, no_more_end, port_in, seen_port};
 use eco_reads::{OpError, Plan, inst_place, net_place, port_place};
 use edit_cells::Face;
 use edit_spec::{EndName, Reply};

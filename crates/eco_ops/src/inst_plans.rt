@@ -5,7 +5,7 @@ ghost use Rattle.netlist_schema.specs.Design.{insts_in, nets_in};
 ghost use Rattle.netlist_schema.specs.declared.ids.Object.TheVariants.{Notes};
 ghost use Rattle.edit_rules_spec.specs.Edit.{noted};
 ghost use Rattle.edit_rules_spec.specs.Reading.{IsForNotes, IsReached, IsReachedBy};
-ghost use Rattle.edit_spec.specs.AddInst.{new_inst};
+ghost use Rattle.edit_spec.specs.AddInst.{new_inst, no_new_inst};
 ghost use Rattle.edit_spec.specs.DropInst.{end_without_inst, net_without_inst, set_notes, without_inst};
 ghost use Rattle.edit_rules_spec.specs.Rule.{first, is_leaf, no_inst, too_many};
 ghost use Rattle.edit_rules_spec.specs.Notes.{other_notes};
@@ -14,9 +14,8 @@ ghost use Rattle.edit_cells.specs.Parts.{HasLimits};
 ghost use Rattle.edit_cells.specs.State.{HasRead, HasReadSome};
 ghost use Rattle.eco_reads.specs.Done.{IsDoneOrFails};
 ghost use Rattle.eco_reads.specs.Outcome.{UnlessNoMemory};
-ghost use Rattle.eco_ops.specs.Insts.{is_other, more_insts, no_new_inst};
+ghost use Rattle.eco_ops.specs.Insts.{is_other, more_insts};
 ghost use Rattle.eco_reads.specs.Plan.{IsPlanned};
-
 use eco_reads::{OpError, Plan, inst_place, is_inst_taken};
 use edit_spec::Reply;
 use netlist_schema::{

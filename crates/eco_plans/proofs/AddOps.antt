@@ -16,7 +16,7 @@ use Rattle.edit_rules_spec.specs.declared.reply.CellName.{CellName}
 use Rattle.edit_rules_spec.specs.declared.reply.Reply.{Reply}
 use Rattle.edit_rules_spec.specs.declared.reply.Reply.TheVariants.{Done, NoLib}
 use Rattle.edit_rules_spec.proofs.There.{named_lib_there}
-use Rattle.edit_spec.specs.AddCell.{add_cell, names_in, new_cell}
+use Rattle.edit_spec.specs.AddCell.{add_cell, names_in, new_cell, no_new_cell}
 use Rattle.edit_spec.specs.Rows.{outcome}
 use Rattle.edit_spec.specs.Typed.{IsTypedOp}
 use Rattle.edit_spec.specs.declared.ops.Op.TheVariants.{AddCell}
@@ -27,7 +27,6 @@ use Rattle.edit_cells.specs.declared.change.CellChange.TheVariants.{Fresh}
 use Rattle.eco_reads.specs.Done.{IsDone}
 use Rattle.eco_reads.specs.Plan.{IsGood, one_change}
 use Rattle.eco_reads.proofs.Reading.{done_made, done_read, made_valid, read_both, read_nothing}
-use Rattle.eco_plans.specs.Add.{no_new_cell}
 
 abbrev pub new_id : LibId → ℕ → CellId
 new_id lib slot = record { lib = lib; slot = slot }

@@ -11,11 +11,11 @@ use Rattle.edit_rules_spec.specs.Reading.{IsForPath, IsNotesBelow, IsReached}
 use Rattle.edit_spec.specs.Needs.{Needs}
 use Rattle.edit_rules_spec.specs.Paths.{resolves}
 use Rattle.edit_rules_spec.specs.Rule.{Outcome, first, ruled, unless}
-use Rattle.edit_spec.specs.DropNote.{drop_note}
+use Rattle.edit_spec.specs.DropNote.{drop_note, note_dropped, no_note_dropped}
 use Rattle.edit_rules_spec.specs.Paths.{is_path}
 use Rattle.edit_rules_spec.specs.Notes.{notes_seen}
 use Rattle.edit_spec.specs.Rows.{outcome}
-use Rattle.edit_spec.specs.SetNote.{set_note}
+use Rattle.edit_spec.specs.SetNote.{set_note, note_set}
 use Rattle.edit_spec.specs.Typed.{IsTypedOp}
 use Rattle.edit_spec.specs.declared.ops.Op.{Op}
 use Rattle.edit_spec.specs.declared.ops.Op.TheVariants.{DropNote, SetNote}
@@ -24,7 +24,7 @@ use Rattle.edit_rules_spec.specs.declared.reply.Reply.TheVariants.{Done}
 use Rattle.edit_cells.specs.State.{State, HasRead, HasReadSome}
 use Rattle.eco_reads.specs.Done.{IsDone, IsDoneOrFails}
 use Rattle.eco_reads.proofs.NoteReads.{some_top}
-use Rattle.eco_plans.specs.Notes.{no_note_dropped, no_note_set, note_dropped, note_set}
+use Rattle.eco_plans.specs.Notes.{no_note_set}
 use Rattle.eco_reads.specs.Plan.{AreNotesPlanned, AreNotesPut, CanNotesBePut}
 use Rattle.eco_reads.proofs.Reading.{done_made, done_read, made_valid, read_some, read_then}
 

@@ -1,4 +1,5 @@
 -- Notes that are planned.
+use Rattle.edit_spec.specs.DropNote.{no_note_dropped}
 use Rattle.std.proofs.Common.{◌≡◌, ◌⊎◌, ◌==◌, ◌<◌, ◌≤◌, ⊎_elim, ℕ, suc, arith, Bool, true, false, List, [], ◌∷◌, length, Some, None, refl}
 use Rattle.std.proofs.lemmas.Bool.{le-leb, lt-leb}
 use Rattle.std.proofs.lemmas.Bool.Decides.{nat_tests}
@@ -6,7 +7,7 @@ use Rattle.netlist_schema.specs.Types.{Note, Property}
 use Rattle.edit_rules_spec.specs.Rule.{first}
 use Rattle.edit_rules_spec.specs.Notes.{note_place}
 use Rattle.edit_rules_spec.specs.declared.reply.Reply.TheVariants.{NoNote, NoPath, TooMany}
-use Rattle.eco_plans.specs.Notes.{no_note_dropped, no_note_set}
+use Rattle.eco_plans.specs.Notes.{no_note_set}
 
 empty_path : (path : List (List ℕ)) → length path ≡ 0 → path ≡ []
 empty_path [] is = refl

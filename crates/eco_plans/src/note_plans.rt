@@ -1,4 +1,6 @@
 //! Notes that are planned.
+ghost use Rattle.edit_spec.specs.SetNote.{note_set};
+ghost use Rattle.edit_spec.specs.DropNote.{note_dropped, no_note_dropped};
 ghost use Rattle.std.specs.Prelude.{◌≡◌, ◌<◌, ◌&&◌, IfOk, IfSome, length, nat_eq, position};
 ghost use Rattle.std.specs.Cmp.Lexicographic.{pointwise};
 ghost use Rattle.edit_rules_spec.specs.Find.{is_name};
@@ -8,8 +10,7 @@ ghost use Rattle.edit_spec.specs.Typed.{IsTypedOp};
 ghost use Rattle.eco_reads.specs.Done.{IsDoneOrFails};
 ghost use Rattle.eco_reads.specs.Outcome.{UnlessNoMemory};
 ghost use Rattle.eco_reads.specs.Plan.{AreNotesPlanned};
-ghost use Rattle.eco_plans.specs.Notes.{no_note_dropped, no_note_set, note_dropped, note_set};
-
+ghost use Rattle.eco_plans.specs.Notes.{no_note_set};
 use eco_reads::OpError;
 use edit_spec::Reply;
 use netlist_schema::{Copied, Ident, MOST_NOTES, Note, Property, Row};

@@ -11,6 +11,7 @@ use Rattle.edit_rules_spec.specs.Find.{is_same, lib_named}
 use Rattle.edit_rules_spec.specs.Reading.{IsForLib}
 use Rattle.edit_rules_spec.specs.Rule.{too_many, Rule, refuse}
 use Rattle.edit_rules_spec.specs.declared.reply.CellName.{CellName}
+use Rattle.edit_rules_spec.specs.declared.reply.Reply.{Reply}
 use Rattle.edit_rules_spec.specs.declared.reply.Reply.TheVariants.{Done, NoLib, Taken, TooMany}
 use Rattle.edit_spec.specs.declared.ops.PortDecl.{PortDecl}
 
@@ -40,9 +41,14 @@ abbrev pub has_twice : List (List ℕ) → Bool
 has_twice [] = false
 has_twice (name ∷ names) = list_any (is_same name) names || has_twice names
 
+-- the refusals to add a cell to a library that is there, of this many cells, where its name is taken or not
+abbrev pub no_new_cell : Bool → ℕ → List PortDecl → List (Option Reply)
+no_new_cell taken count ports =
+    refuse (taken || has_twice (map (λ port. port.name) ports)) Taken ∷ too_many count MOST_CELLS ∷ refuse (nat_lt MOST_PORTS (length ports)) (TooMany MOST_PORTS) ∷ refuse (nat_lt MOST_BITS (sum_by port_width (map new_port ports))) (TooMany MOST_BITS) ∷ []
+
 abbrev pub add_cell : Option LibId → List (List ℕ) → List ℕ → Bool → List PortDecl → Rule
 add_cell lib names name leaf ports = record {
-  refusals = refuse (is_none lib) NoLib ∷ refuse (list_any (λ other. is_same other name) names || has_twice (map (λ port. port.name) ports)) Taken ∷ too_many (length names) MOST_CELLS ∷ refuse (nat_lt MOST_PORTS (length ports)) (TooMany MOST_PORTS) ∷ refuse (nat_lt MOST_BITS (sum_by port_width (map new_port ports))) (TooMany MOST_BITS) ∷ [];
+  refusals = refuse (is_none lib) NoLib ∷ no_new_cell (list_any (λ other. is_same other name) names) (length names) ports;
   reply = Done;
   edits = option_to_list (option_map (λ l. fresh (record { lib = l; slot = length names }) (new_cell name leaf ports)) lib);
 }

@@ -27,9 +27,14 @@ new_inst name of = record { name = record { id = name; shown = None }; of = of; 
 abbrev pub with_inst : List ℕ → CellId → List Inst → List Inst
 with_inst name of insts = insts ++ new_inst name of ∷ []
 
+-- the refusals to add an instance to contents, where both cells are found
+abbrev pub no_new_inst : Option Contents → List ℕ → Bool → Bool → List (Option Reply)
+no_new_inst contents inst later cyclic =
+    is_leaf contents ∷ taken_inst contents inst ∷ refuse later LaterLibrary ∷ refuse cyclic IsCyclic ∷ too_many (length (insts_in contents)) MOST_INSTS ∷ []
+
 abbrev pub add_inst : Named → Option Contents → Named → Bool → List ℕ → Rule
 add_inst at contents of cyclic inst = record {
-  refusals = no_lib at ∷ no_cell at ∷ no_lib of ∷ no_cell of ∷ is_leaf contents ∷ taken_inst contents inst ∷ refuse (is_later at.lib of.lib) LaterLibrary ∷ refuse cyclic IsCyclic ∷ too_many (length (insts_in contents)) MOST_INSTS ∷ [];
+  refusals = no_lib at ∷ no_cell at ∷ no_lib of ∷ no_cell of ∷ no_new_inst contents inst (is_later at.lib of.lib) cyclic;
   reply = Done;
   edits = option_map_or (λ c. set_insts at contents (with_inst inst c)) of.cell [];
 }

@@ -27,14 +27,17 @@ net_without_end end net = record net { ends = filter (λ other. not (is_end end 
 abbrev pub without_end : Option End → List Net → List Net
 without_end end nets = map (net_without_end end) nets
 
+-- the refusals to cut an end in contents
+abbrev pub no_cut : Option Contents → Option (List Port) → EndName → List (Option Reply)
+no_cut contents ports name =
+    no_end_inst contents name.inst ∷ no_port ports name.port ∷ bad_bit ports name.port name.bit ∷ not_joined contents (end_named contents ports name) ∷ []
+
 abbrev pub cut : Named → Option Contents → Option (List Port) → EndName → Rule
-cut at contents ports name =
-    let end = end_named contents ports name in
-    record {
-      refusals = no_lib at ∷ no_cell at ∷ no_end_inst contents name.inst ∷ no_port ports name.port ∷ bad_bit ports name.port name.bit ∷ not_joined contents end ∷ [];
-      reply = Done;
-      edits = set_nets at contents (without_end end);
-    }
+cut at contents ports name = record {
+  refusals = no_lib at ∷ no_cell at ∷ no_cut contents ports name;
+  reply = Done;
+  edits = set_nets at contents (without_end (end_named contents ports name));
+}
 
 abbrev pub cut_of : CellName → EndName → Design → Rule
 cut_of cell end d = cut (named d cell) (inside d cell) (end_ports d cell end.inst) end

@@ -1,8 +1,7 @@
 use Rattle.std.proofs.Common.{◌≡◌, List, Some, None, not, subst}
 use Rattle.edit_rules_spec.specs.Rule.{first}
-use Rattle.edit_spec.specs.AddCell.{new_cell}
+use Rattle.edit_spec.specs.AddCell.{new_cell, no_new_cell}
 use Rattle.edit_spec.specs.declared.ops.PortDecl.{PortDecl}
-use Rattle.eco_plans.specs.Add.{no_new_cell}
 use Rattle.eco_plans.proofs.AddOps.{add_done, add_good, add_refused, lib_read, no_lib_there}
 use Rattle.edit_spec.specs.declared.ops.Op.TheVariants.{AddCell}
 use Rattle.eco_reads.proofs.Outcomes.{refused_or}
