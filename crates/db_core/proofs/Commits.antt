@@ -95,11 +95,11 @@ pub stands_committed : (c : Inside) (s : State) (ops : List Op) (versions : Vec 
     → ((v : ℕ) → Contains s.kept v → v ≤ head s)
     → versions.items ≡ c.versions.items ++ next ∷ [] → next ≡ record { version = head s + 1; design = (run (design s (head s)) ops).design }
     → IsMarked c.stamps stamps written (head s + 1) → ((o : Object) → Contains written o ↔ Written (design s (head s)) ops o) → length log.items + length s.pins ≤ vec_capacity log
-    → Stands (record c { versions = versions; newest = next; stamps = stamps; log = log }) (counted (committed s ops))
+    → Stands (record c { versions = versions; head = next; stamps = stamps; log = log }) (counted (committed s ops))
 stands_committed c s ops versions next stamps log written h there more is marks same places = record {
   versions = more ∙ (ap (λ (ks : List Shot). ks ++ next ∷ []) (h.versions ∙ same_map (shot s) (shot (committed s ops)) s.kept (λ v m. stays_shot v (there v m)))
       ∙ (ap (λ (k : Shot). map (shot (committed s ops)) s.kept ++ k ∷ []) last ∙ sym (map-append (shot (committed s ops)) s.kept ((head s + 1) ∷ []))));
-  newest = last ∙ ap (λ (v : ℕ). shot (committed s ops) v) (sym (head_new s ops));
+  head_is = last ∙ ap (λ (v : ℕ). shot (committed s ops) v) (sym (head_new s ops));
   made = h.made;
   live = h.live;
   stamped = stamped_committed s ops c.stamps stamps written marks same h.stamped;

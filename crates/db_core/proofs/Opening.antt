@@ -23,15 +23,15 @@ none_wrote d w o wrote =
 opened : (x : Shot) → x.version ≡ 0 → x ≡ shot (opening x.design) 0
 opened x at = λ i. record { version = at i; design = x.design }
 
-pub fresh_core : (c : Inside) → IsValid c.opening.design → c.log.items ≡ [] → c.versions.items ≡ c.opening ∷ [] → c.newest ≡ c.opening → c.opening.version ≡ 0 → c.pins.made ≡ 0 → c.pins.live ≡ [] → c.stamps ≡ empty → IsCore c
-fresh_core c valid log versions newest number made live stamps =
+pub fresh_core : (c : Inside) → IsValid c.opening.design → c.log.items ≡ [] → c.versions.items ≡ c.opening ∷ [] → c.head ≡ c.opening → c.opening.version ≡ 0 → c.pins.made ≡ 0 → c.pins.live ≡ [] → c.stamps ≡ empty → IsCore c
+fresh_core c valid log versions at_head number made live stamps =
     let none : Story = record { opening = c.opening.design; events = [] } in
     let story : none ≡ record { opening = c.opening.design; events = c.log.items } = ap (λ (xs : List Event). record { opening = c.opening.design; events = xs }) (sym log) in
     let history : IsHistory none = record { valid = valid; legal = tt; typed = λ k d less. absurd (omega (arith, less)) } in
     let few : length c.log.items ≡ 0 = ap length log in
     let stands : Stands c (opening c.opening.design) = record {
       versions = versions ∙ ap (λ (k : Shot). k ∷ []) (opened c.opening number);
-      newest = newest ∙ opened c.opening number;
+      head_is = at_head ∙ opened c.opening number;
       made = made;
       live = live;
       stamped = λ o. subst (λ (last : Option ℕ). IsLastWrite (opening c.opening.design) o last) (sym (ap (λ (s : Commits). last_commit s o) stamps ∙ get-empty object_cmp o)) (λ w wrote. none_wrote c.opening.design w o wrote);

@@ -43,7 +43,7 @@ roomier c versions log core same items room =
     let story : story_of c ≡ record { opening = c.opening.design; events = log.items } = ap (λ (xs : List Event). record { opening = c.opening.design; events = xs }) (sym items) in
     let kept : versions.items ≡ map (shot (state_of c)) (state_of c).kept = same ∙ h.versions in
     let places : length log.items + length (state_of c).pins ≤ vec_capacity log = omega arith in
-    let stands : Stands (record c { versions = versions; log = log }) (state_of c) = record { versions = kept; newest = h.newest; made = h.made; live = h.live; stamped = h.stamped; places = places } in
+    let stands : Stands (record c { versions = versions; log = log }) (state_of c) = record { versions = kept; head_is = h.head_is; made = h.made; live = h.live; stamped = h.stamped; places = places } in
     record {
       first = core.first;
       history = subst IsHistory story core.history;
@@ -74,13 +74,13 @@ core_adds old new event core opened added admits typed stands =
 pub stands_noted : (c : Inside) (s : State) (event : Event) (log : Vec Event Global) → Stands c s → changed s event.caller event.call event.answer ≡ s → length log.items + length s.pins ≤ vec_capacity log → Stands (record c { log = log }) (after s event)
 stands_noted c s event log h same places =
     subst (λ (t : State). Stands (record c { log = log }) (record t { events = s.events + 1 })) (sym same)
-    (record { versions = h.versions; newest = h.newest; made = h.made; live = h.live; stamped = h.stamped; places = places })
+    (record { versions = h.versions; head_is = h.head_is; made = h.made; live = h.live; stamped = h.stamped; places = places })
 
 pub stands_pinned : (c : Inside) (s : State) (caller v : ℕ) (pins : Registry) (log : Vec Event Global) → Stands c s → pins ≡ with_pin c.pins v → length log.items + (length s.pins + 1) ≤ vec_capacity log
     → Stands (record c { pins = pins; log = log }) (counted (pinned s caller v))
 stands_pinned c s caller v pins log h is places = record {
   versions = h.versions;
-  newest = h.newest;
+  head_is = h.head_is;
   made = ap (λ (r : Registry). r.made) is ∙ ap (λ n. n + 1) h.made;
   live = ap (λ (r : Registry). r.live) is ∙ ap (λ (ps : List HeldPin). ps ++ held_pin c.pins.made v ∷ []) h.live
       ∙ ap (λ n. map held s.pins ++ held_pin n v ∷ []) h.made ∙ sym (map-append held s.pins (live_pin s.made caller v ∷ []));
@@ -92,7 +92,7 @@ pub stands_released : (c : Inside) (s : State) (number : ℕ) (pins : Registry) 
     → Stands (record c { pins = pins; log = log }) (counted (released s number))
 stands_released c s number pins log h is places = record {
   versions = h.versions;
-  newest = h.newest;
+  head_is = h.head_is;
   made = ap (λ (r : Registry). r.made) is ∙ h.made;
   live = ap (λ (r : Registry). r.live) is ∙ ap (λ (ps : List HeldPin). filter (λ p. not (p.number == number)) ps) h.live ∙ filter_held number s.pins;
   stamped = h.stamped;
@@ -107,7 +107,7 @@ pub stands_collected : (c : Inside) (s : State) (versions : Vec Shot Global) (lo
     → Stands (record c { versions = versions; log = log }) (counted (collected s))
 stands_collected c s versions log h is places = record {
   versions = kept_after c s versions.items h is;
-  newest = h.newest;
+  head_is = h.head_is;
   made = h.made;
   live = h.live;
   stamped = h.stamped;

@@ -27,7 +27,7 @@ pub record Adds (old new : Story) (event : Event) : Type 0 where
   pub admits : Admits (state old) event
 
 -- the history has no room for the call, and nothing was changed
-pub record IsFull (old new : Story) (call : Call) : Type 0 where
+pub record LacksRoom (old new : Story) (call : Call) : Type 0 where
   pub same : new ≡ old
   pub full : ¬ HasRoom (state old) call
 
@@ -43,17 +43,17 @@ pub record Pins (old new : Story) (caller : ℕ) (call : Call) (pin : PinFacts) 
   pub is_pin : IsPinOf new pin
 
 -- the last version is pinned
-abbrev pub PinsLast : Story → Story → ℕ → Result PinFacts PinError → Type 0
-PinsLast old new caller (Ok pin) = Pins old new caller Pin pin
-PinsLast old new caller (Err PinFull) = IsFull old new Pin
-PinsLast old new caller (Err PinNoMemory) = LacksMemory old new Pin
+abbrev pub PinsHead : Story → Story → ℕ → Result PinFacts PinError → Type 0
+PinsHead old new caller (Ok pin) = Pins old new caller Pin pin
+PinsHead old new caller (Err PinFull) = LacksRoom old new Pin
+PinsHead old new caller (Err PinNoMemory) = LacksMemory old new Pin
 
 -- the wanted version is pinned; that there is no such version, or no longer, is an event
 abbrev pub PinsAt : Story → Story → ℕ → ℕ → Result PinFacts PinAtError → Type 0
 PinsAt old new caller wanted (Ok pin) = Pins old new caller (PinAt wanted) pin
 PinsAt old new caller wanted (Err (NoVersion last)) = Adds old new (event_of caller (PinAt wanted) (NoSuchVersion last))
 PinsAt old new caller wanted (Err (Gone least)) = Adds old new (event_of caller (PinAt wanted) (IsGone least))
-PinsAt old new caller wanted (Err PinAtFull) = IsFull old new (PinAt wanted)
+PinsAt old new caller wanted (Err PinAtFull) = LacksRoom old new (PinAt wanted)
 PinsAt old new caller wanted (Err PinAtNoMemory) = LacksMemory old new (PinAt wanted)
 
 -- the pin is released
@@ -63,7 +63,7 @@ Releases old new pin = Adds old new (event_of pin.caller (Release pin.number) Re
 -- so many versions are dropped
 abbrev pub Collects : Story → Story → ℕ → Result ℕ CollectError → Type 0
 Collects old new caller (Ok dropped) = Adds old new (event_of caller Collect (Collected dropped))
-Collects old new caller (Err CollectFull) = IsFull old new Collect
+Collects old new caller (Err CollectFull) = LacksRoom old new Collect
 Collects old new caller (Err CollectNoMemory) = LacksMemory old new Collect
 
 -- the commit of a transaction, and the event of its answer
@@ -80,7 +80,7 @@ pub record Accepts (old new : Story) (tx : TxFacts) (version : ℕ) (pin : PinFa
 
 -- a refused commit: that it clashes is an event
 abbrev pub IsRefused : Story → Story → TxFacts → CommitError → Type 0
-IsRefused old new tx CommitFull = IsFull old new (commit_of tx)
+IsRefused old new tx CommitFull = LacksRoom old new (commit_of tx)
 IsRefused old new tx (Conflict object w) = Adds old new (commit_event tx (Conflicted object w))
 IsRefused old new tx CommitNoMemory = LacksMemory old new (commit_of tx)
 

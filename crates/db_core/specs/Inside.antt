@@ -26,7 +26,7 @@ held pin = held_pin pin.number pin.version
 -- the fields are those of the state
 pub record Stands (c : Inside) (s : State) : Type 0 where
   pub versions : c.versions.items ≡ map (shot s) s.kept
-  pub newest : c.newest ≡ shot s (head s)
+  pub head_is : c.head ≡ shot s (head s)
   pub made : c.pins.made ≡ s.made
   pub live : c.pins.live ≡ map held s.pins
   pub stamped : IsStamped s c.stamps

@@ -5,7 +5,7 @@ ghost use Rattle.db_spec.specs.State.{IsLive, changed, head};
 ghost use Rattle.db_spec.specs.Answers.{Admits, HasPlaces, HasNoConflict, IsConflict, IsKept, IsLeastKept, most_events};
 ghost use Rattle.db_spec.specs.Laws.{IsTypedCall};
 ghost use Rattle.db_core.specs.Story.{IsHistory, IsPinOf, shot, state};
-ghost use Rattle.db_core.specs.Calls.{Accepts, Adds, Collects, Commits, IsRefused, Pins, PinsAt, PinsLast, Releases, event_of};
+ghost use Rattle.db_core.specs.Calls.{Accepts, Adds, Collects, Commits, IsRefused, Pins, PinsAt, PinsHead, Releases, event_of};
 ghost use Rattle.db_core.specs.declared.database.TheConstants.{MOST_MORE};
 
 use crate::errors::{CollectError, CommitError, PinAtError, PinError};
@@ -32,7 +32,7 @@ pub struct Core {
     /// The kept versions, from the least on.
     versions: Vec<Snapshot>,
     /// The last version.
-    newest: Snapshot,
+    head: Snapshot,
     pins: Registry,
     stamps: Stamps,
     /// The history, with a place for the release of each live pin.
@@ -45,7 +45,7 @@ impl Drop for Core {
             alloc: _,
             opening: _,
             versions: _,
-            newest: _,
+            head: _,
             pins: _,
             stamps: _,
             log: _,
@@ -73,7 +73,7 @@ impl Core {
     {
         let opening = Snapshot::of(0, Arc::new(alloc, Version::of(alloc, design)?)?);
         design_is_valid(&opening);
-        let newest = opening.share()?;
+        let head = opening.share()?;
         let first = opening.share()?;
         let mut versions = Vec::new(alloc);
         versions.push(first)?;
@@ -81,7 +81,7 @@ impl Core {
             alloc,
             opening,
             versions,
-            newest,
+            head,
             pins: Registry::new(alloc),
             stamps: Stamps::new(alloc),
             log: Vec::new(alloc),
@@ -117,7 +117,7 @@ impl Core {
     pub fn head(&self) -> &Snapshot
         ensures { result.now ≡ shot (state self.now) (head (state self.now)) }
     {
-        &self.newest
+        &self.head
     }
 
     /// Lends a kept version: `None` exactly where the version is not kept. Takes no memory.
@@ -184,12 +184,12 @@ impl Core {
     /// Pins the last version. `LogFull` comes exactly where the history has no room for the pin and its release. At an error
     /// nothing was changed.
     pub fn pin(&mut self, caller: u32) -> Result<Pin, PinError>
-        ensures { PinsLast self.old self.new caller result }
+        ensures { PinsHead self.old self.new caller result }
     {
         if !self.has_places(2) {
             return Err(PinError::LogFull);
         }
-        let Ok(at) = self.newest.share() else {
+        let Ok(at) = self.head.share() else {
             return Err(PinError::NoMemory);
         };
         match self.hold(caller, at, Call::Pin) {
@@ -227,7 +227,7 @@ impl Core {
     fn head_version(&self) -> u64
         ensures { result ≡ head (state self.now) }
     {
-        self.newest.version()
+        self.head.version()
     }
 
     /// Answers that there is no such version yet.
@@ -326,7 +326,7 @@ impl Core {
             return Err(CollectError::NoMemory);
         };
         let before = self.versions.len();
-        keep_held(&mut self.versions, self.newest.version(), &self.pins);
+        keep_held(&mut self.versions, self.head.version(), &self.pins);
         let dropped = (before - self.versions.len()) as u32;
         self.log.push_reserved(Event {
                 caller,
@@ -340,7 +340,7 @@ impl Core {
     fn share_gone(&self, gone: &mut Vec<Snapshot>) -> Result<(), NoMemory> {
         share_dropped(
             self.versions.as_slice(),
-            self.newest.version(),
+            self.head.version(),
             &self.pins,
             gone,
         )
@@ -401,8 +401,8 @@ impl Core {
         ensures ok { IfOk result (λ done. Accepts self.old self.new tx done.0 done.1) }
         ensures err { IfErr result (λ back. (back ≡ tx) × (self.new ≡ self.old)) }
     {
-        let version = self.newest.version() + 1;
-        let Ok(next) = next_version(self.alloc, &tx, &self.newest, version) else {
+        let version = self.head.version() + 1;
+        let Ok(next) = next_version(self.alloc, &tx, &self.head, version) else {
             return Err(tx);
         };
         let Ok(kept) = next.share() else {
@@ -419,7 +419,7 @@ impl Core {
             return Err(tx);
         };
         self.versions.push_reserved(kept);
-        self.newest = next;
+        self.head = next;
         let (pin, ops, replies, rest) = tx.split();
         *left = Some(rest);
         self.log.push_reserved(Event {

@@ -21,10 +21,10 @@ use Rattle.db_core.specs.declared.errors.CollectError.{CollectError}
 use Rattle.db_core.specs.declared.errors.CollectError.TheVariants.{LogFull as CollectFull, NoMemory as CollectNoMemory}
 use Rattle.db_core.specs.declared.errors.CommitError.{CommitError}
 use Rattle.db_core.specs.declared.errors.CommitError.TheVariants.{LogFull as CommitFull, Conflict, NoMemory as CommitNoMemory}
-use Rattle.db_core.specs.Calls.{Adds, Collects, Commits, IsFull as IsCoreFull, IsRefused as IsCoreRefused, LacksMemory as CoreLacksMemory, Pins as CorePins, PinsAt, PinsLast, Releases, commit_of, event_of}
+use Rattle.db_core.specs.Calls.{Adds, Collects, Commits, LacksRoom as LacksCoreRoom, IsRefused as IsCoreRefused, LacksMemory as CoreLacksMemory, Pins as CorePins, PinsAt, PinsHead, Releases, commit_of, event_of}
 use Rattle.db_core.specs.Story.{Story, IsPinOf, state}
 use Rattle.db_share.specs.Passes.{Shared, Pass, IsReady, HasPin, known, maker, story}
-use Rattle.db_share.specs.Calls.{Looks, Makes, Pins, IsFull, LacksMemory, HasPinned, HasPinnedAt, HasReleased, HasCollected, HasCommitted, IsRefused}
+use Rattle.db_share.specs.Calls.{Looks, Makes, Pins, LacksRoom, LacksMemory, HasPinned, HasPinnedAt, HasReleased, HasCollected, HasCommitted, IsRefused}
 use Rattle.db_share.specs.Inside.{Enters, Leaves, Steps, is_pin_at_event, is_conflict, is_commit_event}
 use Rattle.db_share.proofs.Held.{pin_at_log, stays_making}
 use Rattle.db_share.proofs.Turns.{looks, makes}
@@ -37,7 +37,7 @@ steps_on caller old new event mine adds = record { base = adds.opening; list = (
 stands : (caller : ℕ) (old new : Story) → new ≡ old → Steps caller false old new
 stands caller old new same = record { base = ap (λ (s : Story). s.opening) same; list = ap (λ (s : Story). s.events) same }
 
-pub pin_steps : (caller : ℕ) (old new : Story) (r : Result PinFacts PinError) → PinsLast old new caller r → Steps caller (is_ok r) old new
+pub pin_steps : (caller : ℕ) (old new : Story) (r : Result PinFacts PinError) → PinsHead old new caller r → Steps caller (is_ok r) old new
 pin_steps caller old new (Ok pin) is = steps_on caller old new _ refl is.adds
 pin_steps caller old new (Err PinFull) is = stands caller old new is.same
 pin_steps caller old new (Err PinNoMemory) is = stands caller old new is.same
@@ -77,7 +77,7 @@ module _ (db : Shared) (old mid new : Pass) (before after : Story) (enters : Ent
   same_state : after ≡ before → state before ≡ known db new
   same_state same = ap state (sym same ∙ leaves.left)
 
-  full : (call : Call) → IsCoreFull before after call → IsFull db old new call
+  full : (call : Call) → LacksCoreRoom before after call → LacksRoom db old new call
   full call is = record { looks = looked is.same; full = subst (λ (s : State). ¬ HasRoom s call) (same_state is.same) is.full }
 
   short : (call : Call) → CoreLacksMemory before after call → LacksMemory db old new call
@@ -96,7 +96,7 @@ module _ (db : Shared) (old mid new : Pass) (before after : Story) (enters : Ent
     };
   }
 
-  pub has_pinned : (caller : ℕ) (r : Result PinFacts PinError) → caller ≡ mid.number → PinsLast before after caller r → HasPinned db old new r
+  pub has_pinned : (caller : ℕ) (r : Result PinFacts PinError) → caller ≡ mid.number → PinsHead before after caller r → HasPinned db old new r
   has_pinned caller (Ok pin) mine is = pinned caller Pin pin mine is
   has_pinned caller (Err PinFull) mine is = full Pin is
   has_pinned caller (Err PinNoMemory) mine is = short Pin is

@@ -54,7 +54,7 @@ pub record Pins (db : Shared) (old new : Pass) (call : Call) (pin : PinFacts) : 
   pub has : HasPin db new pin
 
 -- no event, since at its turn the log had no room for the call
-pub record IsFull (db : Shared) (old new : Pass) (call : Call) : Type 0 where
+pub record LacksRoom (db : Shared) (old new : Pass) (call : Call) : Type 0 where
   pub looks : Looks db old new
   pub full : ¬ HasRoom (known db new) call
 
@@ -68,7 +68,7 @@ pub record LacksMemory (db : Shared) (old new : Pass) (call : Call) : Type 0 whe
 -- a pin of the last version
 abbrev pub HasPinned : Shared → Pass → Pass → Result PinFacts PinError → Type 0
 HasPinned db old new (Ok pin) = Pins db old new Pin pin
-HasPinned db old new (Err PinFull) = IsFull db old new Pin
+HasPinned db old new (Err PinFull) = LacksRoom db old new Pin
 HasPinned db old new (Err PinNoMemory) = LacksMemory db old new Pin
 
 -- a pin of a wanted version: that it is not there, or no longer, is an event
@@ -76,7 +76,7 @@ abbrev pub HasPinnedAt : Shared → Pass → Pass → ℕ → Result PinFacts Pi
 HasPinnedAt db old new wanted (Ok pin) = Pins db old new (PinAt wanted) pin
 HasPinnedAt db old new wanted (Err (NoSuchVersion last)) = Makes db old new (PinAt wanted) (NoVersion last)
 HasPinnedAt db old new wanted (Err (IsGone least)) = Makes db old new (PinAt wanted) (Gone least)
-HasPinnedAt db old new wanted (Err PinAtFull) = IsFull db old new (PinAt wanted)
+HasPinnedAt db old new wanted (Err PinAtFull) = LacksRoom db old new (PinAt wanted)
 HasPinnedAt db old new wanted (Err PinAtNoMemory) = LacksMemory db old new (PinAt wanted)
 
 -- a release, which is never refused
@@ -86,13 +86,13 @@ HasReleased db old new pin = Makes db old new (Release pin.number) Released
 -- a collect, by how many versions it dropped
 abbrev pub HasCollected : Shared → Pass → Pass → Result ℕ CollectError → Type 0
 HasCollected db old new (Ok dropped) = Makes db old new Collect (Collected dropped)
-HasCollected db old new (Err CollectFull) = IsFull db old new Collect
+HasCollected db old new (Err CollectFull) = LacksRoom db old new Collect
 HasCollected db old new (Err CollectNoMemory) = LacksMemory db old new Collect
 
 -- a refused commit: a conflict is an event
 abbrev pub IsRefused : Shared → Pass → Pass → TxFacts → CommitError → Type 0
 IsRefused db old new tx (Conflicted object version) = Makes db old new (commit_of tx) (Conflict object version)
-IsRefused db old new tx CommitFull = IsFull db old new (commit_of tx)
+IsRefused db old new tx CommitFull = LacksRoom db old new (commit_of tx)
 IsRefused db old new tx CommitNoMemory = LacksMemory db old new (commit_of tx)
 
 -- a commit, by the number of the version that it made: its replies are the transaction's, and the pin comes back, which is still live;

@@ -20,7 +20,7 @@ use Rattle.edit_rules_spec.proofs.Edits.{IsNext, cell_at-changed_other, cell_at-
 use Rattle.edit_rules_spec.proofs.Overlaid.{design_by_objects}
 use Rattle.edit_rules_spec.proofs.Same.{names_of_directory}
 use Rattle.edit_cells.specs.State.{State}
-use Rattle.db_work.specs.Becomes.{AreNewMet, AreOldOrNew, CanBecome, IsBehind, IsFull, IsFuller, IsNear, IsNearer, Meets, joined, put_together, shell_of}
+use Rattle.db_work.specs.Becomes.{AreNewMet, AreOldOrNew, CanBecome, IsBehind, HasTargetNames, IsFuller, IsNear, IsNearer, Meets, joined, put_together, shell_of}
 use Rattle.db_draft.proofs.Making.{each_distinct, more_cells, prefix_distinct}
 
 -- ---- options and lists
@@ -212,7 +212,7 @@ module _ (work : State) (t m : Design) (behind : IsBehind work t m) (id : CellId
     meets_after (Inside at) was = seen_after inside_of at was
     meets_after Notes was = was
 
-    full_after : (lib : LibId) → IsFull t m lib → IsFull t after lib
+    full_after : (lib : LibId) → HasTargetNames t m lib → HasTargetNames t after lib
     full_after lib full = ⊎_elim
         (λ (same : lib.0 ≡ id.lib.0).
         let here : length (cells_of (slice_get m.libs lib.0)) ≡ length (cells_of (slice_get t.libs lib.0)) =
@@ -282,7 +282,7 @@ no_longer work t m behind lib written =
     omega (arith, length-map (cells_in m lib) (λ (c : CellBody). c.name.id), length-map (cells_in work.design lib) (λ (c : CellBody). c.name.id))
 
 -- one that is as long as in the work is full
-pub is_full : (work : State) (t m : Design) → IsBehind work t m → (lib : LibId) → Contains work.written (Directory lib) → length (cells_in work.design lib) ≤ length (cells_in m lib) → IsFull t m lib
+pub is_full : (work : State) (t m : Design) → IsBehind work t m → (lib : LibId) → Contains work.written (Directory lib) → length (cells_in work.design lib) ≤ length (cells_in m lib) → HasTargetNames t m lib
 is_full work t m behind lib written long =
     let same = ap length (names_of_directory (lib_at work.design lib) (lib_at t lib) (behind.laid (Directory lib) written)) in
     whole_prefix (cell_names (cells_in m lib)) (cell_names (cells_in t lib)) (behind.begins lib)
@@ -353,7 +353,7 @@ module _ (work : State) (t m : Design) (near : IsNear work t m) (id : CellId) wh
         top = near.heads.top;
       }
 
-      full_changed : (lib : LibId) → IsFull t changed lib
+      full_changed : (lib : LibId) → HasTargetNames t changed lib
       full_changed lib = names_in_set x b m.libs id.lib.0 id.slot lib.0 theirs named ∙ near.full lib
 
       -- what is met stays so, where each part of the new body is as before or as in the target
@@ -425,7 +425,7 @@ notes_brought work t m near written = record {
     kept Notes was = near.laid Notes written
 
 -- all directories are full once those that were written are
-pub is_near : (work : State) (t m : Design) → IsBehind work t m → ((lib : LibId) → Contains work.written (Directory lib) → IsFull t m lib) → IsNear work t m
+pub is_near : (work : State) (t m : Design) → IsBehind work t m → ((lib : LibId) → Contains work.written (Directory lib) → HasTargetNames t m lib) → IsNear work t m
 is_near work t m behind written = record {
   laid = behind.laid;
   heads = behind.heads;
@@ -436,7 +436,7 @@ is_near work t m behind written = record {
 -- ---- cells that were added
 
 -- once all directories are full they are as in the target
-pub new_met : (head t m : Design) → AreOldOrNew t head m → ((lib : LibId) → IsFull t m lib) → AreNewMet head t m
+pub new_met : (head t m : Design) → AreOldOrNew t head m → ((lib : LibId) → HasTargetNames t m lib) → AreNewMet head t m
 new_met head t m cells full id past = ⊎_elim
     (λ (old : cell_at m id ≡ cell_at head id).
     let none : cell_at m id ≡ None = old ∙ slice_get_past (cells_in head id.lib) id.slot past in
@@ -550,13 +550,13 @@ all_taken items written i o long is has =
 -- directories are gone through
 pub record AddsTo (work : State) (t old new : Design) (done : List Object) : Type 0 where
   pub fuller : IsFuller work t old new
-  pub full : (lib : LibId) → Contains done (Directory lib) → IsFull t new lib
+  pub full : (lib : LibId) → Contains done (Directory lib) → HasTargetNames t new lib
 
 pub adds_none : (work : State) (t m : Design) (items : List Object) → IsBehind work t m → AddsTo work t m m (take 0 items)
 adds_none work t m items behind = record { fuller = fuller_none work t m behind; full = λ lib has. absurd (none_taken items (Directory lib) has) }
 
 pub adds_more : (work : State) (t old m new : Design) (items : List Object) (i : ℕ) (x d : Object) → i < length items → x ≡ get_or items i d → AddsTo work t old m (take i items)
-    → IsFuller work t m new × ((lib : LibId) → x ≡ Directory lib → IsFull t new lib) → AddsTo work t old new (take (i + 1) items)
+    → IsFuller work t m new × ((lib : LibId) → x ≡ Directory lib → HasTargetNames t new lib) → AddsTo work t old new (take (i + 1) items)
 adds_more work t old m new items i x d within is was step = record {
   fuller = fuller_twice work t old m new was.fuller step.0;
   full = λ lib has. ⊎_elim

@@ -36,8 +36,8 @@ Meets d e (Inside id) = inside_at d id ≡ inside_at e id
 Meets d e Notes = d.notes ≡ e.notes
 
 -- the directory of a library is that of the target
-abbrev pub IsFull : Design → Design → LibId → Type 0
-IsFull target now lib = cell_names (cells_in now lib) ≡ cell_names (cells_in target lib)
+abbrev pub HasTargetNames : Design → Design → LibId → Type 0
+HasTargetNames target now lib = cell_names (cells_in now lib) ≡ cell_names (cells_in target lib)
 
 -- on the way to the target: its directories begin with those that are here, and what was not written is as in it
 pub record IsBehind (work : State) (target now : Design) : Type 0 where
@@ -45,7 +45,7 @@ pub record IsBehind (work : State) (target now : Design) : Type 0 where
   pub valid : IsValid target
   pub heads : HasSameHeads now target
   pub begins : (lib : LibId) → IsPrefix (cell_names (cells_in now lib)) (cell_names (cells_in target lib))
-  pub rest : (lib : LibId) → ¬ Contains work.written (Directory lib) → IsFull target now lib
+  pub rest : (lib : LibId) → ¬ Contains work.written (Directory lib) → HasTargetNames target now lib
   pub others : (o : Object) → ¬ Contains work.written o → Meets now target o
 
 -- each cell is as it was, or as in the target
@@ -55,7 +55,7 @@ AreOldOrNew target old new = (id : CellId) → (cell_at new id ≡ cell_at old i
 -- cells were added on the way to the target, and directories that were full still are
 pub record IsFuller (work : State) (target old new : Design) : Type 0 where
   pub behind : IsBehind work target new
-  pub full : (lib : LibId) → IsFull target old lib → IsFull target new lib
+  pub full : (lib : LibId) → HasTargetNames target old lib → HasTargetNames target new lib
   pub cells : AreOldOrNew target old new
 
 -- the cells that come behind those of the head are as in the target
@@ -66,7 +66,7 @@ AreNewMet head target now = (id : CellId) → length (cells_in head id.lib) ≤ 
 pub record IsNear (work : State) (target now : Design) : Type 0 where
   pub laid : AgreesOn work.design target (Contains work.written)
   pub heads : HasSameHeads now target
-  pub full : (lib : LibId) → IsFull target now lib
+  pub full : (lib : LibId) → HasTargetNames target now lib
   pub others : (o : Object) → ¬ Contains work.written o → Meets now target o
 
 -- an object is as in the target now, and so are those that were

@@ -4,7 +4,7 @@ ghost use Rattle.std.specs.Arc.{arc_value};
 ghost use Rattle.netlist_schema.specs.Design.{Design, cell_at, cells_in};
 ghost use Rattle.netlist_schema.specs.Types.{LibId as LibId'};
 ghost use Rattle.netlist_schema.specs.declared.ids.Object.TheVariants.{Directory, Interface, Contents as Inside, Notes};
-ghost use Rattle.db_work.specs.Becomes.{AreNewMet, AreOldOrNew, CanBecome, IsBehind, IsFull, IsFuller, IsNear, IsNearer, Meets, joined, put_together};
+ghost use Rattle.db_work.specs.Becomes.{AreNewMet, AreOldOrNew, CanBecome, IsBehind, HasTargetNames, IsFuller, IsNear, IsNearer, Meets, joined, put_together};
 
 use crate::outside::has_same_outside;
 use crate::work::Work;
@@ -42,7 +42,7 @@ impl Work {
     fn add_for(&self, alloc: Global, moved: &mut Draft, object: Object) -> Result<(), NoMemory>
         requires written { Contains self.now.written object }
         requires behind { (target : Design) × IsBehind self.now target moved.old.design }
-        ensures { OnOk result ((target : Design) → IsBehind self.now target moved.old.design → IsFuller self.now target moved.old.design moved.new.design × ((lib : LibId') → object ≡ Directory lib → IsFull target moved.new.design lib)) }
+        ensures { OnOk result ((target : Design) → IsBehind self.now target moved.old.design → IsFuller self.now target moved.old.design moved.new.design × ((lib : LibId') → object ≡ Directory lib → HasTargetNames target moved.new.design lib)) }
     {
         match object {
             Object::Directory(lib) => self.add_behind(alloc, moved, lib),
@@ -54,7 +54,7 @@ impl Work {
     fn add_behind(&self, alloc: Global, moved: &mut Draft, lib: LibId) -> Result<(), NoMemory>
         requires written { Contains self.now.written (Directory lib) }
         requires behind { (target : Design) × IsBehind self.now target moved.old.design }
-        ensures { OnOk result ((target : Design) → IsBehind self.now target moved.old.design → IsFuller self.now target moved.old.design moved.new.design × IsFull target moved.new.design lib) }
+        ensures { OnOk result ((target : Design) → IsBehind self.now target moved.old.design → IsFuller self.now target moved.old.design moved.new.design × HasTargetNames target moved.new.design lib) }
     {
         let count = self.cell_count(lib);
         let first = moved.count(lib) as u32;

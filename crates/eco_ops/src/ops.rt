@@ -12,7 +12,7 @@ use eco_plans::{
 };
 use eco_reads::OpError;
 use edit_cells::Cells;
-use edit_spec::{Op, Reply, told};
+use edit_spec::{Op, Reply, op_is_typed};
 use netlist_schema::NoMemory;
 use std::alloc::Global;
 
@@ -66,7 +66,7 @@ pub fn eco_op<C: Cells>(alloc: Global, cells: &mut C, op: &Op) -> Result<Reply, 
     requires { IsSingle op.now }
     ensures { MatchResult result (IsDone (C.state cells.old) (C.state cells.new) op.now) (λ _. C.state cells.new ≡ C.state cells.old) }
 {
-    told(op);
+    op_is_typed(op);
     let mark = cells.mark();
     match try_op(alloc, cells, op) {
         Ok(reply) => Ok(reply),

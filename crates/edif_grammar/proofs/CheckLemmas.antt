@@ -3,7 +3,7 @@ use Rattle.std.proofs.Common.{◌≡◌, ℕ, zero, suc, ◌+◌, ◌<◌, ◌�
 use Rattle.std.specs.Prelude.{cond, slice_get}
 use Rattle.std.specs.List.{AllByRecursion}
 use Rattle.edif_spelling_spec.specs.Tree.{Placed, bare}
-use Rattle.edif_spec.specs.Keyword.{row, Row, Takes, Choice, Follower, Many, One}
+use Rattle.edif_spec.specs.Keyword.{row, FormRow, Takes, Choice, Follower, Many, One}
 use Rattle.edif_spec.specs.Rows.{has_keyword, is_one_of, is_follower}
 use Rattle.edif_spec.specs.Faults.{AtOne, AtTwo, FixedFault, FollowerFault, SecondFault, second, those_of, misplaced, place_of, arguments, Breaches, RowFault, token_kind}
 use Rattle.edif_spec.specs.declared.keyword.Keyword.{Keyword}
@@ -15,7 +15,7 @@ use Rattle.edif_spec.specs.declared.fault.MeaningFault.TheVariants.{At}
 use Rattle.edif_spec.proofs.FaultForms.{none_of_two}
 use Rattle.edif_grammar.specs.Forms.{HasOwnKind}
 use Rattle.edif_grammar.specs.Rules.{choices, is_plain}
-use Rattle.edif_grammar.specs.declared.rules.Wanted.{Wanted}
+use Rattle.edif_grammar.specs.declared.rules.FixedArgument.{FixedArgument}
 use Rattle.std.proofs.lemmas.List.{length-map}
 use Rattle.edif_grammar.specs.Checks.{ArgumentFits, FixedFits, OnceFits}
 use Rattle.edif_grammar.proofs.FormLemmas.{second_plain}
@@ -133,7 +133,7 @@ second_at (Many j ∷ fs) ts (suc i) k f e p h = second_at fs ts i k f e p h
 second_at (One j ∷ fs) ts (suc i) k f e p h = inr (second_at fs ts i k f e p h)
 
 -- What passes has no fault but of a kind of its own.
-fixed_own : (kind : Kind) (r : Row) (place : ℕ) (cs : List (List Choice)) (ts : List Placed) (f : MeaningFault) → FixedFits kind r cs ts → length cs ≤ length ts → FixedFault (misplaced kind r) place cs ts f → HasOwnKind f
+fixed_own : (kind : Kind) (r : FormRow) (place : ℕ) (cs : List (List Choice)) (ts : List Placed) (f : MeaningFault) → FixedFits kind r cs ts → length cs ≤ length ts → FixedFault (misplaced kind r) place cs ts f → HasOwnKind f
 fixed_own kind r place [] ts f h l b = absurd b
 fixed_own kind r place (c ∷ cs) [] f h l b = absurd (omega arith)
 fixed_own kind r place (c ∷ cs) (t ∷ ts) f h l (inl b) = go (h 0 c t refl refl)
@@ -176,10 +176,10 @@ row_own kind cs fs t f x l y z (inr (inl b)) = absurd (no_other (misplaced BadFo
 row_own kind cs fs t f x l y z (inr (inr b)) = seconds_own fs (drop (length cs) (arguments t)) f z b
 
 pub row_back : (k : Keyword) (cs : List (List Choice)) (fs : List Follower) (t : Placed) (f : MeaningFault) → row k ≡ Takes cs fs → RowFault k t f → Breaches (token_kind k) (Takes cs fs) t f
-row_back k cs fs t f r b = let P : Row → Type 0 = λ v. Breaches (token_kind k) v t f in subst P r b
+row_back k cs fs t f r b = let P : FormRow → Type 0 = λ v. Breaches (token_kind k) v t f in subst P r b
 
 -- what stands behind the fixed arguments
-pub behind_fixed : (wanted : List Wanted) (us vs ts : List Placed) → vs ≡ drop (length wanted) us → us ≡ ts → vs ≡ drop (length (map choices wanted)) ts
+pub behind_fixed : (wanted : List FixedArgument) (us vs ts : List Placed) → vs ≡ drop (length wanted) us → us ≡ ts → vs ≡ drop (length (map choices wanted)) ts
 behind_fixed wanted us vs ts e f = e ∙ ap (drop (length wanted)) f ∙ ap (λ n. drop n ts) (sym (length-map wanted choices))
 
 -- of few there is none twice

@@ -6,7 +6,7 @@ use Rattle.std.proofs.lemmas.Bool.{and_parts, cases_Bool}
 use Rattle.std.proofs.lemmas.List.{length-map}
 use Rattle.netlist_schema.proofs.Lists.{take_front, zip_length}
 use Rattle.edif_spelling_spec.specs.Tree.{Bare, Placed, Form', Word', Integer', String', End, More, bare}
-use Rattle.edif_spec.specs.Keyword.{row, Row, Takes, Choice, Follower, Many, One, name_definition, the, integer}
+use Rattle.edif_spec.specs.Keyword.{row, FormRow, Takes, Choice, Follower, Many, One, name_definition, the, integer}
 use Rattle.edif_spec.specs.Rows.{has_keyword, those, is_one_of, is_follower, AtMostOnce, FitsRow, IsFormOf}
 use Rattle.edif_spec.specs.Faults.{AtTwo, place_of, arguments, fixed_count, followers, those_of, FixedFault, FollowerFault, SecondFault, second, Breaches, RowFault, token_kind, misplaced, row_has}
 use Rattle.edif_spec.specs.declared.keyword.Keyword.{Keyword}
@@ -23,7 +23,7 @@ use Rattle.edif_grammar.specs.declared.lent.Breach.{Breach}
 pub use Rattle.edif_grammar.specs.Rules.{is_plain}
 
 -- What is wrong in a way of its own.
-own_misplaced : (kind : Kind) (r : Row) (t : Placed) → HasOwnKind (misplaced kind r t) → misplaced kind r t ≡ At kind (place_of t)
+own_misplaced : (kind : Kind) (r : FormRow) (t : Placed) → HasOwnKind (misplaced kind r t) → misplaced kind r t ≡ At kind (place_of t)
 own_misplaced kind r (Word' p w) h = refl
 own_misplaced kind r (Integer' p z) h = refl
 own_misplaced kind r (String' p s) h = refl
@@ -37,7 +37,7 @@ own_misplaced kind r (Form' p (More (Word' q name) ts)) h = absurd (go (row_has 
     go true h = h
     go false h = h
 
-plain_misplaced : (r : Row) (t : Placed) → HasOwnKind (misplaced BadForm r t) → ⊥
+plain_misplaced : (r : FormRow) (t : Placed) → HasOwnKind (misplaced BadForm r t) → ⊥
 plain_misplaced r t h = subst HasOwnKind (own_misplaced BadForm r t h) h
 
 pub second_plain : (k : Keyword) (a b : Placed) → is_plain k ≡ true → second k a b ≡ At BadForm (place_of b)
@@ -82,14 +82,14 @@ no_fixed wrong place (c ∷ cs) [] f h b = h
 no_fixed wrong place (c ∷ cs) (t ∷ ts) f h (inl b) = let yes' : is_one_of c (bare t) ≡ true = h.0 in let no' : is_one_of c (bare t) ≡ false = b.0 in absurd (cc)
 no_fixed wrong place (c ∷ cs) (t ∷ ts) f h (inr b) = no_fixed wrong place cs ts f h.1 b
 
-no_follower : (r : Row) (fs : List Follower) (ts : List Placed) (f : MeaningFault) → HasOwnKind f → FollowerFault (misplaced BadForm r) fs ts f → ⊥
+no_follower : (r : FormRow) (fs : List Follower) (ts : List Placed) (f : MeaningFault) → HasOwnKind f → FollowerFault (misplaced BadForm r) fs ts f → ⊥
 no_follower r fs ts f o b = none_of_one (λ t. (is_follower fs (bare t) ≡ false) × (f ≡ misplaced BadForm r t)) ts (λ t e. plain_misplaced r t (subst HasOwnKind e.1 o)) b
 
 -- Each fixed argument is there. It is one of its choices, or else a token, whose fault is of the kind of its row.
 abbrev pub FixedOr : Keyword → Placed → List (List Choice) → List Placed → Type 0
 FixedOr k t cs ts = AllZip (λ c u. (is_one_of c (bare u) ≡ true) ⊎ RowFault k t (At (token_kind k) (place_of u))) cs ts
 
-fixed_step : (F : MeaningFault → Type 0) (kind : Kind) (r : Row) (place : ℕ) (cs : List (List Choice)) (ts : List Placed) → ((f : MeaningFault) → FixedFault (misplaced kind r) place cs ts f → F f) → ((f : MeaningFault) → F f → HasOwnKind f)
+fixed_step : (F : MeaningFault → Type 0) (kind : Kind) (r : FormRow) (place : ℕ) (cs : List (List Choice)) (ts : List Placed) → ((f : MeaningFault) → FixedFault (misplaced kind r) place cs ts f → F f) → ((f : MeaningFault) → F f → HasOwnKind f)
     → AllZip (λ c u. (is_one_of c (bare u) ≡ true) ⊎ F (At kind (place_of u))) cs (take (length cs) ts)
 fixed_step F kind r place [] ts h o = tt
 fixed_step F kind r place (c ∷ cs) [] h o = o (At BadForm place) (h (At BadForm place) refl)
@@ -102,7 +102,7 @@ fixed_step F kind r place (c ∷ cs) (t ∷ ts) h o = (go (cases_Bool (is_one_of
         inr (subst F (own_misplaced kind r t (o (misplaced kind r t) b)) b)
 
 pub in_row : (k : Keyword) (cs : List (List Choice)) (fs : List Follower) (t : Placed) (f : MeaningFault) → row k ≡ Takes cs fs → Breaches (token_kind k) (Takes cs fs) t f → RowFault k t f
-in_row k cs fs t f r b = let P : Row → Type 0 = λ v. Breaches (token_kind k) v t f in subst P (sym r) b
+in_row k cs fs t f r b = let P : FormRow → Type 0 = λ v. Breaches (token_kind k) v t f in subst P (sym r) b
 
 pub fixed_or : (k : Keyword) (cs : List (List Choice)) (fs : List Follower) (t : Placed) → row k ≡ Takes cs fs → FitsOwn k t → FixedOr k t cs (take (length cs) (arguments t))
 fixed_or k cs fs t r h = fixed_step (RowFault k t) (token_kind k) (Takes cs fs) (place_of t) cs (arguments t) (λ f b. in_row k cs fs t f r (inl b)) h.breaches
@@ -132,8 +132,8 @@ fits_row k cs fs t r h x s = go (known.row_known k cs fs t r h.keyword)
     go : known.Fits k cs t ⊎ known.Faulty (RowFault k t) → known.Fits k cs t
     go (inl y) = y
     go (inr b) =
-        let P : Row → Type 0 = λ v. Breaches (token_kind k) v t b.0 in
-        let Q : Row → Type 0 = λ v. SecondsFit fs (drop (fixed_count v) (arguments t)) in
+        let P : FormRow → Type 0 = λ v. Breaches (token_kind k) v t b.0 in
+        let Q : FormRow → Type 0 = λ v. SecondsFit fs (drop (fixed_count v) (arguments t)) in
         absurd (no b.0 (h.breaches b.0 b.1) (subst P r b.1) (subst Q r s))
 
 -- the same where a token that is none of the choices would be a bad form
@@ -382,7 +382,7 @@ once_among j (One k ∷ fs) ts (inr m) h = once_among j fs ts m h.1
 
 pub once_bare : (k j : Keyword) (cs : List (List Choice)) (fs : List Follower) (t : Placed) (fixed : List Bare) → row k ≡ Takes cs fs → MayStandOnce j fs → IsFormOf k (bare t) fixed (map bare (followers k t)) → length (those j (map bare (followers k t))) ≤ 1
 once_bare k j cs fs t fixed r m h =
-    let P : Row → Type 0 = λ v. FitsRow v fixed (map bare (followers k t)) in
+    let P : FormRow → Type 0 = λ v. FitsRow v fixed (map bare (followers k t)) in
     let f = subst P r h.fits in
     once_among j fs (map bare (followers k t)) m f.2
 
@@ -403,7 +403,7 @@ pub once_fits : (k j : Keyword) (cs : List (List Choice)) (fs : List Follower) (
 once_fits k j cs fs t r m p h = go (those_of j (followers k t)) refl
   where
     in_seconds : (f : MeaningFault) → SecondFault fs (drop (fixed_count (row k)) (arguments t)) f → RowFault k t f
-    in_seconds f b = let P : Row → Type 0 = λ v. SecondFault fs (drop (fixed_count v) (arguments t)) f in in_row k cs fs t f r (inr (inr (subst P r b)))
+    in_seconds f b = let P : FormRow → Type 0 = λ v. SecondFault fs (drop (fixed_count v) (arguments t)) f in in_row k cs fs t f r (inr (inr (subst P r b)))
 
     go : (us : List Placed) → those_of j (followers k t) ≡ us → length us ≤ 1
     go [] e = omega arith
@@ -419,7 +419,7 @@ pub followers_fit : (k : Keyword) (cs : List (List Choice)) (fs : List Follower)
 followers_fit k cs fs t r h = go (followers k t) (λ f b. h.breaches f (in_followers f b))
   where
     in_followers : (f : MeaningFault) → FollowerFault (misplaced BadForm (Takes cs fs)) fs (drop (fixed_count (row k)) (arguments t)) f → RowFault k t f
-    in_followers f b = let P : Row → Type 0 = λ v. FollowerFault (misplaced BadForm (Takes cs fs)) fs (drop (fixed_count v) (arguments t)) f in in_row k cs fs t f r (inr (inl (subst P r b)))
+    in_followers f b = let P : FormRow → Type 0 = λ v. FollowerFault (misplaced BadForm (Takes cs fs)) fs (drop (fixed_count v) (arguments t)) f in in_row k cs fs t f r (inr (inl (subst P r b)))
 
     step : (u : Placed) → (is_follower fs (bare u) ≡ true) ⊎ (is_follower fs (bare u) ≡ false) → ((f : MeaningFault) → (is_follower fs (bare u) ≡ false) × (f ≡ misplaced BadForm (Takes cs fs) u) → HasOwnKind f) → is_follower fs (bare u) ≡ true
     step u (inl e) o = e

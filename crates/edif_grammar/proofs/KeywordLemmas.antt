@@ -5,7 +5,7 @@ use Rattle.std.specs.List.{list_any}
 use Rattle.std.specs.Char.{to_ascii_lowercase}
 use Rattle.std.proofs.lemmas.Bool.{or_cases, or_right, or_left, and_parts}
 use Rattle.edif_spelling_spec.specs.Tree.{Bare, Placed, Form', Word', Integer', String', End, More, bare}
-use Rattle.edif_spec.specs.Keyword.{keyword, first_spelled, all_keywords, same, spelling_of, Row, Takes, Skips, Choice, AnIdentifier, AnInteger, AString, AForm, Follower, Many, One}
+use Rattle.edif_spec.specs.Keyword.{keyword, first_spelled, all_keywords, same, spelling_of, FormRow, Takes, Skips, Choice, AnIdentifier, AnInteger, AString, AForm, Follower, Many, One}
 use Rattle.edif_spec.specs.Rows.{has_keyword, is_choice, is_one_of, is_follower}
 use Rattle.edif_spec.specs.Faults.{RowFault, row_has, misplaced}
 use Rattle.edif_spec.specs.Stands.{file_row}
@@ -80,7 +80,7 @@ abbrev pub is_a_follower : Keyword → Follower → Bool
 is_a_follower j (Many k) = same (spelling_of j) (spelling_of k)
 is_a_follower j (One k) = same (spelling_of j) (spelling_of k)
 
-abbrev pub holds : Row → Keyword → Bool
+abbrev pub holds : FormRow → Keyword → Bool
 holds Skips j = false
 holds (Takes cs fs) j = list_any (list_any (is_a_choice j)) cs || list_any (is_a_follower j) fs
 
@@ -121,7 +121,7 @@ followers_hold j t (One k ∷ fs) h g = go (or_cases (same (spelling_of j) (spel
     go (inr e) r = or_right (has_keyword k t) (is_follower fs t) (r e)
 
 -- A form of this keyword may stand in the row: `holds (row k) j ≡ true` is `refl` at two keywords.
-pub row_holds : (r : Row) (j : Keyword) (t : Bare) → holds r j ≡ true → has_keyword j t ≡ true → row_has r t ≡ true
+pub row_holds : (r : FormRow) (j : Keyword) (t : Bare) → holds r j ≡ true → has_keyword j t ≡ true → row_has r t ≡ true
 row_holds Skips j t h g = absurd (cc h)
 row_holds (Takes cs fs) j t h g = go (or_cases (list_any (list_any (is_a_choice j)) cs) (list_any (is_a_follower j) fs) h)
   where
@@ -137,7 +137,7 @@ pub fits_as : (parent : Option Keyword) (j k : Keyword) (t : Placed) → Fits pa
 fits_as parent j k t h g = let P : Keyword → Type 0 = λ v. Fits parent v t in subst P (keyword_is parent j k t h g) h
 
 -- a tree with a keyword is a form
-pub with_keyword : (r : Row) (k : Keyword) (t : Bare) → has_keyword k t ≡ true → has_form r t ≡ row_has r t
+pub with_keyword : (r : FormRow) (k : Keyword) (t : Bare) → has_keyword k t ≡ true → has_form r t ≡ row_has r t
 with_keyword r k (Form' p ts) h = refl
 with_keyword r k (Word' p w) h = absurd (cc h)
 with_keyword r k (Integer' p z) h = absurd (cc h)

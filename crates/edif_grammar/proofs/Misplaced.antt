@@ -4,7 +4,7 @@ use Rattle.std.specs.Prelude.{◌||◌, cond}
 use Rattle.std.specs.List.{list_any}
 use Rattle.std.proofs.lemmas.Bool.{and_right}
 use Rattle.edif_spelling_spec.specs.Tree.{Bare, Placed, Form', Word', Integer', String', End, More, bare}
-use Rattle.edif_spec.specs.Keyword.{keyword, all_keywords, same, spelling_of, Row, Takes, Skips, Choice, AnIdentifier, AnInteger, AString, AForm, Follower, Many, One}
+use Rattle.edif_spec.specs.Keyword.{keyword, all_keywords, same, spelling_of, FormRow, Takes, Skips, Choice, AnIdentifier, AnInteger, AString, AForm, Follower, Many, One}
 use Rattle.edif_spec.specs.Rows.{has_keyword, is_one_of}
 use Rattle.edif_spec.specs.Faults.{row_has, misplaced, place_of, token_kind}
 use Rattle.edif_tree.specs.Nodes as nodes
@@ -79,7 +79,7 @@ misplaced_out true p name e = absurd (cc e)
 misplaced_out false p name e = refl
 
 -- a form that the row has elsewhere is a bad form
-pub elsewhere : (kind : Kind) (r : Row) (t : Placed) (name : List ℕ) → first_word (bare t) ≡ Some name → row_has r (bare t) ≡ true → misplaced kind r t ≡ At BadForm (place_of t)
+pub elsewhere : (kind : Kind) (r : FormRow) (t : Placed) (name : List ℕ) → first_word (bare t) ≡ Some name → row_has r (bare t) ≡ true → misplaced kind r t ≡ At BadForm (place_of t)
 elsewhere kind r (Form' p (More (Word' q x) ts)) name e h = misplaced_in (row_has r (bare (Form' p (More (Word' q x) ts)))) p x h
 elsewhere kind r (Form' p (More (Form' q us) ts)) name e h = absurd (cc e)
 elsewhere kind r (Form' p (More (Integer' q z) ts)) name e h = absurd (cc e)
@@ -90,7 +90,7 @@ elsewhere kind r (Integer' p x) name e h = absurd (cc e)
 elsewhere kind r (String' p x) name e h = absurd (cc e)
 
 -- a form that the row has nowhere is outside the profile
-pub nowhere : (kind : Kind) (r : Row) (t : Placed) (name : List ℕ) → first_word (bare t) ≡ Some name → row_has r (bare t) ≡ false → misplaced kind r t ≡ NotInProfile name (place_of t)
+pub nowhere : (kind : Kind) (r : FormRow) (t : Placed) (name : List ℕ) → first_word (bare t) ≡ Some name → row_has r (bare t) ≡ false → misplaced kind r t ≡ NotInProfile name (place_of t)
 nowhere kind r (Form' p (More (Word' q x) ts)) name e h =
     let w : x ≡ name = cc e in misplaced_out (row_has r (bare (Form' p (More (Word' q x) ts)))) p x h ∙ ap (λ v. NotInProfile v p) w
 nowhere kind r (Form' p (More (Form' q us) ts)) name e h = absurd (cc e)
@@ -102,7 +102,7 @@ nowhere kind r (Integer' p x) name e h = absurd (cc e)
 nowhere kind r (String' p x) name e h = absurd (cc e)
 
 -- what begins with no name is a bad form
-pub nameless : (r : Row) (t : Placed) → first_word (bare t) ≡ None → misplaced BadForm r t ≡ At BadForm (place_of t)
+pub nameless : (r : FormRow) (t : Placed) → first_word (bare t) ≡ None → misplaced BadForm r t ≡ At BadForm (place_of t)
 nameless r (Form' p (More (Word' q x) ts)) e = absurd (cc e)
 nameless r (Form' p (More (Form' q us) ts)) e = refl
 nameless r (Form' p (More (Integer' q z) ts)) e = refl
@@ -129,20 +129,20 @@ strange_follows [] = refl
 strange_follows (Many k ∷ fs) = strange_follows fs
 strange_follows (One k ∷ fs) = strange_follows fs
 
-strange_row : (r : Row) → row_fits r arguments.Strange ≡ false
+strange_row : (r : FormRow) → row_fits r arguments.Strange ≡ false
 strange_row Skips = refl
 strange_row (Takes cs fs) = ap (λ b. b || follows fs arguments.Strange) (strange_any cs) ∙ strange_follows fs
 
-strange_out : (r : Row) (t : Bare) → argument_of t ≡ arguments.Strange → row_has r t ≡ false
+strange_out : (r : FormRow) (t : Bare) → argument_of t ≡ arguments.Strange → row_has r t ≡ false
 strange_out r t e = sym (row_fits_is r t) ∙ (ap (row_fits r) e ∙ strange_row r)
 
-pub unknown_out : (r : Row) (t : Bare) (name : List ℕ) → first_word t ≡ Some name → keyword name ≡ None → row_has r t ≡ false
+pub unknown_out : (r : FormRow) (t : Bare) (name : List ℕ) → first_word t ≡ Some name → keyword name ≡ None → row_has r t ≡ false
 unknown_out r t name e n = strange_out r t (told t name e ∙ ap with_keyword n)
 
-pub no_form : (r : Row) (t : Bare) → row_has r t ≡ false → has_form r t ≡ false
+pub no_form : (r : FormRow) (t : Bare) → row_has r t ≡ false → has_form r t ≡ false
 no_form r t e = and_right (is_form t) (row_has r t) e
 
-pub nameless_out : (r : Row) (t : Bare) → first_word t ≡ None → has_form r t ≡ false
+pub nameless_out : (r : FormRow) (t : Bare) → first_word t ≡ None → has_form r t ≡ false
 nameless_out r (Form' p (More (Word' q x) ts)) e = absurd (cc e)
 nameless_out r (Form' p (More (Form' q us) ts)) e = no_form r (Form' p (More (Form' q us) ts)) (strange_out r (Form' p (More (Form' q us) ts)) refl)
 nameless_out r (Form' p (More (Integer' q z) ts)) e = no_form r (Form' p (More (Integer' q z) ts)) (strange_out r (Form' p (More (Integer' q z) ts)) refl)
@@ -153,7 +153,7 @@ nameless_out r (Integer' p x) e = refl
 nameless_out r (String' p x) e = refl
 
 -- a form with a keyword that is found
-pub found_in : (r : Row) (t : Bare) (name : List ℕ) (k : Keyword) → first_word t ≡ Some name → keyword name ≡ Some k → row_fits r (arguments.Form k) ≡ row_has r t
+pub found_in : (r : FormRow) (t : Bare) (name : List ℕ) (k : Keyword) → first_word t ≡ Some name → keyword name ≡ Some k → row_fits r (arguments.Form k) ≡ row_has r t
 found_in r t name k e f = ap (row_fits r) (sym (told t name e ∙ ap with_keyword f)) ∙ row_fits_is r t
 
 -- Tokens.
@@ -161,7 +161,7 @@ token_form : (o : Option Keyword) → is_token (with_keyword o) ≡ false
 token_form None = refl
 token_form (Some k) = refl
 
-token_at : (kind : Kind) (r : Row) (t : Placed) → is_token (argument_of (bare t)) ≡ true → misplaced kind r t ≡ At kind (place_of t)
+token_at : (kind : Kind) (r : FormRow) (t : Placed) → is_token (argument_of (bare t)) ≡ true → misplaced kind r t ≡ At kind (place_of t)
 token_at kind r (Word' p x) e = refl
 token_at kind r (Integer' p x) e = refl
 token_at kind r (String' p x) e = refl
@@ -172,7 +172,7 @@ token_at kind r (Form' p (More (String' q s) ts)) e = absurd (cc e)
 token_at kind r (Form' p (More (Word' q x) ts)) e = absurd (let w : false ≡ true = sym (token_form (keyword x)) ∙ e in cc w)
 
 -- a form is wrong in one way whatever its row is
-pub form_alike : (kind : Kind) (r : Row) (t : Placed) → is_token (argument_of (bare t)) ≡ false → misplaced BadForm r t ≡ misplaced kind r t
+pub form_alike : (kind : Kind) (r : FormRow) (t : Placed) → is_token (argument_of (bare t)) ≡ false → misplaced BadForm r t ≡ misplaced kind r t
 form_alike kind r (Word' p x) e = absurd (cc e)
 form_alike kind r (Integer' p x) e = absurd (cc e)
 form_alike kind r (String' p x) e = absurd (cc e)
@@ -188,10 +188,10 @@ own_at BadLevel p e = tt
 own_at _ p e = absurd (cc e)
 
 -- what passes
-pub choice_passes : (kind : Kind) (r : Row) (cs : List Choice) (t : Placed) (a : Argument) → a ≡ argument_of (bare t) → one_fits cs a ≡ true → ArgumentFits kind r cs t
+pub choice_passes : (kind : Kind) (r : FormRow) (cs : List Choice) (t : Placed) (a : Argument) → a ≡ argument_of (bare t) → one_fits cs a ≡ true → ArgumentFits kind r cs t
 choice_passes kind r cs t a e h = inl (sym (one_fits_is cs (bare t)) ∙ (ap (one_fits cs) (sym e) ∙ h))
 
-pub token_passes : (kind : Kind) (r : Row) (cs : List Choice) (t : Placed) (a : Argument) → a ≡ argument_of (bare t) → is_token a ≡ true → has_own_kind kind ≡ true → ArgumentFits kind r cs t
+pub token_passes : (kind : Kind) (r : FormRow) (cs : List Choice) (t : Placed) (a : Argument) → a ≡ argument_of (bare t) → is_token a ≡ true → has_own_kind kind ≡ true → ArgumentFits kind r cs t
 token_passes kind r cs t a e h o =
     let w : misplaced kind r t ≡ At kind (place_of t) = token_at kind r t (ap is_token (sym e) ∙ h) in inr (subst HasOwnKind (sym w) (own_at kind (place_of t) o))
 
@@ -199,8 +199,8 @@ token_passes kind r cs t a e h o =
 pub no_choice : (cs : List Choice) (t : Placed) (a : Argument) → a ≡ argument_of (bare t) → one_fits cs a ≡ false → is_one_of cs (bare t) ≡ false
 no_choice cs t a e h = sym (one_fits_is cs (bare t)) ∙ (ap (one_fits cs) (sym e) ∙ h)
 
-pub form_stays : (k : Keyword) (r : Row) (t : Placed) (a : Argument) → a ≡ argument_of (bare t) → is_token a ≡ false → misplaced BadForm r t ≡ misplaced (token_kind k) r t
+pub form_stays : (k : Keyword) (r : FormRow) (t : Placed) (a : Argument) → a ≡ argument_of (bare t) → is_token a ≡ false → misplaced BadForm r t ≡ misplaced (token_kind k) r t
 form_stays k r t a e h = form_alike (token_kind k) r t (ap is_token (sym e) ∙ h)
 
-pub kind_stays : (k : Keyword) (r : Row) (t : Placed) → has_own_kind (token_kind k) ≡ false → misplaced BadForm r t ≡ misplaced (token_kind k) r t
+pub kind_stays : (k : Keyword) (r : FormRow) (t : Placed) → has_own_kind (token_kind k) ≡ false → misplaced BadForm r t ≡ misplaced (token_kind k) r t
 kind_stays k r t h = ap (λ v. misplaced v r t) (sym (bad_form_else k h))

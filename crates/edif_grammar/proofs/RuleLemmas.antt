@@ -3,7 +3,7 @@ use Rattle.std.proofs.Common.{◌≡◌, ℕ, List, [], ◌∷◌, refl, sym, ap
 use Rattle.std.specs.Prelude.{◌||◌}
 use Rattle.std.specs.List.{list_any}
 use Rattle.edif_spelling_spec.specs.Tree.{Bare, Form', Word', Integer', String', End, More}
-use Rattle.edif_spec.specs.Keyword.{keyword, all_keywords, same, spelling_of, Row, Takes, Skips, Choice, AnIdentifier, AnInteger, AString, AForm, Follower, Many, One}
+use Rattle.edif_spec.specs.Keyword.{keyword, all_keywords, same, spelling_of, FormRow, Takes, Skips, Choice, AnIdentifier, AnInteger, AString, AForm, Follower, Many, One}
 use Rattle.edif_spec.specs.Rows.{has_keyword, is_choice, is_one_of, is_follower}
 use Rattle.edif_spec.specs.Faults.{row_has, token_kind}
 use Rattle.edif_spec.specs.declared.keyword.Keyword.{Keyword}
@@ -81,7 +81,7 @@ any_fits [] t = refl
 any_fits (c ∷ cs) t =
     ap (λ b. b || list_any (λ c. one_fits c (argument_of t)) cs) (one_fits_is c t) ∙ ap (λ b. is_one_of c t || b) (any_fits cs t)
 
-pub row_fits_is : (r : Row) (t : Bare) → row_fits r (argument_of t) ≡ row_has r t
+pub row_fits_is : (r : FormRow) (t : Bare) → row_fits r (argument_of t) ≡ row_has r t
 row_fits_is Skips t = refl
 row_fits_is (Takes cs fs) t =
     ap (λ b. b || follows fs (argument_of t)) (any_fits cs t) ∙ ap (λ b. list_any (λ c. is_one_of c t) cs || b) (follows_is fs t)

@@ -1,7 +1,7 @@
 -- Which form stands at a node, and how it fits its row and its place.
 use Rattle.std.specs.Prelude.{◌≡◌, ◌⊎◌, ◌&&◌, Bool, true, false, Option, Some, None, take}
 use Rattle.edif_spelling_spec.specs.Tree.{Bare, Placed, Form', bare}
-use Rattle.edif_spec.specs.Keyword.{row, Row}
+use Rattle.edif_spec.specs.Keyword.{row, FormRow}
 use Rattle.edif_spec.specs.Rows.{has_keyword}
 use Rattle.edif_spec.specs.Faults.{arguments, followers, fixed_count, row_has, misplaced, place_of, RowFault}
 use Rattle.edif_spec.specs.Stands.{file_row}
@@ -15,7 +15,7 @@ use Rattle.edif_grammar.specs.declared.lent.Breach.{Breach}
 use Rattle.edif_grammar.specs.declared.lent.Breach.TheVariants as breaches
 
 -- the row that holds a form: that of its parent, or that of a whole file
-abbrev pub row_above : Option Keyword → Row
+abbrev pub row_above : Option Keyword → FormRow
 row_above None = file_row
 row_above (Some k) = row k
 
@@ -58,7 +58,7 @@ is_form (Form' p ts) = true
 is_form _ = false
 
 -- the row has such a form somewhere
-abbrev pub has_form : Row → Bare → Bool
+abbrev pub has_form : FormRow → Bare → Bool
 has_form r t = is_form t && row_has r t
 
 -- What is wrong with a form: it is a token, or the row above has no such form; or the row above has it, and it breaches its own row.

@@ -2,14 +2,14 @@
 use Rattle.std.specs.Prelude.{ℕ, List, [], ◌∷◌, map, Bool, true, false, ◌||◌, Option, Some, None}
 use Rattle.std.specs.List.{list_any}
 use Rattle.edif_spelling_spec.specs.Tree.{Bare, Form', Word', Integer', String', More}
-use Rattle.edif_spec.specs.Keyword.{keyword, same, spelling_of, Choice, AnIdentifier, AnInteger, AString, AForm, Follower, Row, Takes, Skips, name_definition, bus_name, identifier, integer, string, the}
+use Rattle.edif_spec.specs.Keyword.{keyword, same, spelling_of, Choice, AnIdentifier, AnInteger, AString, AForm, Follower, FormRow, Takes, Skips, name_definition, bus_name, identifier, integer, string, the}
 use Rattle.edif_spec.specs.Keyword as table
 use Rattle.edif_spec.specs.declared.keyword.Keyword.{Keyword}
 use Rattle.edif_spec.specs.declared.keyword.Keyword.TheVariants as keywords
 use Rattle.edif_spec.specs.declared.fault.Kind.{Kind}
 use Rattle.edif_spec.specs.declared.fault.Kind.TheVariants.{BadVersion, BadLevel}
-use Rattle.edif_grammar.specs.declared.rules.Wanted.{Wanted}
-use Rattle.edif_grammar.specs.declared.rules.Wanted.TheVariants as wanted
+use Rattle.edif_grammar.specs.declared.rules.FixedArgument.{FixedArgument}
+use Rattle.edif_grammar.specs.declared.rules.FixedArgument.TheVariants as wanted
 use Rattle.edif_grammar.specs.declared.rules.Inner.{Inner}
 use Rattle.edif_grammar.specs.declared.rules.Inner.TheVariants as inner
 use Rattle.edif_grammar.specs.declared.rules.Rule.{Rule}
@@ -18,7 +18,7 @@ use Rattle.edif_grammar.specs.declared.rules.Argument.{Argument}
 use Rattle.edif_grammar.specs.declared.rules.Argument.TheVariants as arguments
 
 -- the choices for what is wanted
-abbrev pub choices : Wanted → List Choice
+abbrev pub choices : FixedArgument → List Choice
 choices wanted.Identifier = identifier
 choices wanted.Integer = integer
 choices wanted.Text = string
@@ -36,7 +36,7 @@ follower (inner.Many k) = table.Many k
 follower (inner.Once k) = table.One k
 
 -- the row of a rule
-abbrev pub row_of : Rule → Row
+abbrev pub row_of : Rule → FormRow
 row_of rules.Skips = Skips
 row_of (rules.Takes fixed after) = Takes (map choices fixed.now) (map follower after.now)
 
@@ -79,7 +79,7 @@ follows (table.Many k ∷ fs) a = choice_fits (AForm k) a || follows fs a
 follows (table.One k ∷ fs) a = choice_fits (AForm k) a || follows fs a
 
 -- the row has it somewhere
-abbrev pub row_fits : Row → Argument → Bool
+abbrev pub row_fits : FormRow → Argument → Bool
 row_fits Skips a = false
 row_fits (Takes cs fs) a = list_any (λ c. one_fits c a) cs || follows fs a
 

@@ -14,7 +14,7 @@ ghost use Rattle.edif_spec.specs.Keyword.{Follower};
 
 use crate::lent::Breach;
 use crate::nodes::{argument_at, is_form_of, opened};
-use crate::rules::{Inner, Rule, Wanted, may_follow, second_is_bad_form, tokens_apart};
+use crate::rules::{Inner, Rule, FixedArgument, may_follow, second_is_bad_form, tokens_apart};
 use edif_spec::Keyword;
 use edif_tree::{Node, Nodes};
 
@@ -40,7 +40,7 @@ fn misplaced_at(rule: Rule, node: Node<'_>) -> Breach<'_>
 fn check_argument(
     keyword: Keyword,
     rule: Rule,
-    wanted: Wanted,
+    wanted: FixedArgument,
     node: Node<'_>,
 ) -> Result<(), Breach<'_>>
     ensures ok { IfOk result (λ u. ArgumentFits (token_kind keyword) (row_of rule) (choices wanted) (here node.entry)) }
@@ -63,7 +63,7 @@ fn check_argument(
 pub(crate) fn check_fixed<'a>(
     keyword: Keyword,
     rule: Rule,
-    wanted: &[Wanted],
+    wanted: &[FixedArgument],
     nodes: Nodes<'a>,
 ) -> Result<(), Breach<'a>>
     requires { length wanted.now ≤ length (all nodes) }

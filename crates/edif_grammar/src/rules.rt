@@ -10,7 +10,7 @@ use edif_spec::Keyword;
 
 /// What may stand as one fixed argument.
 #[derive(Clone, Copy)]
-pub enum Wanted {
+pub enum FixedArgument {
     Identifier,
     Integer,
     Text,
@@ -45,7 +45,7 @@ pub enum Rule {
     /// A form that is not looked into.
     Skips,
     /// The fixed arguments in order, and what may follow.
-    Takes(&'static [Wanted], &'static [Inner]),
+    Takes(&'static [FixedArgument], &'static [Inner]),
 }
 
 /// An argument, as rows tell arguments apart.
@@ -120,7 +120,7 @@ pub(crate) fn rule_of(keyword: Keyword) -> Rule
     use Inner::{Many, Once};
     use Keyword as K;
     use Rule::{Skips, Takes};
-    use Wanted::{Bit, BusName, Form, Identifier, Integer, Name, Number, Text, Truth, Value};
+    use FixedArgument::{Bit, BusName, Form, Identifier, Integer, Name, Number, Text, Truth, Value};
     macro_rules! rule {
         ($($variant:ident: [$($fixed:expr),*] [$($inner:expr),*];)*) => {
             match keyword {
@@ -137,7 +137,7 @@ pub(crate) fn rule_above(parent: Option<Keyword>) -> Rule
     ensures { row_of result ≡ row_above parent }
 {
     match parent {
-        None => Rule::Takes(&[Wanted::Form(Keyword::Edif)], &[]),
+        None => Rule::Takes(&[FixedArgument::Form(Keyword::Edif)], &[]),
         Some(keyword) => rule_of(keyword),
     }
 }
@@ -200,27 +200,27 @@ impl Argument {
     }
 }
 
-impl Wanted {
+impl FixedArgument {
     /// Whether the argument is what is wanted.
     #[inline(always)]
     pub fn fits(self, argument: Argument) -> bool
         ensures { result ≡ one_fits (choices self) argument }
     {
         match self {
-            Wanted::Identifier => argument.is_identifier(),
-            Wanted::Integer => argument.is_integer(),
-            Wanted::Text => argument.is_text(),
-            Wanted::Form(keyword) => argument.is_form(keyword),
-            Wanted::Name => argument.is_identifier() || argument.is_form(Keyword::Rename),
-            Wanted::BusName => {
+            FixedArgument::Identifier => argument.is_identifier(),
+            FixedArgument::Integer => argument.is_integer(),
+            FixedArgument::Text => argument.is_text(),
+            FixedArgument::Form(keyword) => argument.is_form(keyword),
+            FixedArgument::Name => argument.is_identifier() || argument.is_form(Keyword::Rename),
+            FixedArgument::BusName => {
                 argument.is_identifier()
                     || argument.is_form(Keyword::Rename)
                     || argument.is_form(Keyword::Array)
             }
-            Wanted::Bit => argument.is_identifier() || argument.is_form(Keyword::Member),
-            Wanted::Truth => argument.is_form(Keyword::True) || argument.is_form(Keyword::False),
-            Wanted::Number => argument.is_integer() || argument.is_form(Keyword::E),
-            Wanted::Value => {
+            FixedArgument::Bit => argument.is_identifier() || argument.is_form(Keyword::Member),
+            FixedArgument::Truth => argument.is_form(Keyword::True) || argument.is_form(Keyword::False),
+            FixedArgument::Number => argument.is_integer() || argument.is_form(Keyword::E),
+            FixedArgument::Value => {
                 argument.is_form(Keyword::Boolean)
                     || argument.is_form(Keyword::Integer)
                     || argument.is_form(Keyword::Number)
@@ -245,7 +245,7 @@ pub(crate) fn may_follow(inner: &[Inner], argument: Argument) -> bool
 }
 
 /// Whether the argument is one of the fixed ones.
-fn is_wanted(fixed: &[Wanted], argument: Argument) -> bool
+fn is_wanted(fixed: &[FixedArgument], argument: Argument) -> bool
     ensures { result ≡ list_any (λ c. one_fits c argument) (map choices fixed.now) }
 {
     for wanted in fixed {

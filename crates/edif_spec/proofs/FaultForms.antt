@@ -8,7 +8,7 @@ use Rattle.std.proofs.lemmas.List.{length-map}
 use Rattle.netlist_schema.specs.Names.{AreDistinct}
 use Rattle.netlist_schema.proofs.Lists.{drop_front, map_drop, get_mapped, get_unmapped, zip_length}
 use Rattle.edif_spelling_spec.specs.Tree.{Bare, Placed, Trees, Form', Word', Integer', String', End, More, form, word, items, bare, bares}
-use Rattle.edif_spec.specs.Keyword.{row, Row, Takes, Skips, Choice, Follower, Many, One}
+use Rattle.edif_spec.specs.Keyword.{row, FormRow, Takes, Skips, Choice, Follower, Many, One}
 use Rattle.edif_spec.specs.Rows.{has_keyword, those, is_one_of, is_follower, AtMostOnce, FitsRow, IsFormOf, Each, EachAfter, Perhaps, Just}
 use Rattle.edif_spec.specs.Faults.{AtOne, AtTwo, place_of, arguments, fixed_count, followers, those_of, parts, Among, FixedFault, FollowerFault, SecondFault, second, Breaches, RowFault, token_kind, misplaced, Beyond, defined, SameName, Repeats}
 use Rattle.edif_spec.specs.Stands.{AmongAfter}
@@ -63,7 +63,7 @@ part_is k t fixed inner i u b h e f =
 pub part_there : (k : Keyword) (t : Placed) (fixed inner : List Bare) (i : ℕ) (b : Bare) → IsFormOf k (bare t) fixed inner → slice_get (fixed ++ inner) i ≡ Some b → (u : Placed) × (slice_get (arguments t) i ≡ Some u) × (bare u ≡ b)
 part_there k t fixed inner i b h f = get_unmapped bare (arguments t) i b (ap (λ v. slice_get v i) (arguments_are k t fixed inner h) ∙ f)
 
-fits_count : (r : Row) (fixed inner : List Bare) → FitsRow r fixed inner → fixed_count r ≡ length fixed
+fits_count : (r : FormRow) (fixed inner : List Bare) → FitsRow r fixed inner → fixed_count r ≡ length fixed
 fits_count Skips fixed inner h = sym (ap length h)
 fits_count (Takes cs fs) fixed inner h = zip_length (λ cs t. IsTrue (is_one_of cs t)) cs fixed h.0
 
@@ -111,7 +111,7 @@ seconds_apart (One k ∷ fs) ts f h (inl b) =
     none_of_two (λ x y. f ≡ second k x y) (those_of k ts) (omega (arith, l, m)) b
 seconds_apart (One k ∷ fs) ts f h (inr b) = seconds_apart fs ts f h.1 b
 
-breaches_apart : (kind : Kind) (r : Row) (t : Placed) (fixed inner : List Bare) (f : MeaningFault) → map bare (arguments t) ≡ fixed ++ inner → FitsRow r fixed inner → Breaches kind r t f → ⊥
+breaches_apart : (kind : Kind) (r : FormRow) (t : Placed) (fixed inner : List Bare) (f : MeaningFault) → map bare (arguments t) ≡ fixed ++ inner → FitsRow r fixed inner → Breaches kind r t f → ⊥
 breaches_apart kind Skips t fixed inner f e h b = b
 breaches_apart kind (Takes cs fs) t fixed inner f e h b =
     let rest : map bare (drop (length cs) (arguments t)) ≡ inner = dropped (length cs) (arguments t) fixed inner e (zip_length (λ cs t. IsTrue (is_one_of cs t)) cs fixed h.0) in

@@ -8,7 +8,7 @@ use Rattle.std.proofs.lemmas.Bool.{cases_Bool}
 use Rattle.std.proofs.lemmas.List.{length-map, map-append}
 use Rattle.netlist_schema.specs.Names.{AreDistinct}
 use Rattle.edif_spelling_spec.specs.Tree.{Bare, Placed, Trees, Form', Word', Integer', String', End, More, form, word, trees, items, bare, bares}
-use Rattle.edif_spec.specs.Keyword.{row, Row, Takes, Choice, AnIdentifier, AnInteger, AString, AForm, Follower, Many, One}
+use Rattle.edif_spec.specs.Keyword.{row, FormRow, Takes, Choice, AnIdentifier, AnInteger, AString, AForm, Follower, Many, One}
 use Rattle.edif_spec.specs.Rows.{has_keyword, those, is_one_of, is_follower, AtMostOnce, FitsRow, IsFormOf, Each, EachAfter, Perhaps}
 use Rattle.edif_spec.specs.Writable.{IsWritable, AreWritable}
 use Rattle.edif_spec.specs.Faults.{AtOne, AtTwo, place_of, arguments, fixed_count, followers, those_of, parts, Among, FixedFault, FollowerFault, SecondFault, second, Breaches, RowFault, token_kind, misplaced, Beyond, SameName, Repeats}
@@ -100,15 +100,15 @@ fits_known k cs fs p q name ts r h =
         → IsTrue (list_all (is_follower fs) (map bare (drop (length cs) (items ts)))) ⊎ Faulty (FollowerFault (misplaced BadForm (Takes cs fs)) fs (drop (length cs) (items ts)))
         → AtMostOnce fs (map bare (drop (length cs) (items ts))) ⊎ Faulty (SecondFault fs (drop (length cs) (items ts)))
         → Fits k cs (Form' p (More (Word' q name) ts)) ⊎ Faulty (RowFault k (Form' p (More (Word' q name) ts)))
-    go (inr x) b c = let P : Row → Type 0 = λ v. Breaches (token_kind k) v (Form' p (More (Word' q name) ts)) x.0 in inr (x.0, subst P (sym r) (inl x.1))
-    go (inl x) (inr y) c = let P : Row → Type 0 = λ v. Breaches (token_kind k) v (Form' p (More (Word' q name) ts)) y.0 in inr (y.0, subst P (sym r) (inr (inl y.1)))
-    go (inl x) (inl y) (inr z) = let P : Row → Type 0 = λ v. Breaches (token_kind k) v (Form' p (More (Word' q name) ts)) z.0 in inr (z.0, subst P (sym r) (inr (inr z.1)))
+    go (inr x) b c = let P : FormRow → Type 0 = λ v. Breaches (token_kind k) v (Form' p (More (Word' q name) ts)) x.0 in inr (x.0, subst P (sym r) (inl x.1))
+    go (inl x) (inr y) c = let P : FormRow → Type 0 = λ v. Breaches (token_kind k) v (Form' p (More (Word' q name) ts)) y.0 in inr (y.0, subst P (sym r) (inr (inl y.1)))
+    go (inl x) (inl y) (inr z) = let P : FormRow → Type 0 = λ v. Breaches (token_kind k) v (Form' p (More (Word' q name) ts)) z.0 in inr (z.0, subst P (sym r) (inr (inr z.1)))
     go (inl x) (inl y) (inl z) =
         let t : Placed = Form' p (More (Word' q name) ts) in
         let n : followers k t ≡ drop (length cs) (items ts) = ap (λ v. drop (fixed_count v) (items ts)) r in
         let s : items ts ≡ take (length cs) (items ts) ++ drop (length cs) (items ts) = sym (split (length cs) (items ts)) in
         let fit : FitsRow (Takes cs fs) (map bare (take (length cs) (items ts))) (map bare (drop (length cs) (items ts))) = (fixed_bare cs (take (length cs) (items ts)) x, y, z) in
-        let P : Row → Type 0 = λ v. FitsRow v (map bare (take (length cs) (items ts))) (map bare (drop (length cs) (items ts))) in
+        let P : FormRow → Type 0 = λ v. FitsRow v (map bare (take (length cs) (items ts))) (map bare (drop (length cs) (items ts))) in
         let e : bare t ≡ form (word name ∷ (map bare (take (length cs) (items ts)) ++ map bare (drop (length cs) (items ts)))) =
         ap (λ v. Form' tt (More (word name) v)) (sym (trees_bares ts) ∙ ap trees (ap (map bare) s ∙ map-append bare (take (length cs) (items ts)) (drop (length cs) (items ts)))) in
         let f : IsFormOf k (bare t) (map bare (take (length cs) (items ts))) (map bare (drop (length cs) (items ts))) = record { spelled = name; is = e; keyword = h; fits = subst P (sym r) fit } in

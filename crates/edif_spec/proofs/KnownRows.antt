@@ -12,7 +12,7 @@ use Rattle.netlist_schema.specs.Names.{AreDistinct, HasDistinctKeys}
 use Rattle.netlist_schema.specs.Typed.{IsBytes, IsTypedName, IsTypedNum, IsTypedValue, IsTypedProperty, IsTypedPort}
 use Rattle.netlist_schema.specs.Width.{IsWidth}
 use Rattle.edif_spelling_spec.specs.Tree.{Bare, Placed, Form', Word', Integer', String', integer, bare}
-use Rattle.edif_spec.specs.Keyword.{same, spelling_of, row, Row, Takes, Choice, AnIdentifier, AnInteger, AString, AForm, Follower, Many, One, name_definition, bus_name, identifier, the}
+use Rattle.edif_spec.specs.Keyword.{same, spelling_of, row, FormRow, Takes, Choice, AnIdentifier, AnInteger, AString, AForm, Follower, Many, One, name_definition, bus_name, identifier, the}
 use Rattle.edif_spec.specs.Keyword as keyword
 use Rattle.edif_spec.specs.Rows.{has_keyword, those, is_one_of, is_follower, FitsRow, IsFormOf, Each, Perhaps}
 use Rattle.edif_spec.specs.Canonical.{direction_word}
@@ -43,7 +43,7 @@ exactly k t fixed us e h = subst (λ v. IsFormOf k t fixed v) e h
 
 pub follow_none : (k : Keyword) (cs : List (List Choice)) (t : Bare) (fixed us : List Bare) → row k ≡ Takes cs [] → IsFormOf k t fixed us → IsFormOf k t fixed []
 follow_none k cs t fixed us r h =
-    let P : Row → Type 0 = λ v. FitsRow v fixed us in
+    let P : FormRow → Type 0 = λ v. FitsRow v fixed us in
     let f = subst P r h.fits in
     exactly k t fixed us (none_follows us f.1) h
 

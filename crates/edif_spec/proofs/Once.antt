@@ -2,7 +2,7 @@
 use Rattle.std.proofs.Common.{◌≡◌, ℕ, ℤ, pos, List, [], ◌∷◌, ◌++◌, length, refl, ap, sym, ◌∙◌, subst, inl, inr, Bool, true, false, Option, Some, None, arith}
 use Rattle.std.specs.Prelude.{IsTrue}
 use Rattle.edif_spelling_spec.specs.Tree.{Bare, form, word, integer, string, trees, items, Form'}
-use Rattle.edif_spec.specs.Keyword.{spelling_of, same, row, Row, Takes, Skips}
+use Rattle.edif_spec.specs.Keyword.{spelling_of, same, row, FormRow, Takes, Skips}
 use Rattle.edif_spec.specs.Rows.{those, is_one_of, FitsRow, IsFormOf, Each, Perhaps, EachAfter}
 use Rattle.edif_spec.specs.Means.{MeansName, MeansText, MeansBoolean, MeansNumber, MeansValue, MeansProperty, MeansProperties, MeansDirection, MeansBusName, MeansPort}
 use Rattle.edif_spec.specs.declared.keyword.Keyword.{Keyword}
@@ -33,7 +33,7 @@ same_split [] (d ∷ b) x y l e = absurd (omega arith)
 same_split (c ∷ a) [] x y l e = absurd (omega arith)
 same_split (c ∷ a) (d ∷ b) x y l e = let n : length a ≡ length b = omega arith in let r : (a ≡ b) × (x ≡ y) = same_split a b x y n (cc e) in let f : c ≡ d = cc e in ((cc), r.1)
 
-fixed_length : (r : Row) (f g i j : List Bare) → FitsRow r f i → FitsRow r g j → length f ≡ length g
+fixed_length : (r : FormRow) (f g i j : List Bare) → FitsRow r f i → FitsRow r g j → length f ≡ length g
 fixed_length Skips f g i j h k = ap length (h ∙ sym k)
 fixed_length (Takes cs fs) f g i j h k = sym (zip_length (λ cs t. IsTrue (is_one_of cs t)) cs f h.0) ∙ zip_length (λ cs t. IsTrue (is_one_of cs t)) cs g k.0
 

@@ -3,7 +3,7 @@ use Rattle.std.proofs.Common.{◌≡◌, ℕ, zero, suc, ◌+◌, ◌<◌, List,
 use Rattle.std.specs.Prelude.{IsTrue, cond, filter, drop, slice_get}
 use Rattle.std.specs.List.{flat_map}
 use Rattle.edif_spelling_spec.specs.Tree.{Bare, Placed, Form', Word', Integer', String', End, More, bare}
-use Rattle.edif_spec.specs.Keyword.{row, Row, Takes, Skips, Choice, Follower, Many, One}
+use Rattle.edif_spec.specs.Keyword.{row, FormRow, Takes, Skips, Choice, Follower, Many, One}
 use Rattle.edif_spec.specs.Rows.{has_keyword, is_follower}
 use Rattle.edif_spec.specs.Faults.{AtOne, AtTwo, place_of, arguments, followers, fixed_count, those_of, parts, Among, InPart, InForm, row_has, misplaced, token_kind, FixedFault, FollowerFault, second, SecondFault, Breaches, RowFault, renamed, name_of, is_size, arrayed, bus_name_of, may_be_array, first_name, defined, SameName, Repeats, Beyond, BeyondBits, declared_width}
 use Rattle.edif_spec.specs.Stands.{AmongAfter}
@@ -344,7 +344,7 @@ second_told r t n (One k ∷ fs) f h (inr b) = second_told r t n fs f h b
 pub row_told : (r : Placed) (k : Keyword) (t : Placed) (f : MeaningFault) → IsIn r t → IsTrue (has_keyword k (bare t)) → RowFault k t f → Told r f
 row_told r k t f h w b = go (row k) refl b
   where
-    go : (v : Row) → row k ≡ v → Breaches (token_kind k) v t f → Told r f
+    go : (v : FormRow) → row k ≡ v → Breaches (token_kind k) v t f → Told r f
     go Skips e b = absurd b
     go (Takes choices fs) e (inl b) = fixed_told r (misplaced (token_kind k) (Takes choices fs)) t choices (arguments t) f h (λ i x g. (i, g))
         (λ u j. let n = under_there r t k u h w j in subst (λ v. Told r (misplaced (token_kind k) v u)) e (misplaced_told (token_kind k) k r u n (token_told k r u n))) b

@@ -3,7 +3,7 @@ use Rattle.std.specs.Prelude.{◌≡◌, ℕ, ◌+◌, ◌<◌, ◌≤◌, ◌�
 use Rattle.std.specs.List.{list_any, flat_map}
 use Rattle.netlist_schema.specs.declared.limits.TheConstants.{MOST_WIDTH}
 use Rattle.edif_spelling_spec.specs.Tree.{Bare, Placed, Form', Word', Integer', String', More, bare, items}
-use Rattle.edif_spec.specs.Keyword.{row, Row, Takes, Skips, Choice, Follower, Many, One}
+use Rattle.edif_spec.specs.Keyword.{row, FormRow, Takes, Skips, Choice, Follower, Many, One}
 use Rattle.edif_spec.specs.Rows.{has_keyword, is_one_of, is_follower}
 use Rattle.edif_spec.specs.declared.keyword.Keyword.{Keyword}
 use Rattle.edif_spec.specs.declared.keyword.Keyword.TheVariants as keywords
@@ -36,7 +36,7 @@ arguments (Form' p (More t ts)) = items ts
 arguments _ = []
 
 -- how many fixed arguments a row has
-abbrev pub fixed_count : Row → ℕ
+abbrev pub fixed_count : FormRow → ℕ
 fixed_count Skips = 0
 fixed_count (Takes choices fs) = length choices
 
@@ -65,13 +65,13 @@ abbrev pub InForm : ℕ → Keyword → (Placed → MeaningFault → Type 0) →
 InForm i k F t f = (u : Placed) × (slice_get (arguments t) i ≡ Some u) × IsTrue (has_keyword k (bare u)) × F u f
 
 -- the row has such an argument somewhere
-abbrev pub row_has : Row → Bare → Bool
+abbrev pub row_has : FormRow → Bare → Bool
 row_has Skips t = false
 row_has (Takes choices fs) t = list_any (λ cs. is_one_of cs t) choices || is_follower fs t
 
 -- An argument that may not stand where it does: a form whose keyword the row does not have is outside the profile; any other
 -- form, with or without a keyword, is a bad form; and a token is wrong in the way of its row.
-abbrev pub misplaced : Kind → Row → Placed → MeaningFault
+abbrev pub misplaced : Kind → FormRow → Placed → MeaningFault
 misplaced kind r (Form' p (More (Word' q name) ts)) = if row_has r (bare (Form' p (More (Word' q name) ts))) then At BadForm p else NotInProfile name p
 misplaced kind r (Form' p ts) = At BadForm p
 misplaced kind r t = At kind (place_of t)
@@ -106,7 +106,7 @@ SecondFault (Many k ∷ fs) ts f = SecondFault fs ts f
 SecondFault (One k ∷ fs) ts f = AtTwo (λ a b. f ≡ second k a b) (those_of k ts) ⊎ SecondFault fs ts f
 
 -- the form breaches the row
-abbrev pub Breaches : Kind → Row → Placed → MeaningFault → Type 0
+abbrev pub Breaches : Kind → FormRow → Placed → MeaningFault → Type 0
 Breaches kind Skips t f = ⊥
 Breaches kind (Takes choices fs) t f = FixedFault (misplaced kind (Takes choices fs)) (place_of t) choices (arguments t) f
     ⊎ (FollowerFault (misplaced BadForm (Takes choices fs)) fs (drop (length choices) (arguments t)) f

@@ -86,9 +86,9 @@ pub data Follower : Type 0 where
   One : (k : Keyword) → Follower
 
 -- A row of the table: the choices for each fixed argument, and what may follow. A skipped form is not looked into.
-pub data Row : Type 0 where
-  Takes : (fixed : List (List Choice)) (followers : List Follower) → Row
-  Skips : Row
+pub data FormRow : Type 0 where
+  Takes : (fixed : List (List Choice)) (followers : List Follower) → FormRow
+  Skips : FormRow
 
 -- a name as it is defined: an identifier, or a rename
 abbrev pub name_definition : List Choice
@@ -115,7 +115,7 @@ abbrev pub string : List Choice
 string = AString ∷ []
 
 -- the table: the row of each keyword
-abbrev pub row : Keyword → Row
+abbrev pub row : Keyword → FormRow
 row Edif = Takes (name_definition ∷ the EdifVersion ∷ the EdifLevel ∷ the KeywordMap ∷ []) (Many Status ∷ Many External ∷ Many Library ∷ One Design ∷ Many Comment ∷ Many UserData ∷ [])
 row EdifVersion = Takes (integer ∷ integer ∷ integer ∷ []) []
 row EdifLevel = Takes (integer ∷ []) []

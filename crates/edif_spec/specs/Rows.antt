@@ -2,7 +2,7 @@
 use Rattle.std.specs.Prelude.{◌≡◌, ℕ, ◌≤◌, List, [], ◌∷◌, ◌++◌, length, filter, Bool, true, false, ◌||◌, Option, Some, None, IsTrue}
 use Rattle.std.specs.List.{list_all, AllZip}
 use Rattle.edif_spelling_spec.specs.Tree.{Bare, Form', Word', Integer', String', More, form, word}
-use Rattle.edif_spec.specs.Keyword.{spelling_of, same, row, Row, Takes, Skips, Choice, AnIdentifier, AnInteger, AString, AForm, Follower, Many, One}
+use Rattle.edif_spec.specs.Keyword.{spelling_of, same, row, FormRow, Takes, Skips, Choice, AnIdentifier, AnInteger, AString, AForm, Follower, Many, One}
 use Rattle.edif_spec.specs.declared.keyword.Keyword.{Keyword}
 
 -- the tree is a form whose keyword is spelled so, ignoring case
@@ -46,7 +46,7 @@ AtMostOnce (Many k ∷ fs) ts = AtMostOnce fs ts
 AtMostOnce (One k ∷ fs) ts = (length (those k ts) ≤ 1) × AtMostOnce fs ts
 
 -- The arguments fit the row: the fixed ones in order, and then what may follow them, in any order.
-abbrev pub FitsRow : Row → List Bare → List Bare → Type 0
+abbrev pub FitsRow : FormRow → List Bare → List Bare → Type 0
 FitsRow Skips fixed inner = fixed ≡ []
 FitsRow (Takes choices followers) fixed inner =
     AllZip (λ cs t. IsTrue (is_one_of cs t)) choices fixed × IsTrue (list_all (is_follower followers) inner) × AtMostOnce followers inner

@@ -6,7 +6,7 @@ use Rattle.std.specs.List.{flat_map}
 use Rattle.edif_spelling_spec.specs.Tree.{Bare, Placed, Word', Integer', bare, word}
 use Rattle.netlist_schema.specs.Width.{IsWidth}
 use Rattle.netlist_schema.specs.declared.limits.TheConstants.{MOST_LIBS, MOST_CELLS, MOST_PORTS, MOST_BITS, MOST_INSTS, MOST_NETS, MOST_ENDS, MOST_NOTES}
-use Rattle.edif_spec.specs.Keyword.{same, identifier, the, Choice, Row, Takes}
+use Rattle.edif_spec.specs.Keyword.{same, identifier, the, Choice, FormRow, Takes}
 use Rattle.edif_spec.specs.Rows.{has_keyword, Each, EachAfter, Perhaps}
 use Rattle.edif_spec.specs.Canonical.{ports_of_end}
 use Rattle.edif_spec.specs.Means.{meant, Found, Absent, Several, width_at, is_library, is_note, MeansName, MeansPort, MeansLibraryRef, MeansCellRef, MeansBusName, MeansInst, MeansInstRef, MeansEnd, MeansCell, MeansLibrary, MeansPath}
@@ -516,7 +516,7 @@ pub data FileFault (t : Placed) (f : MeaningFault) : Type 0 where
   edif_design : InDesign t f → FileFault t f
 
 -- a file is one form of the keyword `edif`
-abbrev pub file_row : Row
+abbrev pub file_row : FormRow
 file_row = Takes (the keywords.Edif ∷ []) []
 
 -- the fault stands in the tree: it is no form of a file, or the fault is in it

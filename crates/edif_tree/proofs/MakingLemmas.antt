@@ -8,7 +8,7 @@ use Rattle.edif_spelling_spec.specs.TreeFaults.{token_at, Lists, ListsAll, tree_
 use Rattle.edif_spelling_spec.specs.declared.token.Token.{Token}
 use Rattle.edif_spelling_spec.specs.declared.token.TokenKind.{TokenKind}
 use Rattle.edif_spelling_spec.specs.declared.token.TokenKind.TheVariants.{LeftParen, RightParen, Word, Integer, String}
-use Rattle.edif_tree.specs.Nodes.{FormOf, Row, IsAt, AreAt}
+use Rattle.edif_tree.specs.Nodes.{FormOf, NodeRow, IsAt, AreAt}
 use Rattle.edif_tree.specs.Order.{in_order_from}
 use Rattle.edif_tree.proofs.OrderLemmas.{pushed, token_before, all_before}
 use Rattle.edif_tree.specs.Making.{IsLeaf, leaf_of, Level, InForms, fault_from, HasRead, CanCome}
@@ -18,26 +18,26 @@ use Rattle.edif_tree.specs.declared.making.Making.{Making}
 use Rattle.edif_tree.proofs.FaultSteps.{next_fault, left_next, token_next, right_next}
 
 -- rows stay at their places
-pub row_stays : (rows more : List Row) (i : ℕ) (r : Row) → slice_get rows i ≡ Some r → slice_get (rows ++ more) i ≡ Some r
+pub row_stays : (rows more : List NodeRow) (i : ℕ) (r : NodeRow) → slice_get rows i ≡ Some r → slice_get (rows ++ more) i ≡ Some r
 row_stays [] more i r e = absurd (cc e)
 row_stays (x ∷ rows) more zero r e = e
 row_stays (x ∷ rows) more (suc i) r e = row_stays rows more i r e
 
-pub row_last : (rows : List Row) (r : Row) (i : ℕ) → i ≡ length rows → slice_get (rows ++ r ∷ []) i ≡ Some r
+pub row_last : (rows : List NodeRow) (r : NodeRow) (i : ℕ) → i ≡ length rows → slice_get (rows ++ r ∷ []) i ≡ Some r
 row_last rows r i e = ap (slice_get (rows ++ r ∷ [])) e ∙ go rows
   where
-    go : (rows : List Row) → slice_get (rows ++ r ∷ []) (length rows) ≡ Some r
+    go : (rows : List NodeRow) → slice_get (rows ++ r ∷ []) (length rows) ≡ Some r
     go [] = refl
     go (x ∷ rows) = go rows
 
 mutual
-  pub at_stays : (t : Placed) (rows more : List Row) (id : NodeId) → IsAt rows id t → IsAt (rows ++ more) id t
+  pub at_stays : (t : Placed) (rows more : List NodeRow) (id : NodeId) → IsAt rows id t → IsAt (rows ++ more) id t
   at_stays (Form' p ts) rows more id h = (h.0, row_stays rows more id.0 _ h.1, all_stay ts rows more h.0 h.2)
   at_stays (Word' p x) rows more id h = row_stays rows more id.0 _ h
   at_stays (Integer' p x) rows more id h = row_stays rows more id.0 _ h
   at_stays (String' p x) rows more id h = row_stays rows more id.0 _ h
 
-  pub all_stay : (ts : Trees ℕ) (rows more : List Row) (ids : List NodeId) → AreAt rows ids ts → AreAt (rows ++ more) ids ts
+  pub all_stay : (ts : Trees ℕ) (rows more : List NodeRow) (ids : List NodeId) → AreAt rows ids ts → AreAt (rows ++ more) ids ts
   all_stay End rows more [] h = tt
   all_stay End rows more (id ∷ ids) h = absurd h
   all_stay (More t ts) rows more [] h = absurd h
@@ -48,7 +48,7 @@ abbrev pub with_last : Trees ℕ → Placed → Trees ℕ
 with_last End t = More t End
 with_last (More first rest) t = More first (with_last rest t)
 
-all_at_last : (rows : List Row) (ts : Trees ℕ) (ids : List NodeId) (t : Placed) (id : NodeId) → AreAt rows ids ts → IsAt rows id t → AreAt rows (ids ++ id ∷ []) (with_last ts t)
+all_at_last : (rows : List NodeRow) (ts : Trees ℕ) (ids : List NodeId) (t : Placed) (id : NodeId) → AreAt rows ids ts → IsAt rows id t → AreAt rows (ids ++ id ∷ []) (with_last ts t)
 all_at_last rows End [] t id h k = (k, tt)
 all_at_last rows End (x ∷ ids) t id h k = absurd h
 all_at_last rows (More first rest) [] t id h k = absurd h
@@ -58,7 +58,7 @@ lists_last : (ts : Trees ℕ) (a b : List Token) (t : Placed) → ListsAll a ts 
 lists_last End a b t h k = (b, [], ap (λ v. v ++ b) h ∙ sym (append-nil b), k, refl)
 lists_last (More first rest) a b t h k = (h.0, h.1 ++ b, ap (λ v. v ++ b) h.2 ∙ append_assoc h.0 h.1 b, h.3, lists_last rest h.1 b t h.4 k)
 
-pub forms_stay : (levels : List Level) (rows more : List Row) (forms : List OpenForm) (loose : List NodeId) (read : List Token) → InForms rows levels forms loose read → InForms (rows ++ more) levels forms loose read
+pub forms_stay : (levels : List Level) (rows more : List NodeRow) (forms : List OpenForm) (loose : List NodeId) (read : List Token) → InForms rows levels forms loose read → InForms (rows ++ more) levels forms loose read
 forms_stay [] rows more forms loose read h = h
 forms_stay (level ∷ levels) rows more forms loose read h = record {
   outer = h.outer;
@@ -74,7 +74,7 @@ forms_stay (level ∷ levels) rows more forms loose read h = record {
   round = forms_stay levels rows more h.outer h.others h.before h.round;
 }
 
-pub forms_count : (levels : List Level) (rows : List Row) (forms : List OpenForm) (loose : List NodeId) (read : List Token) → InForms rows levels forms loose read → length forms ≡ length levels
+pub forms_count : (levels : List Level) (rows : List NodeRow) (forms : List OpenForm) (loose : List NodeId) (read : List Token) → InForms rows levels forms loose read → length forms ≡ length levels
 forms_count [] rows forms loose read h = ap length h.0
 forms_count (level ∷ levels) rows forms loose read h =
     let outer = forms_count levels rows h.outer h.others h.before h.round in
@@ -84,7 +84,7 @@ forms_count (level ∷ levels) rows forms loose read h =
     omega arith
 
 -- a form begins
-begun : (levels : List Level) (rows : List Row) (forms : List OpenForm) (loose : List NodeId) (read : List Token) (place : ℕ) → InForms rows levels forms loose read
+begun : (levels : List Level) (rows : List NodeRow) (forms : List OpenForm) (loose : List NodeId) (read : List Token) (place : ℕ) → InForms rows levels forms loose read
     → InForms rows (record { place = place; arguments = End } ∷ levels) (forms ++ record { place = place; start = length loose } ∷ []) loose (read ++ token_at LeftParen place ∷ [])
 begun levels rows forms loose read place h = record {
   outer = forms;
@@ -101,7 +101,7 @@ begun levels rows forms loose read place h = record {
 }
 
 -- a node is added to the innermost form
-added : (level : Level) (levels : List Level) (rows : List Row) (forms : List OpenForm) (loose : List NodeId) (read : List Token) (id : NodeId) (t : Placed) (b : List Token) → InForms rows (level ∷ levels) forms loose read → IsAt rows id t → Lists b t
+added : (level : Level) (levels : List Level) (rows : List NodeRow) (forms : List OpenForm) (loose : List NodeId) (read : List Token) (id : NodeId) (t : Placed) (b : List Token) → InForms rows (level ∷ levels) forms loose read → IsAt rows id t → Lists b t
     → InForms rows (record { place = level.place; arguments = with_last level.arguments t } ∷ levels) forms (loose ++ id ∷ []) (read ++ b)
 added level levels rows forms loose read id t b h at l = record {
   outer = h.outer;
@@ -157,13 +157,13 @@ read_left old new place ts can rows forms loose h = ⊎_elim
     let count = forms_count o.levels old.nodes old.forms.items old.loose.items ts o.forms in
     let room : length o.levels < 256 = (let few = can.0 in omega arith) in
     let level : Level = record { place = place; arguments = End } in
-    let F : List Row → List OpenForm → List NodeId → Type 0 = λ r f l. InForms r (level ∷ o.levels) f l (ts ++ token_at LeftParen place ∷ []) in
-    let R : List Row → Type 0 = λ r. F r new.forms.items new.loose.items in
+    let F : List NodeRow → List OpenForm → List NodeId → Type 0 = λ r f l. InForms r (level ∷ o.levels) f l (ts ++ token_at LeftParen place ∷ []) in
+    let R : List NodeRow → Type 0 = λ r. F r new.forms.items new.loose.items in
     let S : List OpenForm → Type 0 = λ f. F old.nodes f new.loose.items in
     let L : List NodeId → Type 0 = λ l. F old.nodes (old.forms.items ++ record { place = place; start = length old.loose.items } ∷ []) l in
     inl (record {
       levels = level ∷ o.levels;
-      order = (let Q : List Row → Type 0 = λ v. in_order_from 0 v ≡ true in subst Q (sym rows) o.order);
+      order = (let Q : List NodeRow → Type 0 = λ v. in_order_from 0 v ≡ true in subst Q (sym rows) o.order);
       forms = subst R (sym rows) (subst S (sym forms) (subst L (sym loose) (begun o.levels old.nodes old.forms.items old.loose.items ts place o.forms)));
       faults = λ rest end. next_fault ts (token_at LeftParen place) (fault_from (length o.levels)) o.faults rest end ∙ left_next (length o.levels) place rest end room;
     }))
@@ -171,14 +171,14 @@ read_left old new place ts can rows forms loose h = ⊎_elim
     h
 
 -- a token of the innermost form was read
-token_lists : (place : ℕ) (kind : TokenKind) → IsLeaf kind → (t : Placed) × Lists (token_at kind place ∷ []) t × ((rows : List Row) (id : NodeId) → slice_get rows id.0 ≡ Some (record { place = place; shape = leaf_of kind }) → IsAt rows id t)
+token_lists : (place : ℕ) (kind : TokenKind) → IsLeaf kind → (t : Placed) × Lists (token_at kind place ∷ []) t × ((rows : List NodeRow) (id : NodeId) → slice_get rows id.0 ≡ Some (record { place = place; shape = leaf_of kind }) → IsAt rows id t)
 token_lists place LeftParen h = absurd h
 token_lists place RightParen h = absurd h
 token_lists place (Word x) h = (Word' place x, refl, (λ rows id e. e))
 token_lists place (Integer x) h = (Integer' place x, refl, (λ rows id e. e))
 token_lists place (String x) h = (String' place x, refl, (λ rows id e. e))
 
-token_added : (levels : List Level) (rows : List Row) (forms : List OpenForm) (loose : List NodeId) (read : List Token) (id : NodeId) (t : Placed) (b : List Token) → 0 < length forms → InForms rows levels forms loose read → IsAt rows id t → Lists b t
+token_added : (levels : List Level) (rows : List NodeRow) (forms : List OpenForm) (loose : List NodeId) (read : List Token) (id : NodeId) (t : Placed) (b : List Token) → 0 < length forms → InForms rows levels forms loose read → IsAt rows id t → Lists b t
     → (after : List Level) × InForms rows after forms (loose ++ id ∷ []) (read ++ b) × (length after ≡ length levels) × (0 < length levels)
 token_added [] rows forms loose read id t b l h at k = (let none = ap length h.0 in absurd (omega arith))
 token_added (level ∷ levels) rows forms loose read id t b l h at k = (record { place = level.place; arguments = with_last level.arguments t } ∷ levels, added level levels rows forms loose read id t b h at k, refl, omega arith)
@@ -188,12 +188,12 @@ pub read_token : (old new : Making) (place : ℕ) (kind : TokenKind) (id : NodeI
     → HasRead old ts → HasRead new (ts ++ token_at kind place ∷ [])
 read_token old new place kind id ts token some at rows forms loose h = ⊎_elim
     (λ o.
-    let row : Row = record { place = place; shape = leaf_of kind } in
+    let row : NodeRow = record { place = place; shape = leaf_of kind } in
     let t = token_lists place kind token in
     let tok : Token = token_at kind place in
     let more = forms_stay o.levels old.nodes (row ∷ []) old.forms.items old.loose.items ts o.forms in
     let next = token_added o.levels (old.nodes ++ row ∷ []) old.forms.items old.loose.items ts id t.0 (tok ∷ []) some more (t.2 (old.nodes ++ row ∷ []) id (row_last old.nodes row id.0 at)) t.1 in
-    let R : List Row → Type 0 = λ r. InForms r next.0 new.forms.items new.loose.items (ts ++ tok ∷ []) in
+    let R : List NodeRow → Type 0 = λ r. InForms r next.0 new.forms.items new.loose.items (ts ++ tok ∷ []) in
     let S : List OpenForm → Type 0 = λ f. InForms (old.nodes ++ row ∷ []) next.0 f new.loose.items (ts ++ tok ∷ []) in
     let L : List NodeId → Type 0 = λ l. InForms (old.nodes ++ row ∷ []) next.0 old.forms.items l (ts ++ tok ∷ []) in
     inl (record {
@@ -211,7 +211,7 @@ read_token old new place kind id ts token some at rows forms loose h = ⊎_elim
 form_listed : (place end : ℕ) (inner : List Token) (ts : Trees ℕ) → ListsAll inner ts → Lists (token_at LeftParen place ∷ (inner ++ token_at RightParen end ∷ [])) (Form' place ts)
 form_listed place end inner ts h = (inner, end, refl, h)
 
-pub closed_parts : (level : Level) (levels : List Level) (rows : List Row) (forms front : List OpenForm) (form : OpenForm) (loose : List NodeId) (read : List Token) → forms ≡ front ++ form ∷ [] → (h : InForms rows (level ∷ levels) forms loose read)
+pub closed_parts : (level : Level) (levels : List Level) (rows : List NodeRow) (forms front : List OpenForm) (form : OpenForm) (loose : List NodeId) (read : List Token) → forms ≡ front ++ form ∷ [] → (h : InForms rows (level ∷ levels) forms loose read)
     → (h.outer ≡ front) × (level.place ≡ form.place) × (length h.others ≡ form.start) × (take form.start loose ≡ h.others) × (drop form.start loose ≡ h.inside)
 closed_parts level levels rows forms front form loose read e h =
     let last : OpenForm = record { place = level.place; start = length h.others } in
@@ -224,9 +224,9 @@ closed_parts level levels rows forms front form loose read e h =
       ap (drop form.start) h.nodes ∙ (ap (λ n. drop n (h.others ++ h.inside)) (sym start) ∙ front_dropped h.others h.inside),
     )
 
-form_stands : (level : Level) (rows : List Row) (ids : List NodeId) (id : NodeId) → id.0 ≡ length rows → AreAt rows ids level.arguments → IsAt (rows ++ record { place = level.place; shape = FormOf ids } ∷ []) id (Form' level.place level.arguments)
+form_stands : (level : Level) (rows : List NodeRow) (ids : List NodeId) (id : NodeId) → id.0 ≡ length rows → AreAt rows ids level.arguments → IsAt (rows ++ record { place = level.place; shape = FormOf ids } ∷ []) id (Form' level.place level.arguments)
 form_stands level rows ids id e h =
-    let row : Row = record { place = level.place; shape = FormOf ids } in
+    let row : NodeRow = record { place = level.place; shape = FormOf ids } in
     (ids, row_last rows row id.0 e, all_stay level.arguments rows (row ∷ []) ids h)
 
 closed_read : (read before inner : List Token) (place end : ℕ) → read ≡ before ++ token_at LeftParen place ∷ inner → read ++ token_at RightParen end ∷ [] ≡ before ++ token_at LeftParen place ∷ (inner ++ token_at RightParen end ∷ [])
@@ -237,10 +237,10 @@ closed : (level : Level) (levels : List Level) (old new : Making) (id : NodeId) 
     → new.nodes ≡ old.nodes ++ record { place = level.place; shape = FormOf h.inside } ∷ [] → new.forms.items ≡ h.outer → new.loose.items ≡ h.others ++ id ∷ []
     → ((rest : List Token) (e : ℕ) → tree_fault (ts ++ rest) e ≡ fault_from (suc (length levels)) rest e) → in_order_from 0 old.nodes ≡ true → HasRead new (ts ++ token_at RightParen end ∷ [])
 closed level [] old new id end ts h at rows forms loose faults order =
-    let row : Row = record { place = level.place; shape = FormOf h.inside } in
+    let row : NodeRow = record { place = level.place; shape = FormOf h.inside } in
     let tok : Token = token_at RightParen end in
     let t : Placed = Form' level.place level.arguments in
-    let R : List Row → Type 0 = λ r. IsAt r id t in
+    let R : List NodeRow → Type 0 = λ r. IsAt r id t in
     let T : List Token → Type 0 = λ v. Lists v t in
     let whole : ts ++ tok ∷ [] ≡ token_at LeftParen level.place ∷ (h.inner ++ tok ∷ []) =
     closed_read ts h.before h.inner level.place end h.parts ∙ ap (λ v. v ++ token_at LeftParen level.place ∷ (h.inner ++ tok ∷ [])) h.round.2 in
@@ -255,14 +255,14 @@ closed level [] old new id end ts h at rows forms loose faults order =
       faults = λ rest e. next_fault ts tok (fault_from 1) faults rest e ∙ right_next 0 end rest e;
     })
 closed level (above ∷ levels) old new id end ts h at rows forms loose faults order =
-    let row : Row = record { place = level.place; shape = FormOf h.inside } in
+    let row : NodeRow = record { place = level.place; shape = FormOf h.inside } in
     let tok : Token = token_at RightParen end in
     let t : Placed = Form' level.place level.arguments in
     let round = forms_stay (above ∷ levels) old.nodes (row ∷ []) h.outer h.others h.before h.round in
     let after : List Level = record { place = above.place; arguments = with_last above.arguments t } ∷ levels in
     let next = added above levels (old.nodes ++ row ∷ []) h.outer h.others h.before id t (token_at LeftParen level.place ∷ (h.inner ++ tok ∷ [])) round
     (form_stands level old.nodes h.inside id at h.standing) (form_listed level.place end h.inner level.arguments h.listed) in
-    let R : List Row → Type 0 = λ r. InForms r after new.forms.items new.loose.items (ts ++ tok ∷ []) in
+    let R : List NodeRow → Type 0 = λ r. InForms r after new.forms.items new.loose.items (ts ++ tok ∷ []) in
     let S : List OpenForm → Type 0 = λ f. InForms (old.nodes ++ row ∷ []) after f new.loose.items (ts ++ tok ∷ []) in
     let L : List NodeId → Type 0 = λ l. InForms (old.nodes ++ row ∷ []) after h.outer l (ts ++ tok ∷ []) in
     let T : List Token → Type 0 = λ v. InForms (old.nodes ++ row ∷ []) after h.outer (h.others ++ id ∷ []) v in
@@ -279,9 +279,9 @@ closed_from : (levels : List Level) (old new : Making) (front : List OpenForm) (
 closed_from [] old new front form id end ts h e at rows forms loose faults order = absurd (last_not_empty front old.forms.items form h.0 e)
 closed_from (level ∷ levels) old new front form id end ts h e at rows forms loose faults order =
     let parts = closed_parts level levels old.nodes old.forms.items front form old.loose.items ts e h in
-    let row : Row = record { place = form.place; shape = FormOf (drop form.start old.loose.items) } in
+    let row : NodeRow = record { place = form.place; shape = FormOf (drop form.start old.loose.items) } in
     let same : row ≡ record { place = level.place; shape = FormOf h.inside } =
-    ap (λ p. let r : Row = record { place = p; shape = FormOf (drop form.start old.loose.items) } in r) (sym parts.1) ∙ ap (λ l. let r : Row = record { place = level.place; shape = FormOf l } in r) parts.4 in
+    ap (λ p. let r : NodeRow = record { place = p; shape = FormOf (drop form.start old.loose.items) } in r) (sym parts.1) ∙ ap (λ l. let r : NodeRow = record { place = level.place; shape = FormOf l } in r) parts.4 in
     closed level levels old new id end ts h at (rows ∙ ap (λ r. old.nodes ++ r ∷ []) same) (forms ∙ sym parts.0) (loose ∙ ap (λ l. l ++ id ∷ []) parts.3) faults order
 
 pub read_right : (old new : Making) (front : List OpenForm) (form : OpenForm) (id : NodeId) (end : ℕ) (ts : List Token) → old.forms.items ≡ front ++ form ∷ [] → id.0 ≡ length old.nodes
@@ -293,7 +293,7 @@ read_right old new front form id end ts e at rows forms loose h = ⊎_elim
     h
 
 -- the arguments of the innermost form lie among the loose nodes
-start_within : (levels : List Level) (rows : List Row) (forms front : List OpenForm) (form : OpenForm) (loose : List NodeId) (read : List Token) → InForms rows levels forms loose read → forms ≡ front ++ form ∷ [] → form.start ≤ length loose
+start_within : (levels : List Level) (rows : List NodeRow) (forms front : List OpenForm) (form : OpenForm) (loose : List NodeId) (read : List Token) → InForms rows levels forms loose read → forms ≡ front ++ form ∷ [] → form.start ≤ length loose
 start_within [] rows forms front form loose read h e = absurd (last_not_empty front forms form h.0 e)
 start_within (level ∷ levels) rows forms front form loose read h e =
     let parts = closed_parts level levels rows forms front form loose read e h in

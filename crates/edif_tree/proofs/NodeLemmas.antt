@@ -9,14 +9,14 @@ use Rattle.std.proofs.lemmas.List.{map-append, length-map, get_or_append_left}
 use Rattle.std.proofs.lemmas.Option.{slice_get_within, slice_get-map, slice_get_read}
 use Rattle.indexmap.specs.IndexSet.{insert_key}
 use Rattle.edif_spelling_spec.specs.Tree.{Placed, Form', Word', Integer', String'}
-use Rattle.edif_tree.specs.Nodes.{FormOf, WordOf, IntegerOf, StringOf, Seen, Row, Stores, shape_of, row_of, IsWithin, AreWithin, IsAt, place_of}
+use Rattle.edif_tree.specs.Nodes.{FormOf, WordOf, IntegerOf, StringOf, Seen, NodeRow, Stores, shape_of, row_of, IsWithin, AreWithin, IsAt, place_of}
 use Rattle.edif_tree.specs.declared.stored.NodeId.{NodeId}
 use Rattle.edif_tree.specs.declared.stored.StoredNode.{StoredNode}
 use Rattle.edif_tree.specs.declared.stored.StoredKind.{StoredKind}
 use Rattle.edif_tree.specs.declared.stored.StoredKind.TheVariants as kinds
 
 -- a node is one of the list
-pub node_in_rows : (rows : List Row) (id : NodeId) (t : Placed) → IsAt rows id t → id.0 < length rows
+pub node_in_rows : (rows : List NodeRow) (id : NodeId) (t : Placed) → IsAt rows id t → id.0 < length rows
 node_in_rows rows id (Form' p ts) h = slice_get_within rows id.0 _ h.1
 node_in_rows rows id (Word' p x) h = slice_get_within rows id.0 _ h
 node_in_rows rows id (Integer' p x) h = slice_get_within rows id.0 _ h
@@ -26,11 +26,11 @@ node_in_rows rows id (String' p x) h = slice_get_within rows id.0 _ h
 some_same : (p q : ℕ) → Some p ≡ Some q → p ≡ q
 some_same p q e = cc
 
-pub place_read : (rows : List Row) (id : NodeId) (t : Placed) (place : ℕ) → option_map (λ (r : Row). r.place) (slice_get rows id.0) ≡ Some place → IsAt rows id t → place ≡ place_of t
-place_read rows id (Form' p ts) place e h = some_same place p (sym e ∙ ap (option_map (λ (r : Row). r.place)) h.1)
-place_read rows id (Word' p x) place e h = some_same place p (sym e ∙ ap (option_map (λ (r : Row). r.place)) h)
-place_read rows id (Integer' p x) place e h = some_same place p (sym e ∙ ap (option_map (λ (r : Row). r.place)) h)
-place_read rows id (String' p x) place e h = some_same place p (sym e ∙ ap (option_map (λ (r : Row). r.place)) h)
+pub place_read : (rows : List NodeRow) (id : NodeId) (t : Placed) (place : ℕ) → option_map (λ (r : NodeRow). r.place) (slice_get rows id.0) ≡ Some place → IsAt rows id t → place ≡ place_of t
+place_read rows id (Form' p ts) place e h = some_same place p (sym e ∙ ap (option_map (λ (r : NodeRow). r.place)) h.1)
+place_read rows id (Word' p x) place e h = some_same place p (sym e ∙ ap (option_map (λ (r : NodeRow). r.place)) h)
+place_read rows id (Integer' p x) place e h = some_same place p (sym e ∙ ap (option_map (λ (r : NodeRow). r.place)) h)
+place_read rows id (String' p x) place e h = some_same place p (sym e ∙ ap (option_map (λ (r : NodeRow). r.place)) h)
 
 -- each of the lists goes on
 pub record Grow (old new : Stores) : Type 0 where
@@ -92,7 +92,7 @@ shape_more s t (kinds.String i) g h = ap StringOf (read_more [] s.strings t.stri
 rows_more : (s t : Stores) (nodes : List StoredNode) → Grow s t → AreWithin s nodes → map (row_of t) nodes ≡ map (row_of s) nodes
 rows_more s t [] g h = refl
 rows_more s t (node ∷ nodes) g h =
-    let row : row_of t node ≡ row_of s node = ap (λ v. let r : Row = record { place = node.place; shape = v } in r) (shape_more s t node.kind g h.0) in
+    let row : row_of t node ≡ row_of s node = ap (λ v. let r : NodeRow = record { place = node.place; shape = v } in r) (shape_more s t node.kind g h.0) in
     ap (λ v. v ∷ map (row_of t) nodes) row ∙ ap (λ v. row_of s node ∷ v) (rows_more s t nodes g h.1)
 
 are_within_push : (s : Stores) (nodes : List StoredNode) (node : StoredNode) → AreWithin s nodes → IsWithin s node.kind → AreWithin s (nodes ++ node ∷ [])
@@ -111,11 +111,11 @@ node_pushed s t nodes all node shape g pushed within is h =
     )
 
 -- what an answer says of a node behind the others
-pub record Added (t : Stores) (all : List StoredNode) (rows : List Row) (row : Row) (result : Result NodeId NoMemory) : Type 0 where
+pub record Added (t : Stores) (all : List StoredNode) (rows : List NodeRow) (row : NodeRow) (result : Result NodeId NoMemory) : Type 0 where
   pub within : AreWithin t all
   pub ok : IfOk result (λ id. (id.0 ≡ length rows) × (map (row_of t) all ≡ rows ++ row ∷ []))
 
-pub added : (s t : Stores) (nodes all : List StoredNode) (rows : List Row) (place : ℕ) (kind : StoredKind) (shape : Seen) (result : Result NodeId NoMemory) → map (row_of s) nodes ≡ rows → AreWithin s nodes → Grow s t → IsWithin t kind → shape_of t kind ≡ shape
+pub added : (s t : Stores) (nodes all : List StoredNode) (rows : List NodeRow) (place : ℕ) (kind : StoredKind) (shape : Seen) (result : Result NodeId NoMemory) → map (row_of s) nodes ≡ rows → AreWithin s nodes → Grow s t → IsWithin t kind → shape_of t kind ≡ shape
     → IfOk result (λ id. id.0 ≡ length nodes) → OnOk result (all ≡ nodes ++ record { place = place; kind = kind } ∷ []) → OnErr result (all ≡ nodes) → Added t all rows (record { place = place; shape = shape }) result
 added s t nodes all rows place kind shape (Ok id) view h g within is at pushed same =
     let node : StoredNode = record { place = place; kind = kind } in
@@ -155,17 +155,17 @@ within_at s (node ∷ nodes) zero x l h = h.0
 within_at s (node ∷ nodes) (suc i) x l h = within_at s nodes i x (omega arith) h.1
 
 -- the node that is looked at: its place, its shape, and that what it names lies within the lists
-pub record Looked (s : Stores) (rows : List Row) (i : ℕ) (x : StoredNode) (kind : StoredKind) : Type 0 where
-  pub place : option_map (λ (r : Row). r.place) (slice_get rows i) ≡ Some x.place
-  pub shape : option_map (λ (r : Row). r.shape) (slice_get rows i) ≡ Some (shape_of s kind)
+pub record Looked (s : Stores) (rows : List NodeRow) (i : ℕ) (x : StoredNode) (kind : StoredKind) : Type 0 where
+  pub place : option_map (λ (r : NodeRow). r.place) (slice_get rows i) ≡ Some x.place
+  pub shape : option_map (λ (r : NodeRow). r.shape) (slice_get rows i) ≡ Some (shape_of s kind)
   pub within : IsWithin s kind
 
-pub looked : (s : Stores) (nodes : List StoredNode) (rows : List Row) (i : ℕ) (x : StoredNode) (kind : StoredKind) → map (row_of s) nodes ≡ rows → i < length rows → x ≡ get_or nodes i x → x.kind ≡ kind → AreWithin s nodes → Looked s rows i x kind
+pub looked : (s : Stores) (nodes : List StoredNode) (rows : List NodeRow) (i : ℕ) (x : StoredNode) (kind : StoredKind) → map (row_of s) nodes ≡ rows → i < length rows → x ≡ get_or nodes i x → x.kind ≡ kind → AreWithin s nodes → Looked s rows i x kind
 looked s nodes rows i x kind view l e k h =
     let count : i < length nodes = (let same = ap length view in omega (arith, length-map nodes (row_of s))) in
     let W : StoredKind → Type 0 = IsWithin s in
     record {
-      place = ap (λ v. option_map (λ (r : Row). r.place) (slice_get v i)) (sym view) ∙ ap (option_map (λ (r : Row). r.place)) (at_node s nodes i x count e);
-      shape = ap (λ v. option_map (λ (r : Row). r.shape) (slice_get v i)) (sym view) ∙ (ap (option_map (λ (r : Row). r.shape)) (at_node s nodes i x count e) ∙ ap (λ v. Some (shape_of s v)) k);
+      place = ap (λ v. option_map (λ (r : NodeRow). r.place) (slice_get v i)) (sym view) ∙ ap (option_map (λ (r : NodeRow). r.place)) (at_node s nodes i x count e);
+      shape = ap (λ v. option_map (λ (r : NodeRow). r.shape) (slice_get v i)) (sym view) ∙ (ap (option_map (λ (r : NodeRow). r.shape)) (at_node s nodes i x count e) ∙ ap (λ v. Some (shape_of s v)) k);
       within = subst W (ap (λ n. n.kind) (sym e) ∙ k) (within_at s nodes i x count h);
     }

@@ -2,22 +2,22 @@
 use Rattle.std.proofs.Common.{◌≡◌, ℕ, List, [], ◌∷◌, Option, Some, refl, sym, ap, ◌∙◌, subst}
 use Rattle.std.specs.Prelude.{slice_get}
 use Rattle.edif_spelling_spec.specs.Tree.{Placed, Trees, Form', Word', Integer', String', End, More}
-use Rattle.edif_tree.specs.Nodes.{Seen, FormOf, WordOf, IntegerOf, StringOf, Row, IsAt, AreAt}
+use Rattle.edif_tree.specs.Nodes.{Seen, FormOf, WordOf, IntegerOf, StringOf, NodeRow, IsAt, AreAt}
 use Rattle.edif_tree.specs.declared.stored.NodeId.{NodeId}
 
-abbrev row_at : ℕ → Seen → Option Row
+abbrev row_at : ℕ → Seen → Option NodeRow
 row_at place shape = Some (record { place = place; shape = shape })
 
-same_row : (o : Option Row) (p q : ℕ) (a b : Seen) → o ≡ row_at p a → o ≡ row_at q b → (p ≡ q) × (a ≡ b)
+same_row : (o : Option NodeRow) (p q : ℕ) (a b : Seen) → o ≡ row_at p a → o ≡ row_at q b → (p ≡ q) × (a ≡ b)
 same_row o p q a b h k =
-    let one : Row = record { place = p; shape = a } in
-    let other : Row = record { place = q; shape = b } in
+    let one : NodeRow = record { place = p; shape = a } in
+    let other : NodeRow = record { place = q; shape = b } in
     let both : Some one ≡ Some other = sym h ∙ k in
     let same : one ≡ other = cc both in
     (ap (λ r. r.place) same, ap (λ r. r.shape) same)
 
 mutual
-  pub one_at : (s t : Placed) (rows : List Row) (id : NodeId) → IsAt rows id s → IsAt rows id t → s ≡ t
+  pub one_at : (s t : Placed) (rows : List NodeRow) (id : NodeId) → IsAt rows id s → IsAt rows id t → s ≡ t
   one_at (Form' p ts) (Form' q us) rows id h k =
       let both = same_row (slice_get rows id.0) p q (FormOf h.0) (FormOf k.0) h.1 k.1 in
       let place : p ≡ q = both.0 in
@@ -57,7 +57,7 @@ mutual
   one_at (String' p x) (Word' q y) rows id h k = (let shape = (same_row (slice_get rows id.0) p q (StringOf x) (WordOf y) h k).1 in absurd (cc shape))
   one_at (String' p x) (Integer' q y) rows id h k = (let shape = (same_row (slice_get rows id.0) p q (StringOf x) (IntegerOf y) h k).1 in absurd (cc shape))
 
-  pub all_at : (ts us : Trees ℕ) (rows : List Row) (ids : List NodeId) → AreAt rows ids ts → AreAt rows ids us → ts ≡ us
+  pub all_at : (ts us : Trees ℕ) (rows : List NodeRow) (ids : List NodeId) → AreAt rows ids ts → AreAt rows ids us → ts ≡ us
   all_at End End rows ids h k = refl
   all_at (More s ts) (More t us) rows (id ∷ ids) h k =
       let first : s ≡ t = one_at s t rows id h.0 k.0 in

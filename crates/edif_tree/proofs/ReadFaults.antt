@@ -9,7 +9,7 @@ use Rattle.edif_spelling_spec.specs.declared.token.TokenKind.TheVariants.{LeftPa
 use Rattle.edif_spelling_spec.specs.declared.tree_fault.TreeKind.TheVariants.{NotForm, ExtraClose, TooDeep, Trailing, Unended}
 use Rattle.edif_spelling_spec.proofs.TreeFaultLemmas.{tree_of_none}
 use Rattle.edif_spelling_spec.proofs.PlacedListings.{one_placed}
-use Rattle.edif_tree.specs.Nodes.{Row, IsAt}
+use Rattle.edif_tree.specs.Nodes.{NodeRow, IsAt}
 use Rattle.edif_tree.specs.Order.{in_order_from}
 use Rattle.edif_tree.specs.Making.{Level, InForms, HasRead, fault_from}
 use Rattle.edif_tree.specs.declared.stored.NodeId.{NodeId}
@@ -19,7 +19,7 @@ use Rattle.edif_tree.proofs.FaultSteps.{deep_fault, close_fault, trailing_fault,
 use Rattle.edif_tree.proofs.MakingLemmas.{forms_count}
 
 -- nothing was read where no form is open and none is closed
-nothing_read : (levels : List Level) (rows : List Row) (forms : List OpenForm) (loose : List NodeId) (read : List Token) → length forms ≡ 0 → InForms rows levels forms loose read → (levels ≡ []) × (loose ≡ []) × (read ≡ [])
+nothing_read : (levels : List Level) (rows : List NodeRow) (forms : List OpenForm) (loose : List NodeId) (read : List Token) → length forms ≡ 0 → InForms rows levels forms loose read → (levels ≡ []) × (loose ≡ []) × (read ≡ [])
 nothing_read [] rows forms loose read l h = (refl, h.1, h.2)
 nothing_read (level ∷ levels) rows forms loose read l h = (let count = forms_count (level ∷ levels) rows forms loose read h in absurd (omega arith))
 

@@ -6,7 +6,7 @@ use Rattle.edif_spec.specs.declared.keyword.Keyword.{Keyword}
 use Rattle.edif_tree.specs.Handles.{Shows}
 use Rattle.edif_tree.specs.Here.{tree_at}
 use Rattle.edif_tree.specs.Keywords.{form_keyword, seen_keyword, word_keyword}
-use Rattle.edif_tree.specs.Nodes.{Seen, FormOf, WordOf, IntegerOf, StringOf, Row, place_of}
+use Rattle.edif_tree.specs.Nodes.{Seen, FormOf, WordOf, IntegerOf, StringOf, NodeRow, place_of}
 use Rattle.edif_tree.specs.Order.{is_node}
 use Rattle.edif_tree.specs.declared.node.Nodes.{Nodes}
 use Rattle.edif_tree.specs.declared.node.Shape.{Shape}
@@ -15,18 +15,18 @@ use Rattle.edif_tree.specs.declared.stored.NodeId.{NodeId}
 use Rattle.edif_tree.proofs.HereLemmas.{SeenIs, shown, some_at, within}
 
 -- what is seen at a node says which keyword its tree spells
-seen_spells : (rows : List Row) (t : Placed) (s : Seen) → SeenIs rows s t → seen_keyword s ≡ word_keyword t
+seen_spells : (rows : List NodeRow) (t : Placed) (s : Seen) → SeenIs rows s t → seen_keyword s ≡ word_keyword t
 seen_spells rows t (FormOf ids) w = sym (ap word_keyword w.1)
 seen_spells rows t (WordOf name) w = sym (ap word_keyword w)
 seen_spells rows t (IntegerOf value) w = sym (ap word_keyword w)
 seen_spells rows t (StringOf value) w = sym (ap word_keyword w)
 
-pub spelled_shown : (rows : List Row) (id : NodeId) (k : Option Keyword) → is_node rows id ≡ true → option_map (λ (r : Row). seen_keyword r.shape) (slice_get rows id.0) ≡ Some k → k ≡ word_keyword (tree_at rows id)
+pub spelled_shown : (rows : List NodeRow) (id : NodeId) (k : Option Keyword) → is_node rows id ≡ true → option_map (λ (r : NodeRow). seen_keyword r.shape) (slice_get rows id.0) ≡ Some k → k ≡ word_keyword (tree_at rows id)
 spelled_shown rows id k h e =
     let found = some_at rows id.0 (within rows id h) in
-    let both = sym (ap (option_map (λ (r : Row). seen_keyword r.shape)) found.1) ∙ e in
+    let both = sym (ap (option_map (λ (r : NodeRow). seen_keyword r.shape)) found.1) ∙ e in
     let same : seen_keyword found.0.shape ≡ k = cc both in
-    sym same ∙ seen_spells rows (tree_at rows id) found.0.shape (shown rows id found.0.shape h (ap (option_map (λ (r : Row). r.shape)) found.1))
+    sym same ∙ seen_spells rows (tree_at rows id) found.0.shape (shown rows id found.0.shape h (ap (option_map (λ (r : NodeRow). r.shape)) found.1))
 
 -- a form has the keyword of its first argument; one of none has none, and a token has none
 pub first_spelled : (t u : Placed) (us vs : List Placed) → t ≡ Form' (place_of t) (trees us) → us ≡ u ∷ vs → word_keyword u ≡ form_keyword t

@@ -8,7 +8,7 @@ use Rattle.indexmap.specs.IndexSet.{insert_key}
 use Rattle.edif_spec.specs.Keyword.{keyword}
 use Rattle.edif_spec.specs.declared.keyword.Keyword.{Keyword}
 use Rattle.edif_tree.specs.Keywords.{seen_keyword}
-use Rattle.edif_tree.specs.Nodes.{Seen, Row, Stores, shape_of}
+use Rattle.edif_tree.specs.Nodes.{Seen, NodeRow, Stores, shape_of}
 use Rattle.edif_tree.specs.declared.stored.StoredKind.{StoredKind}
 use Rattle.edif_tree.specs.declared.stored.StoredKind.TheVariants as kinds
 use Rattle.edif_tree.proofs.NodeLemmas.{read_got}
@@ -51,7 +51,7 @@ keyword_got (x ∷ words) zero k l e = cc e
 keyword_got (x ∷ words) (suc at) k l e = keyword_got words at k (omega arith) e
 
 -- the keyword of a node that is seen so
-pub keyword_seen : (o : Option Row) (s : Seen) → option_map (λ (r : Row). r.shape) o ≡ Some s → option_map (λ (r : Row). seen_keyword r.shape) o ≡ Some (seen_keyword s)
+pub keyword_seen : (o : Option NodeRow) (s : Seen) → option_map (λ (r : NodeRow). r.shape) o ≡ Some s → option_map (λ (r : NodeRow). seen_keyword r.shape) o ≡ Some (seen_keyword s)
 keyword_seen None s e = absurd (cc e)
 keyword_seen (Some r) s e = let w : r.shape ≡ s = cc e in ap (λ v. Some (seen_keyword v)) w
 

@@ -6,7 +6,7 @@ use Rattle.edif_spelling_spec.specs.declared.token.Token.{Token}
 use Rattle.edif_spelling_spec.specs.declared.token.TokenKind.{TokenKind}
 use Rattle.edif_spelling_spec.specs.declared.token.TokenKind.TheVariants.{LeftParen, RightParen, Word, Integer, String}
 use Rattle.netlist_schema.specs.declared.limits.TheConstants.{MOST_LEVELS}
-use Rattle.edif_tree.specs.Nodes.{FormOf, IntegerOf, StringOf, WordOf, Seen, Row, IsAt, AreAt}
+use Rattle.edif_tree.specs.Nodes.{FormOf, IntegerOf, StringOf, WordOf, Seen, NodeRow, IsAt, AreAt}
 use Rattle.edif_tree.specs.Order.{in_order_from}
 use Rattle.edif_tree.specs.declared.stored.NodeId.{NodeId}
 use Rattle.edif_tree.specs.declared.making.OpenForm.{OpenForm}
@@ -32,7 +32,7 @@ pub record Level : Type 0 where
 
 -- The innermost open form, and what stands round it: its nodes are the last of those that no closed form holds, and its tokens
 -- the last of those read.
-pub record InForm (Outer : List OpenForm → List NodeId → List Token → Type 0) (rows : List Row) (level : Level) (forms : List OpenForm) (loose : List NodeId) (read : List Token) : Type 0 where
+pub record InForm (Outer : List OpenForm → List NodeId → List Token → Type 0) (rows : List NodeRow) (level : Level) (forms : List OpenForm) (loose : List NodeId) (read : List Token) : Type 0 where
   pub outer : List OpenForm
   pub others : List NodeId
   pub inside : List NodeId
@@ -46,7 +46,7 @@ pub record InForm (Outer : List OpenForm → List NodeId → List Token → Type
   pub round : Outer outer others before
 
 -- these forms are open, the innermost first
-abbrev pub InForms : List Row → List Level → List OpenForm → List NodeId → List Token → Type 0
+abbrev pub InForms : List NodeRow → List Level → List OpenForm → List NodeId → List Token → Type 0
 InForms rows [] forms loose read = (forms ≡ []) × (loose ≡ []) × (read ≡ [])
 InForms rows (level ∷ levels) forms loose read = InForm (InForms rows levels) rows level forms loose read
 

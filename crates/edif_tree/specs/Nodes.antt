@@ -17,13 +17,13 @@ pub data Seen : Type 0 where
   StringOf : (value : List ℕ) → Seen
 
 -- what is seen of a node: the number of bytes before its first token, and its shape
-pub record Row : Type 0 where
+pub record NodeRow : Type 0 where
   pub place : ℕ
   pub shape : Seen
 
 -- the nodes of a tree, and the node at its top
 pub record Table : Type 0 where
-  pub rows : List Row
+  pub rows : List NodeRow
   pub root : NodeId
 
 -- the lists beside the nodes: the arguments of each form, and the words, integers and strings
@@ -40,7 +40,7 @@ shape_of lists (kinds.Word at) = WordOf (get_or lists.words at [])
 shape_of lists (kinds.Integer at) = IntegerOf (get_or lists.integers at (pos 0))
 shape_of lists (kinds.String at) = StringOf (get_or lists.strings at [])
 
-abbrev pub row_of : Stores → StoredNode → Row
+abbrev pub row_of : Stores → StoredNode → NodeRow
 row_of lists node = record { place = node.place; shape = shape_of lists node.kind }
 
 -- what a node names lies within these lists, and an integer within 64 bits
@@ -56,13 +56,13 @@ AreWithin lists (node ∷ nodes) = IsWithin lists node.kind × AreWithin lists n
 
 -- the tree stands at the node: its place, its kind, and its arguments at the nodes that the node names
 abbrev mutual
-  pub IsAt : List Row → NodeId → Placed → Type 0
+  pub IsAt : List NodeRow → NodeId → Placed → Type 0
   IsAt rows id (Form' place arguments) = (ids : List NodeId) × (slice_get rows id.0 ≡ Some (record { place = place; shape = FormOf ids })) × AreAt rows ids arguments
   IsAt rows id (Word' place name) = slice_get rows id.0 ≡ Some (record { place = place; shape = WordOf name })
   IsAt rows id (Integer' place value) = slice_get rows id.0 ≡ Some (record { place = place; shape = IntegerOf value })
   IsAt rows id (String' place value) = slice_get rows id.0 ≡ Some (record { place = place; shape = StringOf value })
 
-  pub AreAt : List Row → List NodeId → Trees ℕ → Type 0
+  pub AreAt : List NodeRow → List NodeId → Trees ℕ → Type 0
   AreAt rows [] End = Unit {0}
   AreAt rows [] (More t ts) = ⊥
   AreAt rows (id ∷ ids) End = ⊥

@@ -36,9 +36,9 @@ impl Drop for Store {
 
 impl Model for Store {
     ghost use Rattle.std.specs.Prelude.{List, map};
-    ghost use Rattle.edif_tree.specs.Nodes.{Row, row_of, AreWithin};
+    ghost use Rattle.edif_tree.specs.Nodes.{NodeRow, row_of, AreWithin};
 
-    ghost Value = { List Row };
+    ghost Value = { List NodeRow };
 
     ghost view = { λ a. map (row_of (record { arguments = a.arguments; words = a.words; integers = a.integers.items; strings = a.strings.items })) a.nodes.items };
 

@@ -15,4 +15,4 @@ pub use laws::{
     step_keeps_closed, ungroup_example, ungroup_keeps, worked_example, written_is_there,
 };
 pub use ops::{Op, PortDecl, Target};
-pub use typed::told;
+pub use typed::op_is_typed;

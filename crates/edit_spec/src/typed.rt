@@ -94,7 +94,7 @@ fn path_is_typed(path: &Row<Ident>)
 
 /// Tells what holds of an operation by the types of its fields: names are identifiers, widths are widths, numbers and bytes are
 /// in their ranges. Takes no memory, and does nothing.
-pub fn told(op: &Op)
+pub fn op_is_typed(op: &Op)
     ensures { IsTypedOp op.now }
 {
     match op {

@@ -15,7 +15,7 @@ use crate::apply::apply_op;
 use crate::pin::Pin;
 use db_version::Snapshot;
 use db_work::Work;
-use edit_spec::{Op, Reply, told};
+use edit_spec::{Op, Reply, op_is_typed};
 use netlist_schema::{NoMemory, Object, Row, design_is_valid};
 use std::alloc::Global;
 use std::marker::Model;
@@ -126,7 +126,7 @@ impl Tx {
         ensures ok { OnOk result (HasRun self.old self.new op) }
         ensures err { OnErr result (self.new ≡ self.old) }
     {
-        told(&op);
+        op_is_typed(&op);
         let ops = self.ops.as_slice().len();
         let replies = self.replies.as_slice().len();
         self.ops.push(op)?;

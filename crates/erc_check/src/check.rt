@@ -71,7 +71,7 @@ fn add_next<S: Shown, W: Shown + Drop>(
 ) -> Result<bool, NoMemory>
     ensures { IfOk result (AddsNext (S.design design.now) walk.old.left walk.new.left tally.old tally.new) }
 {
-    if !walk.settle()? {
+    if !walk.advance()? {
         return Ok(false);
     }
     add_ahead(alloc, design, walk, tally)?;
@@ -88,10 +88,10 @@ fn add_ahead<S: Shown, W: Shown + Drop>(
     requires { walk.old.over ≡ false }
     ensures { OnOk result (AddsFirst (S.design design.now) walk.old.left walk.new.left tally.old tally.new) }
 {
-    let Some(item) = walk.peek() else {
+    let Some(item) = walk.current() else {
         return Ok(());
     };
     tally.add(alloc, design, item)?;
-    walk.pass();
+    walk.skip();
     Ok(())
 }

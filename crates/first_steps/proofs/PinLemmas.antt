@@ -7,7 +7,7 @@ use Rattle.db_core.specs.declared.errors.CommitError.{CommitError}
 use Rattle.db_core.specs.declared.errors.CommitError.TheVariants.{Conflict, LogFull as CommitFull, NoMemory as CommitNoMemory}
 use Rattle.db_core.specs.declared.errors.PinError.{PinError}
 use Rattle.db_core.specs.declared.errors.PinError.TheVariants.{LogFull as PinFull, NoMemory as PinNoMemory}
-use Rattle.db_core.specs.Calls.{Commits, PinsLast, Releases, commit_event, event_of}
+use Rattle.db_core.specs.Calls.{Commits, PinsHead, Releases, commit_event, event_of}
 use Rattle.db_core.specs.Story.{Story, IsHistory, IsPinOf}
 use Rattle.db_core.proofs.Staying.{pin_stays_on}
 use Rattle.first_steps.specs.Pins.{KeepsPins}
@@ -18,7 +18,7 @@ same_pins old new same pin is = subst (λ (st : Story). IsPinOf st pin) (sym sam
 
 module _ (old new : Story) (history : IsHistory old) where
   -- over a pin
-  pub over_pin : (caller : ℕ) (result : Result PinFacts PinError) → PinsLast old new caller result → KeepsPins old new
+  pub over_pin : (caller : ℕ) (result : Result PinFacts PinError) → PinsHead old new caller result → KeepsPins old new
   over_pin caller (Ok made) pins held is =
       pin_stays_on old new (event_of caller Pin (Pinned made.number made.version)) held history.legal pins.adds (λ release. cc release.1) is
   over_pin caller (Err PinFull) full held is = same_pins old new full.same held is

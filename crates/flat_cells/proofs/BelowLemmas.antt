@@ -10,7 +10,7 @@ use Rattle.netlist_order_spec.specs.After.{AllAfter}
 use Rattle.flat_spec.proofs.ListLemmas.{Member, Contains-member, Member-contains, Member-filter, Member-from_filter}
 use Rattle.flat_cells.specs.Below.{AreCells, AreCellsBelow, ComesBehind, IsAtOrBelow}
 use Rattle.flat_cells.specs.Marks.{AreBlank, AreMarkedBelow, IsSet, is_marked}
-use Rattle.flat_cells.specs.declared.marks.Marks.{Marks}
+use Rattle.flat_cells.specs.declared.marks.CellMarks.{CellMarks}
 use Rattle.flat_cells.proofs.ListedLemmas.{inst_there}
 use Rattle.flat_cells.proofs.MarkLemmas.{blank_marks, blank_room}
 
@@ -35,7 +35,7 @@ after_filter d p before (x ∷ xs) closed h = go (p x) refl (after_filter d p (b
         subst (λ v. AllAfter (ComesBehind d) v (filter p xs))
         (filter-append p before (x ∷ []) ∙ ap (λ b. filter p before ++ cond b (x ∷ []) []) e ∙ append-nil (filter p before)) rest
 
-module _ (d : Design) (valid : IsValid d) (top : CellId) (is_cell : IsCell d top) (cells : List CellId) (all : AreCells d cells) (blank begun marks : Marks)
+module _ (d : Design) (valid : IsValid d) (top : CellId) (is_cell : IsCell d top) (cells : List CellId) (all : AreCells d cells) (blank begun marks : CellMarks)
     (unmarked : AreBlank d blank) (set_top : IsSet blank top begun) (below : AreMarkedBelow d cells begun marks) where
   begun_top : (c : CellId) → is_marked begun c ≡ true → c ≡ top
   begun_top c h = elim (set_top.only c h) [ inl before ↦ absurd (blank_marks d blank unmarked c before) | inr same ↦ same ]

@@ -16,20 +16,20 @@ use Rattle.netlist_order_spec.proofs.Places.{lib_of_cell}
 use Rattle.flat_spec.proofs.PathLemmas.{slice_get-is}
 use Rattle.flat_cells.specs.Below.{ComesBehind}
 use Rattle.flat_cells.specs.Marks.{AreBlank, AreInstsMarked, AreKept, AreMarkedBelow, IsSet, is_marked, mark_at}
-use Rattle.flat_cells.specs.declared.marks.Marks.{Marks}
+use Rattle.flat_cells.specs.declared.marks.CellMarks.{CellMarks}
 use Rattle.flat_cells.proofs.ListedLemmas.{inst_there}
 
-pub kept_same : (m : Marks) → AreKept m m
+pub kept_same : (m : CellMarks) → AreKept m m
 kept_same m = record { room = λ c h. h; marks = λ c h. h }
 
-pub kept_more : (a b c : Marks) → AreKept a b → AreKept b c → AreKept a c
+pub kept_more : (a b c : CellMarks) → AreKept a b → AreKept b c → AreKept a c
 kept_more a b c h k = record { room = λ v r. k.room v (h.room v r); marks = λ v r. k.marks v (h.marks v r) }
 
 -- the instances so far
-pub insts_none : (m : Marks) → AreInstsMarked [] m m
+pub insts_none : (m : CellMarks) → AreInstsMarked [] m m
 insts_none m = record { kept = kept_same m; each = λ inst has r. absurd (omega (arith, has.1)); only = λ c h. inl h }
 
-pub insts_more : (insts : List Inst) (i : ℕ) (inst : Inst) (old m new : Marks) → i < length insts → inst ≡ get_or insts i inst
+pub insts_more : (insts : List Inst) (i : ℕ) (inst : Inst) (old m new : CellMarks) → i < length insts → inst ≡ get_or insts i inst
     → AreInstsMarked (take i insts) old m → IsSet m inst.of new → AreInstsMarked (take (i + 1) insts) old new
 insts_more insts i inst old m new within is h s =
     let more : take (i + 1) insts ≡ take i insts ++ inst ∷ [] = take_more insts i inst within ∙ ap (λ v. take i insts ++ v ∷ []) (sym is) in
@@ -48,7 +48,7 @@ insts_more insts i inst old m new within is h s =
       ];
     }
 
-pub insts_all : (insts : List Inst) (i : ℕ) (old new : Marks) → length insts ≤ i → AreInstsMarked (take i insts) old new → AreInstsMarked insts old new
+pub insts_all : (insts : List Inst) (i : ℕ) (old new : CellMarks) → length insts ≤ i → AreInstsMarked (take i insts) old new → AreInstsMarked insts old new
 insts_all insts i old new past h = subst (λ v. AreInstsMarked v old new) (take_all i insts past) h
 
 -- a row of marks for so many cells, none of which is set
@@ -85,7 +85,7 @@ module _ {R : Type 0} where
   rows_more (y ∷ xs) x items counts f h (suc k) = rows_more xs x items (λ n. counts (suc n)) (λ n. f (suc n)) h k
 
 -- each cell of a design has a mark, which is not set
-module _ (d : Design) (m : Marks) (blank : AreBlank d m) where
+module _ (d : Design) (m : CellMarks) (blank : AreBlank d m) where
   pub blank_room : (c : CellId) → IsCell d c → IsSome (mark_at m c)
   blank_room c is =
       let body = some_of (cell_at d c) is in
@@ -120,20 +120,20 @@ below_more (placed first has) inst more = deeper first has (placed inst more)
 below_more (deeper first has below) inst more = deeper first has (below_more below inst more)
 
 -- of the last so many cells, those that are marked have their instances' cells marked
-pub record AreMarkedFrom (d : Design) (cells : List CellId) (passed : ℕ) (old new : Marks) : Type 0 where
+pub record AreMarkedFrom (d : Design) (cells : List CellId) (passed : ℕ) (old new : CellMarks) : Type 0 where
   pub kept : AreKept old new
   pub down : (k : ℕ) (c : CellId) (inst : Inst) → length cells ≤ k + passed → slice_get cells k ≡ Some c → is_marked new c ≡ true → HasInst d c inst
       → is_marked new inst.of ≡ true
   pub only : (c : CellId) → is_marked new c ≡ true → (is_marked old c ≡ true) ⊎ ((outer : CellId) × (is_marked old outer ≡ true) × IsBelow d c outer)
 
-pub marked_none : (d : Design) (cells : List CellId) (m : Marks) → AreMarkedFrom d cells 0 m m
+pub marked_none : (d : Design) (cells : List CellId) (m : CellMarks) → AreMarkedFrom d cells 0 m m
 marked_none d cells m = record {
   kept = kept_same m;
   down = λ k c inst past at. let within = slice_get_within cells k c at in absurd (omega (arith, past, within));
   only = λ c h. inl h;
 }
 
-module _ (d : Design) (valid : IsValid d) (cells : List CellId) (behind : AllAfter (ComesBehind d) [] cells) (old m : Marks) (room : (c : CellId) → IsCell d c → IsSome (mark_at old c))
+module _ (d : Design) (valid : IsValid d) (cells : List CellId) (behind : AllAfter (ComesBehind d) [] cells) (old m : CellMarks) (room : (c : CellId) → IsCell d c → IsSome (mark_at old c))
     (passed k : ℕ) (cell : CellId) (here : k + passed + 1 ≡ length cells) (at : slice_get cells k ≡ Some cell) (so_far : AreMarkedFrom d cells passed old m) where
   same_cell : (c : CellId) → slice_get cells k ≡ Some c → c ≡ cell
   same_cell c is = Some-cell c cell (sym is ∙ at)
@@ -141,7 +141,7 @@ module _ (d : Design) (valid : IsValid d) (cells : List CellId) (behind : AllAft
       Some-cell : (a b : CellId) → Some a ≡ Some b → a ≡ b
       Some-cell a b e = cc e
 
-  pub marked_more : (new : Marks) → is_marked m cell ≡ true → AreInstsMarked (insts_at d cell) m new → AreMarkedFrom d cells (passed + 1) old new
+  pub marked_more : (new : CellMarks) → is_marked m cell ≡ true → AreInstsMarked (insts_at d cell) m new → AreMarkedFrom d cells (passed + 1) old new
   marked_more new marked h = record {
     kept = kept_more old m new so_far.kept h.kept;
     down = λ j c inst past is c_marked has. elim (h.only c c_marked) [
@@ -177,7 +177,7 @@ module _ (d : Design) (valid : IsValid d) (cells : List CellId) (behind : AllAft
     only = so_far.only;
   }
 
-pub marked_all : (d : Design) (cells : List CellId) (passed : ℕ) (old new : Marks) → length cells ≤ passed → AreMarkedFrom d cells passed old new → AreMarkedBelow d cells old new
+pub marked_all : (d : Design) (cells : List CellId) (passed : ℕ) (old new : CellMarks) → length cells ≤ passed → AreMarkedFrom d cells passed old new → AreMarkedBelow d cells old new
 marked_all d cells passed old new past h = record {
   kept = h.kept;
   down = λ c inst has marked inst_has. h.down has.0 c inst (omega (arith, past)) (at c has) marked inst_has;

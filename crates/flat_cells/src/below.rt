@@ -7,7 +7,7 @@ ghost use Rattle.netlist_order_spec.specs.After.{AllAfter};
 ghost use Rattle.flat_cells.specs.Below.{AreCells, AreCellsBelow, ComesBehind, cells_of};
 ghost use Rattle.flat_cells.specs.Marks.{AreInstsMarked, AreMarkedBelow, is_marked, mark_at};
 
-use crate::marks::Marks;
+use crate::marks::CellMarks;
 use flat_lookup::insts_at;
 use netlist_order::cell_order;
 use netlist_schema::{CellId, LibId, NoMemory, Shown};
@@ -42,7 +42,7 @@ fn list_cells<S: Shown>(alloc: Global, design: &S) -> Result<Vec<CellId>, NoMemo
 }
 
 /// Marks the cells of a cell's instances.
-fn mark_children<S: Shown>(design: &S, cell: CellId, marks: &mut Marks)
+fn mark_children<S: Shown>(design: &S, cell: CellId, marks: &mut CellMarks)
     ensures { AreInstsMarked (insts_at (S.design design.now) cell) marks.old marks.new }
 {
     for inst in insts_at(design, cell) {
@@ -51,7 +51,7 @@ fn mark_children<S: Shown>(design: &S, cell: CellId, marks: &mut Marks)
 }
 
 /// Marks what is below the cells that are marked, where each cell stands behind the cells of its instances.
-fn mark_below<S: Shown>(design: &S, cells: &[CellId], marks: &mut Marks)
+fn mark_below<S: Shown>(design: &S, cells: &[CellId], marks: &mut CellMarks)
     requires behind { AllAfter (ComesBehind (S.design design.now)) [] cells.now }
     requires room { (c : Id) → IsCell (S.design design.now) c → IsSome (mark_at marks.old c) }
     requires valid { IsValid (S.design design.now) }
@@ -66,7 +66,7 @@ fn mark_below<S: Shown>(design: &S, cells: &[CellId], marks: &mut Marks)
 }
 
 /// Those of the cells that are marked.
-fn list_marked(alloc: Global, cells: &[CellId], marks: &Marks) -> Result<Vec<CellId>, NoMemory>
+fn list_marked(alloc: Global, cells: &[CellId], marks: &CellMarks) -> Result<Vec<CellId>, NoMemory>
     ensures { IfOk result (λ found. found.items ≡ filter (is_marked marks.now) cells.now) }
 {
     let mut found = Vec::new(alloc);
@@ -91,7 +91,7 @@ pub fn cells_below<S: Shown>(
     ensures { IfOk result (λ cells. AreCellsBelow (S.design design.now) top cells.items) }
 {
     let cells = list_cells(alloc, design)?;
-    let mut marks = Marks::none(alloc, design)?;
+    let mut marks = CellMarks::none(alloc, design)?;
     marks.set(top);
     mark_below(design, cells.as_slice(), &mut marks);
     list_marked(alloc, cells.as_slice(), &marks)

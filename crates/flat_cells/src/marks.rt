@@ -8,7 +8,7 @@ use std::alloc::Global;
 
 /// A mark for each cell of a design.
 #[derive(Debug, Drop)]
-pub struct Marks {
+pub struct CellMarks {
     /// By library and place.
     rows: Vec<Vec<bool>>,
 }
@@ -25,9 +25,9 @@ fn blank_row(alloc: Global, count: u32) -> Result<Vec<bool>, NoMemory>
     Ok(row)
 }
 
-impl Marks {
+impl CellMarks {
     /// A mark for each cell of the design, none of which is set.
-    pub fn none<S: Shown>(alloc: Global, design: &S) -> Result<Marks, NoMemory>
+    pub fn none<S: Shown>(alloc: Global, design: &S) -> Result<CellMarks, NoMemory>
         ensures { IfOk result (AreBlank (S.design design.now)) }
     {
         let mut rows = Vec::new(alloc);
@@ -35,7 +35,7 @@ impl Marks {
             let row = blank_row(alloc, design.cell_count(LibId(lib)))?;
             rows.push(row)?;
         }
-        Ok(Marks { rows })
+        Ok(CellMarks { rows })
     }
 
     /// Whether a cell is marked.

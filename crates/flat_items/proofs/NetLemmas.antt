@@ -12,7 +12,7 @@ use Rattle.flat_cells.specs.Below.{IsAtOrBelow}
 use Rattle.net_classes.specs.Facts.{CellFacts, Facts, facts_at}
 use Rattle.net_classes.specs.PortClasses.{AreFactsOf}
 use Rattle.net_names.specs.Names.{name_in, net_named}
-use Rattle.net_names.specs.declared.names.Name.{Name}
+use Rattle.net_names.specs.declared.names.NetName.{NetName}
 use Rattle.net_names.proofs.NameLemmas.{name_known}
 use Rattle.flat_items.specs.declared.notes.PlacedNotes.{PlacedNotes}
 use Rattle.flat_items.specs.Stand.{IsFrame, IsGround, top_of}
@@ -41,14 +41,14 @@ frame_told d facts notes ground path f frame =
     record { known = at.0; is = at.1; told = at.2 }
 
 -- a name in these lists, which is the net's representative
-pub record IsNamed (d : Design) (path : List ℕ) (names : List Name) (firsts : List ℕ) (n : ℕ) : Type 0 where
-  pub name : Name
+pub record IsNamed (d : Design) (path : List ℕ) (names : List NetName) (firsts : List ℕ) (n : ℕ) : Type 0 where
+  pub name : NetName
   pub found : name_in names firsts n ≡ Some name
   pub is : net_named path name ≡ representative d (top_of d).cell (at_path path n)
   pub shallow : name.depth ≤ length path
 
 pub net_is_named : (d : Design) (facts : Facts) (notes : PlacedNotes) → IsGround d facts notes → (path : List ℕ) (f : Frame) → IsFrame d path f
-    → (n : ℕ) → IsNet d f.cell (at_root n) → (names : List Name) (firsts : List ℕ) → names ≡ f.names.items
+    → (n : ℕ) → IsNet d f.cell (at_root n) → (names : List NetName) (firsts : List ℕ) → names ≡ f.names.items
     → firsts ≡ option_map_or (λ (k : CellFacts). k.firsts) (facts_at facts f.cell) [] → IsNamed d path names firsts n
 net_is_named d facts notes ground path f frame n net names firsts names_are firsts_are =
     let at = frame_told d facts notes ground path f frame in

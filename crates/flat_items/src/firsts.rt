@@ -9,11 +9,11 @@ ghost use Rattle.flat_items.specs.Stand.{IsFrame, IsGround, top_of};
 use crate::ground::Ground;
 use crate::lent::NetRef;
 use crate::place::Frame;
-use net_names::Name;
+use net_names::NetName;
 use netlist_schema::Shown;
 
 /// The net of a name, where the path leads to the occurrence whose net has it.
-fn net_of(path: &[u32], name: Name) -> NetRef<'_>
+fn net_of(path: &[u32], name: NetName) -> NetRef<'_>
     requires { name.depth ≤ length path.now }
     ensures { net_lent result ≡ net_named path.now name }
 {
@@ -24,7 +24,7 @@ fn net_of(path: &[u32], name: Name) -> NetRef<'_>
 }
 
 /// The name of a net, which has one.
-fn name_at(names: &[Name], firsts: &[u32], net: u32) -> Name
+fn name_at(names: &[NetName], firsts: &[u32], net: u32) -> NetName
     requires { IsSome (name_in names.now firsts.now net) }
     ensures { name_in names.now firsts.now net ≡ Some result }
 {

@@ -6,7 +6,7 @@ ghost use Rattle.flat_items.specs.Moves.{HasEntered, HasLeft};
 ghost use Rattle.flat_items.specs.Stand.{IsParent, MayStand, stand_of};
 
 use crate::steps::Steps;
-use net_names::Name;
+use net_names::NetName;
 use netlist_schema::{CellId, NoMemory};
 use std::mem;
 
@@ -52,7 +52,7 @@ pub struct Frame {
     pub upto: usize,
     pub near: usize,
     /// For each first net of its contents the first net of the design that is connected with it.
-    pub names: Vec<Name>,
+    pub names: Vec<NetName>,
 }
 
 /// An occurrence as seen from one below it: its frame, the path to it, and the step that leads on.

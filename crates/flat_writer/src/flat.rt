@@ -113,7 +113,7 @@ fn put_next<S: Shown, W: Shown + Drop, K: Sink>(
     if page.is_stuck() {
         return false;
     }
-    match walk.settle() {
+    match walk.advance() {
         Ok(true) => put_ahead(alloc, texts, walk, room, page, out),
         Ok(false) => {
             page.put(b"end\n", out);
@@ -139,12 +139,12 @@ fn put_ahead<S: Shown, W: Shown + Drop, K: Sink>(
     ensures same { texts.new ≡ texts.old }
     ensures gives { GivesLine (Writes K.written K.faults out.old page.old out.new page.new) texts.old room walk.old.left walk.new.left result }
 {
-    let Some(item) = walk.peek() else {
+    let Some(item) = walk.current() else {
         return false;
     };
     keep_path(texts, item);
     let has_room = put_item(alloc, texts, item, room, page, out);
-    walk.pass();
+    walk.skip();
     has_room
 }
 

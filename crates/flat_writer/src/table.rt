@@ -98,7 +98,7 @@ fn put_next<S: Shown, W: Shown + Drop, K: Sink>(
     if page.is_stuck() {
         return false;
     }
-    match walk.settle() {
+    match walk.advance() {
         Ok(true) => put_ahead(alloc, texts, walk, page, out),
         Ok(false) => false,
         Err(_) => {
@@ -120,11 +120,11 @@ fn put_ahead<S: Shown, W: Shown + Drop, K: Sink>(
     ensures same { texts.new ≡ texts.old }
     ensures gives { GivesRow (Writes K.written K.faults out.old page.old out.new page.new) texts.old walk.old.left walk.new.left result }
 {
-    let Some(item) = walk.peek() else {
+    let Some(item) = walk.current() else {
         return false;
     };
     keep_pin(texts, item);
     put_item(alloc, texts, item, page, out);
-    walk.pass();
+    walk.skip();
     true
 }

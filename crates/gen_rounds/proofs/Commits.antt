@@ -43,8 +43,8 @@ pub has_committed_where : (before after : Story) (pin : PinFacts) (op : Op) (old
 has_committed_where before after pin op old new (Ok back) fresh ran accepted = has_committed before after pin back op old new accepted.0 fresh ran accepted.1
 has_committed_where before after pin op old new (Err refused) fresh ran accepted = tt
 
-pub tried_is_last : (pin : PinFacts) (op : Op) (old new : TxFacts) (v : ℕ) → old ≡ started pin → HasRun old new op → pin.version ≡ v → new.pin.version ≡ v
-tried_is_last pin op old new v fresh ran is = ap (λ (p : PinFacts). p.version) (tried_pin pin op old new fresh ran) ∙ is
+pub tried_is_head : (pin : PinFacts) (op : Op) (old new : TxFacts) (v : ℕ) → old ≡ started pin → HasRun old new op → pin.version ≡ v → new.pin.version ≡ v
+tried_is_head pin op old new v fresh ran is = ap (λ (p : PinFacts). p.version) (tried_pin pin op old new fresh ran) ∙ is
 
 -- a pin on the last version meets no conflict
 pub meets_no_conflict : (before after : Story) (tx : TxFacts) (object : Object) (w : ℕ) → IsHistory before → IsPinOf before tx.pin → tx.pin.version ≡ head (state before)

@@ -1,7 +1,7 @@
 //! The rounds of a run: in each a caller pins the last version, commits one edit, and releases the pin.
 ghost use Rattle.std.specs.Prelude.{◌≡◌, ◌≤◌, ◌<◌, ◌+◌, ◌*◌, IfOk, OnOk, Ok};
 ghost use Rattle.edit_tx.specs.Facts.{HasRun};
-ghost use Rattle.db_core.specs.Calls.{Collects, PinsLast};
+ghost use Rattle.db_core.specs.Calls.{Collects, PinsHead};
 ghost use Rattle.db_core.specs.Story.{IsPinOf, state};
 ghost use Rattle.db_spec.specs.Answers.{HasPlaces};
 ghost use Rattle.db_spec.specs.State.{head};
@@ -21,9 +21,9 @@ pub const EDITOR: u32 = 0;
 const ROUNDS_A_COLLECT: u32 = 16;
 
 /// Pins the last version, where the history has room for it.
-pub(crate) fn pin_last(core: &mut Core, caller: u32) -> Result<Pin, NoMemory>
+pub(crate) fn pin_head(core: &mut Core, caller: u32) -> Result<Pin, NoMemory>
     requires { HasPlaces (state core.old) 2 }
-    ensures { IfOk result (λ pin. PinsLast core.old core.new caller (Ok pin)) }
+    ensures { IfOk result (λ pin. PinsHead core.old core.new caller (Ok pin)) }
 {
     match core.pin(caller) {
         Ok(pin) => Ok(pin),
@@ -57,7 +57,7 @@ fn commit(core: &mut Core, tx: Tx) -> Result<Pin, NoMemory>
 }
 
 /// Commits an operation on a pin on the last version, where the history has room for it, and gives the pin back.
-fn commit_on_last(alloc: Global, core: &mut Core, pin: Pin, op: Op) -> Result<Pin, NoMemory>
+fn commit_on_head(alloc: Global, core: &mut Core, pin: Pin, op: Op) -> Result<Pin, NoMemory>
     requires places { HasPlaces (state core.old) 1 }
     requires pin { IsPinOf core.old pin }
     requires last { pin.version ≡ head (state core.old) }
@@ -90,8 +90,8 @@ fn edit(alloc: Global, core: &mut Core, count: u32, passed: u32) -> Result<(), N
     ensures { OnOk result (StandsEdited count passed core.new) }
 {
     let op = gen_op(alloc, count, passed + 1)?;
-    let pin = pin_last(core, EDITOR)?;
-    let back = commit_on_last(alloc, core, pin, op)?;
+    let pin = pin_head(core, EDITOR)?;
+    let back = commit_on_head(alloc, core, pin, op)?;
     core.release(back);
     Ok(())
 }

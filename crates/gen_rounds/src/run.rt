@@ -3,7 +3,7 @@ ghost use Rattle.std.specs.Prelude.{◌≡◌, ◌≤◌, IfOk};
 ghost use Rattle.gen_spec.specs.Generated.{generated};
 ghost use Rattle.gen_rounds.specs.Stand.{HasEnded, HasRun, IsPin, StandsAfter};
 
-use crate::rounds::{EDITOR, pin_last, take_rounds};
+use crate::rounds::{EDITOR, pin_head, take_rounds};
 use db_core::Core;
 use design_gen::gen_design;
 use edit_tx::Pin;
@@ -30,7 +30,7 @@ fn open(alloc: Global, count: u32) -> Result<(Core, Pin), NoMemory>
 {
     let design = gen_design(alloc, count)?;
     let mut core = Core::new(alloc, design)?;
-    let first = pin_last(&mut core, READER)?;
+    let first = pin_head(&mut core, READER)?;
     Ok((core, first))
 }
 
@@ -42,7 +42,7 @@ pub fn go_through(alloc: Global, count: u32) -> Result<Run, NoMemory>
 {
     let (mut core, first) = open(alloc, count)?;
     take_rounds(alloc, &mut core, count)?;
-    let last = pin_last(&mut core, EDITOR)?;
+    let last = pin_head(&mut core, EDITOR)?;
     Ok(Run {
         count,
         core,

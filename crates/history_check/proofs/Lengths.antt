@@ -7,7 +7,7 @@ use Rattle.edif_spec.specs.Arranged.{canonical_text}
 use Rattle.db_spec.specs.History.{Legal, version_at}
 use Rattle.db_spec.specs.declared.event.Event.{Event}
 use Rattle.db_core.specs.Story.{Story}
-use Rattle.script_spec.specs.Report.{HasFilled, Prints, Sessions, Story as Came, last_design, report as report_of, script_texts, transcript}
+use Rattle.script_spec.specs.Report.{HasFilled, Prints, Sessions, SessionResult as Came, head_design, report as report_of, script_texts, transcript}
 use Rattle.script_spec.specs.Session.{Ending, Exchange, Nothing, Runs, Session, Word, exchanges}
 use Rattle.script_spec.specs.Texts.{event_texts, line}
 use Rattle.script_spec.specs.declared.script.Step.{Step}
@@ -31,29 +31,29 @@ middle_within a b c most le =
     let rest = length-append a b in
     (omega (arith, le, whole, rest), omega (arith, le, whole, rest))
 
-pub filled_at : (d : Design) (history : List Event) (most first : ℕ) (scripts : List (List Step)) (stories : List Came) → Sessions d history first scripts stories → All (λ (c : Came). HasFilled history c.ending) stories
-    → length (script_texts d history first stories) ≤ most → (k : ℕ) → k < length scripts → Filled d history (first + k) (slice_index_or scripts k []) most
+pub filled_at : (d : Design) (history : List Event) (most first : ℕ) (scripts : List (List Step)) (results : List Came) → Sessions d history first scripts results → All (λ (c : Came). HasFilled history c.ending) results
+    → length (script_texts d history first results) ≤ most → (k : ℕ) → k < length scripts → Filled d history (first + k) (slice_index_or scripts k []) most
 filled_at d history most first [] [] all filled le k less = absurd (omega (arith, less))
-filled_at d history most first [] (came ∷ stories) all filled le k less = absurd all
+filled_at d history most first [] (came ∷ results) all filled le k less = absurd all
 filled_at d history most first (steps ∷ scripts) [] all filled le k less = absurd all
-filled_at d history most first (steps ∷ scripts) (came ∷ stories) all filled le zero less =
+filled_at d history most first (steps ∷ scripts) (came ∷ results) all filled le zero less =
     let same : first ≡ first + 0 = omega arith in
-    let parts = middle_within (line (codes "script" ∷ decimal first ∷ [])) (transcript d history came.said) (script_texts d history (first + 1) stories) most le in
+    let parts = middle_within (line (codes "script" ∷ decimal first ∷ [])) (transcript d history came.said) (script_texts d history (first + 1) results) most le in
     subst (λ (n : ℕ). Filled d history n steps most) same (came, all.0, filled 0 came (omega arith), parts.0)
-filled_at d history most first (steps ∷ scripts) (came ∷ stories) all filled le (suc k) less =
+filled_at d history most first (steps ∷ scripts) (came ∷ results) all filled le (suc k) less =
     let same : first + 1 + k ≡ first + suc k = omega arith in
-    let parts = middle_within (line (codes "script" ∷ decimal first ∷ [])) (transcript d history came.said) (script_texts d history (first + 1) stories) most le in
+    let parts = middle_within (line (codes "script" ∷ decimal first ∷ [])) (transcript d history came.said) (script_texts d history (first + 1) results) most le in
     subst (λ (n : ℕ). Filled d history n (slice_index_or scripts k []) most) same
-    (filled_at d history most (first + 1) scripts stories all.1 (λ j c small. filled (suc j) c (omega (arith, small))) parts.1 k (omega (arith, less)))
+    (filled_at d history most (first + 1) scripts results all.1 (λ j c small. filled (suc j) c (omega (arith, small))) parts.1 k (omega (arith, less)))
 
 -- the transcripts are a part of the report
-scripts_within : (d : Design) (history : List Event) (stories : List Came) → length (script_texts d history 0 stories) ≤ length (report_of d history stories)
-scripts_within d history stories =
-    let events = event_texts (last_design d history) 0 history in
-    let scripts = script_texts d history 0 stories in
+scripts_within : (d : Design) (history : List Event) (results : List Came) → length (script_texts d history 0 results) ≤ length (report_of d history results)
+scripts_within d history results =
+    let events = event_texts (head_design d history) 0 history in
+    let scripts = script_texts d history 0 results in
     let front = line (codes "history" ∷ []) ++ events in
     let head = line (codes "design" ∷ []) in
-    let a = length-append ((front ++ scripts) ++ head) (canonical_text (last_design d history)) in
+    let a = length-append ((front ++ scripts) ++ head) (canonical_text (head_design d history)) in
     let b = length-append (front ++ scripts) head in
     let c = length-append front scripts in
     omega (arith, a, b, c)
@@ -62,11 +62,11 @@ scripts_within d history stories =
 pub printed_at : (d : Design) (history : List Event) (scripts : List (List Step)) (text : List ℕ) → Prints d scripts text history → (most : ℕ) → length text ≤ most → (k : ℕ) → k < length scripts
     → Filled d history k (slice_index_or scripts k []) most
 printed_at d history scripts text prints most le k less =
-    let within = scripts_within d history prints.stories in
-    let whole : length text ≡ length (report_of d history prints.stories) = ap length prints.printed in
+    let within = scripts_within d history prints.results in
+    let whole : length text ≡ length (report_of d history prints.results) = ap length prints.printed in
     let same : 0 + k ≡ k = omega arith in
     subst (λ (n : ℕ). Filled d history n (slice_index_or scripts k []) most) same
-    (filled_at d history most 0 scripts prints.stories prints.fit prints.filled (omega (arith, le, within, whole)) k less)
+    (filled_at d history most 0 scripts prints.results prints.fit prints.filled (omega (arith, le, within, whole)) k less)
 
 -- ---- a caller that says too much
 
@@ -121,12 +121,12 @@ module _ (story : Story) (more : List Event) (legal : Legal story.opening (story
       omega (arith, parts, same)
 
   -- one transcript and those behind it are a text
-  parts_within : (first : ℕ) (came : Came) (stories : List Came) (a b : ℕ) → a ≤ length (transcript story.opening whole came.said) → b ≤ length (script_texts story.opening whole (first + 1) stories)
-      → a + b ≤ length (script_texts story.opening whole first (came ∷ stories))
-  parts_within first came stories a b one rest =
+  parts_within : (first : ℕ) (came : Came) (results : List Came) (a b : ℕ) → a ≤ length (transcript story.opening whole came.said) → b ≤ length (script_texts story.opening whole (first + 1) results)
+      → a + b ≤ length (script_texts story.opening whole first (came ∷ results))
+  parts_within first came results a b one rest =
       let head = line (codes "script" ∷ decimal first ∷ []) in
       let text = transcript story.opening whole came.said in
-      let x = length-append (head ++ text) (script_texts story.opening whole (first + 1) stories) in
+      let x = length-append (head ++ text) (script_texts story.opening whole (first + 1) results) in
       let y = length-append head text in
       omega (arith, x, y, one, rest)
 
@@ -143,37 +143,37 @@ module _ (story : Story) (more : List Event) (legal : Legal story.opening (story
       subst (λ (n : ℕ). Stands story n (slice_index_or scripts k []) (slice_index_or seats k d)) same (each (suc k) d (omega (arith, less)))
 
   -- all that was said is in the transcripts
-  all_within : (first : ℕ) (scripts : List (List Step)) (stories : List Came) (seats : List Seat) → Sessions story.opening whole first scripts stories → length seats ≡ length scripts → Each first scripts seats
-      → said_by seats ≤ length (script_texts story.opening whole first stories)
+  all_within : (first : ℕ) (scripts : List (List Step)) (results : List Came) (seats : List Seat) → Sessions story.opening whole first scripts results → length seats ≡ length scripts → Each first scripts seats
+      → said_by seats ≤ length (script_texts story.opening whole first results)
   all_within first [] [] [] all many each = let none : said_by [] ≡ 0 = refl in omega (arith, none)
   all_within first [] [] (seat ∷ seats) all many each = absurd (omega (arith, many))
-  all_within first [] (came ∷ stories) seats all many each = absurd all
+  all_within first [] (came ∷ results) seats all many each = absurd all
   all_within first (steps ∷ scripts) [] seats all many each = absurd all
-  all_within first (steps ∷ scripts) (came ∷ stories) [] all many each = absurd (omega (arith, many))
-  all_within first (steps ∷ scripts) (came ∷ stories) (seat ∷ seats) all many each =
-      parts_within first came stories (length seat.said.items) (said_by seats) (said_within first steps seat (each_first first steps scripts seat seats each) came.said came.ending all.0)
-      (all_within (first + 1) scripts stories seats all.1 (omega (arith, many)) (each_next first steps scripts seat seats each))
+  all_within first (steps ∷ scripts) (came ∷ results) [] all many each = absurd (omega (arith, many))
+  all_within first (steps ∷ scripts) (came ∷ results) (seat ∷ seats) all many each =
+      parts_within first came results (length seat.said.items) (said_by seats) (said_within first steps seat (each_first first steps scripts seat seats each) came.said came.ending all.0)
+      (all_within (first + 1) scripts results seats all.1 (omega (arith, many)) (each_next first steps scripts seat seats each))
 
   module _ (fresh : Seat) (empty : fresh.said.items ≡ []) (x : ℕ) where
     -- what one caller says more than it has said is in the transcripts too
-    room_within : (first : ℕ) (scripts : List (List Step)) (stories : List Came) (seats : List Seat) (c : ℕ) → Sessions story.opening whole first scripts stories → length seats ≡ length scripts → Each first scripts seats
+    room_within : (first : ℕ) (scripts : List (List Step)) (results : List Came) (seats : List Seat) (c : ℕ) → Sessions story.opening whole first scripts results → length seats ≡ length scripts → Each first scripts seats
         → c < length scripts → ((said : List Word) (ending : Ending) → Session story.opening whole (first + c) (slice_index_or scripts c []) said ending → x ≤ length (transcript story.opening whole said))
-        → x + said_by (set seats c fresh) ≤ length (script_texts story.opening whole first stories)
-    room_within first [] stories seats c all many each less long = absurd (omega (arith, less))
+        → x + said_by (set seats c fresh) ≤ length (script_texts story.opening whole first results)
+    room_within first [] results seats c all many each less long = absurd (omega (arith, less))
     room_within first (steps ∷ scripts) [] seats c all many each less long = absurd all
-    room_within first (steps ∷ scripts) (came ∷ stories) [] c all many each less long = absurd (omega (arith, many))
-    room_within first (steps ∷ scripts) (came ∷ stories) (seat ∷ seats) zero all many each less long =
+    room_within first (steps ∷ scripts) (came ∷ results) [] c all many each less long = absurd (omega (arith, many))
+    room_within first (steps ∷ scripts) (came ∷ results) (seat ∷ seats) zero all many each less long =
         let same : first + 0 ≡ first = omega arith in
         let own = long came.said came.ending (subst (λ (n : ℕ). Session story.opening whole n steps came.said came.ending) (sym same) all.0) in
         let none : length fresh.said.items ≡ 0 = ap length empty in
-        let le = parts_within first came stories x (said_by seats) own (all_within (first + 1) scripts stories seats all.1 (omega (arith, many)) (each_next first steps scripts seat seats each)) in
+        let le = parts_within first came results x (said_by seats) own (all_within (first + 1) scripts results seats all.1 (omega (arith, many)) (each_next first steps scripts seat seats each)) in
         let said : said_by (set (seat ∷ seats) zero fresh) ≡ length fresh.said.items + said_by seats = refl in
         omega (arith, le, none, said)
-    room_within first (steps ∷ scripts) (came ∷ stories) (seat ∷ seats) (suc c) all many each less long =
+    room_within first (steps ∷ scripts) (came ∷ results) (seat ∷ seats) (suc c) all many each less long =
         let same : first + suc c ≡ first + 1 + c = omega arith in
-        let rest = room_within (first + 1) scripts stories seats c all.1 (omega (arith, many)) (each_next first steps scripts seat seats each) (omega (arith, less))
+        let rest = room_within (first + 1) scripts results seats c all.1 (omega (arith, many)) (each_next first steps scripts seat seats each) (omega (arith, less))
         (λ said ending session. long said ending (subst (λ (n : ℕ). Session story.opening whole n (slice_index_or scripts c []) said ending) (sym same) session)) in
-        let le = parts_within first came stories (length seat.said.items) (x + said_by (set seats c fresh))
+        let le = parts_within first came results (length seat.said.items) (x + said_by (set seats c fresh))
         (said_within first steps seat (each_first first steps scripts seat seats each) came.said came.ending all.0) rest in
         let said : said_by (set (seat ∷ seats) (suc c) fresh) ≡ length seat.said.items + said_by (set seats c fresh) = refl in
         omega (arith, le, said)
@@ -187,9 +187,9 @@ too_long_prints old scripts seats report rest most of stand few t history prints
     let left = most - said_by (set seats t.caller t.fresh) in
     let same : 0 + t.caller ≡ t.caller = omega arith in
     let each : Each old goes.0 here.legal 0 scripts seats = λ k d less. let one : k ≡ 0 + k = omega arith in subst (λ (n : ℕ). Stands old n (slice_index_or scripts k []) (slice_index_or seats k d)) one (stand.each k d less) in
-    let room = room_within old goes.0 here.legal t.fresh t.fresh_is (suc left) 0 scripts here.stories seats t.caller here.fit stand.many each t.known
+    let room = room_within old goes.0 here.legal t.fresh t.fresh_is (suc left) 0 scripts here.results seats t.caller here.fit stand.many each t.known
     (λ said ending session. said_long old t.caller (slice_index_or scripts t.caller []) t.seat t.stands left t.says goes.0 here.legal said ending
     (subst (λ (n : ℕ). Session old.opening (old.events ++ goes.0) n (slice_index_or scripts t.caller []) said ending) same session)) in
-    let within = scripts_within old.opening (old.events ++ goes.0) here.stories in
-    let size : length report ≡ length (report_of old.opening (old.events ++ goes.0) here.stories) = ap length here.printed in
+    let within = scripts_within old.opening (old.events ++ goes.0) here.results in
+    let size : length report ≡ length (report_of old.opening (old.events ++ goes.0) here.results) = ap length here.printed in
     omega (arith, room, within, size, few)

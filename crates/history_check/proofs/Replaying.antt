@@ -8,7 +8,7 @@ use Rattle.db_spec.specs.declared.event.Event.{Event}
 use Rattle.db_core.specs.Calls.{Adds, event_of}
 use Rattle.db_core.specs.Story.{Story}
 use Rattle.db_core.proofs.Staying.{still_legal}
-use Rattle.script_spec.specs.Report.{Prints, last_design}
+use Rattle.script_spec.specs.Report.{Prints, head_design}
 use Rattle.script_spec.specs.Texts.{event_text, event_texts, line}
 use Rattle.script_spec.specs.declared.script.Step.{Step}
 use Rattle.history_check_spec.specs.Heads.{behind_events}
@@ -33,21 +33,21 @@ begins_not d scripts report none history prints = let b = begins_history d scrip
 -- ---- what is printed so far
 
 -- one event more is
-behind_here : (d : Design) (seen : List Event) (event : Event) (report rest more : List ℕ) → Legal d (seen ++ event ∷ []) → rest ≡ event_text (last_design d (seen ++ event ∷ [])) (length seen) event ++ more
+behind_here : (d : Design) (seen : List Event) (event : Event) (report rest more : List ℕ) → Legal d (seen ++ event ∷ []) → rest ≡ event_text (head_design d (seen ++ event ∷ [])) (length seen) event ++ more
     → IsBehind (record { opening = d; events = seen }) report rest → IsBehind (record { opening = d; events = seen ++ event ∷ [] }) report more
 behind_here d seen event report rest more legal is behind =
     let h = line (codes "history" ∷ []) in
-    let texts = event_texts (last_design d seen) 0 seen in
-    let one = event_text (last_design d (seen ++ event ∷ [])) (length seen) event in
+    let texts = event_texts (head_design d seen) 0 seen in
+    let one = event_text (head_design d (seen ++ event ∷ [])) (length seen) event in
     behind ∙ ap (λ (z : List ℕ). h ++ (texts ++ z)) is ∙ ap (λ (z : List ℕ). h ++ z) (sym (append_assoc texts one more))
     ∙ ap (λ (z : List ℕ). h ++ (z ++ more)) (sym (texts_one_more d seen event legal))
 
 pub behind_one : (old new : Story) (event : Event) (report rest more : List ℕ) → Legal old.opening old.events → Adds old new event
-    → rest ≡ event_text (last_design new.opening new.events) (length old.events) event ++ more → IsBehind old report rest → IsBehind new report more
+    → rest ≡ event_text (head_design new.opening new.events) (length old.events) event ++ more → IsBehind old report rest → IsBehind new report more
 behind_one old new event report rest more legal adds is behind =
     let story = story_is old new event adds in
     let now = subst (λ (s : Story). Legal s.opening s.events) story (still_legal old new event legal adds) in
-    let text = subst (λ (s : Story). rest ≡ event_text (last_design s.opening s.events) (length old.events) event ++ more) story is in
+    let text = subst (λ (s : Story). rest ≡ event_text (head_design s.opening s.events) (length old.events) event ++ more) story is in
     subst (λ (s : Story). IsBehind s report more) (sym story) (behind_here old.opening old.events event report rest more now text behind)
 
 -- ---- no event is left
@@ -74,34 +74,34 @@ module _ (old : Story) (scripts : List (List Step)) (report rest : List ℕ) (fe
       event = event_of n.caller called.call called.answer
 
       -- the text of the event, by the version that is last then
-      text_here : event_text (last_design new.opening new.events) (length old.events) event ≡ event_text (last_design old.opening old.events) (length old.events) event
+      text_here : event_text (head_design new.opening new.events) (length old.events) event ≡ event_text (head_design old.opening old.events) (length old.events) event
       text_here =
           let now = still_legal old new event legal called.adds in
           let story = story_is old new event called.adds in
-          ap (λ (s : Story). event_text (last_design s.opening s.events) (length old.events) event) story
+          ap (λ (s : Story). event_text (head_design s.opening s.events) (length old.events) event) story
           ∙ event_stays old.opening old.events event [] (length old.events) (subst (λ (s : Story). Legal s.opening s.events) story now)
 
       -- each history that prints the report goes on with the event
       with_event : (history : List Event) (prints : Prints old.opening scripts report history) → (more : List Event) × (history ≡ (old.events ++ event ∷ []) ++ more)
-          × (rest ≡ event_text (last_design new.opening new.events) (length old.events) event ++ (event_texts (last_design old.opening history) (length old.events + 1) more ++ behind_events old.opening history prints.stories))
+          × (rest ≡ event_text (head_design new.opening new.events) (length old.events) event ++ (event_texts (head_design old.opening history) (length old.events + 1) more ++ behind_events old.opening history prints.results))
       with_event history prints =
           let r = called.reached in
           let g = goes_on old.opening old.events scripts report rest small of n.caller n.release heads.more heads.known heads.head heads.release r.phase r.lines r.said r.leads called.call called.answer called.wanted called.adds.admits history prints in
-          (g.0, g.1, g.2 ∙ ap (λ (z : List ℕ). z ++ (event_texts (last_design old.opening history) (length old.events + 1) g.0 ++ behind_events old.opening history prints.stories)) (sym text_here))
+          (g.0, g.1, g.2 ∙ ap (λ (z : List ℕ). z ++ (event_texts (head_design old.opening history) (length old.events + 1) g.0 ++ behind_events old.opening history prints.results)) (sym text_here))
 
       -- the text does not go on with it
-      pub other_prints : ((more : List ℕ) → ¬ (rest ≡ event_text (last_design new.opening new.events) (length old.events) event ++ more)) → PrintsNone new.opening scripts report
+      pub other_prints : ((more : List ℕ) → ¬ (rest ≡ event_text (head_design new.opening new.events) (length old.events) event ++ more)) → PrintsNone new.opening scripts report
       other_prints none =
-          subst (λ (d : Design). PrintsNone d scripts report) (sym called.adds.opening) (λ history prints. let w = with_event history prints in none (event_texts (last_design old.opening history) (length old.events + 1) w.0 ++ behind_events old.opening history prints.stories) w.2)
+          subst (λ (d : Design). PrintsNone d scripts report) (sym called.adds.opening) (λ history prints. let w = with_event history prints in none (event_texts (head_design old.opening history) (length old.events + 1) w.0 ++ behind_events old.opening history prints.results) w.2)
 
       -- it does
-      pub rest_behind : (more : List ℕ) → rest ≡ event_text (last_design new.opening new.events) (length old.events) event ++ more → IsRestOf new scripts report more
+      pub rest_behind : (more : List ℕ) → rest ≡ event_text (head_design new.opening new.events) (length old.events) event ++ more → IsRestOf new scripts report more
       rest_behind more is =
           let long : length (old.events ++ event ∷ []) ≡ length old.events + 1 = length-append old.events (event ∷ []) in
           subst (λ (s : Story). IsRestOf s scripts report more) (sym (story_is old new event called.adds))
           (λ history prints.
           let w = with_event history prints in
-          let behind = behind_events old.opening history prints.stories in
-          let texts : more ≡ event_texts (last_design old.opening history) (length old.events + 1) w.0 ++ behind =
-          append_cancel_left (event_text (last_design new.opening new.events) (length old.events) event) more (event_texts (last_design old.opening history) (length old.events + 1) w.0 ++ behind) (sym is ∙ w.2) in
-          (w.0, w.1, texts ∙ ap (λ (k : ℕ). event_texts (last_design old.opening history) k w.0 ++ behind) (sym long)))
+          let behind = behind_events old.opening history prints.results in
+          let texts : more ≡ event_texts (head_design old.opening history) (length old.events + 1) w.0 ++ behind =
+          append_cancel_left (event_text (head_design new.opening new.events) (length old.events) event) more (event_texts (head_design old.opening history) (length old.events + 1) w.0 ++ behind) (sym is ∙ w.2) in
+          (w.0, w.1, texts ∙ ap (λ (k : ℕ). event_texts (head_design old.opening history) k w.0 ++ behind) (sym long)))

@@ -16,7 +16,7 @@ use Rattle.db_core.specs.Story.{Story, shot, state}
 use Rattle.script_spec.specs.Headline.{CanWalk, HasWalk, SomeWalks}
 use Rattle.script_spec.specs.ScriptText.{Parts, steps_of}
 use Rattle.script_spec.specs.Laws.{OneReport}
-use Rattle.script_spec.specs.Report.{last_design}
+use Rattle.script_spec.specs.Report.{head_design}
 use Rattle.script_spec.specs.Texts.{event_text}
 use Rattle.script_spec.specs.declared.script.ScriptLine.{ScriptLine}
 use Rattle.script_spec.specs.declared.script.Step.{Step}
@@ -310,10 +310,10 @@ module _ (core : Story) (scripts : List Parts) (report rest : List ℕ) (few : l
       abbrev event_here : Event
       event_here = event_of n.caller called.call called.answer
 
-      pub other_so : ((more : List ℕ) → ¬ (rest ≡ event_text (last_design new.opening new.events) (length core.events) event_here ++ more)) → PrintsNone new.opening (all_steps scripts) report
+      pub other_so : ((more : List ℕ) → ¬ (rest ≡ event_text (head_design new.opening new.events) (length core.events) event_here ++ more)) → PrintsNone new.opening (all_steps scripts) report
       other_so none = other_prints core (all_steps scripts) report rest few_steps of n heads new seats called legal none
 
-      pub rest_so : (more : List ℕ) → rest ≡ event_text (last_design new.opening new.events) (length core.events) event_here ++ more → IsRestOf new (all_steps scripts) report more
+      pub rest_so : (more : List ℕ) → rest ≡ event_text (head_design new.opening new.events) (length core.events) event_here ++ more → IsRestOf new (all_steps scripts) report more
       rest_so more is = rest_behind core (all_steps scripts) report rest few_steps of n heads new seats called legal more is
 
 -- ---- a database before its first event
@@ -343,7 +343,7 @@ never_prints_so story scripts report most short never only = never_prints story 
 -- the text is compared with the report of the only history that can print it
 pub compared : OneReport → (story : Story) (d : Design) (scripts : List (List Step)) (texts : List (List ℕ)) (report : List ℕ) → story.opening ≡ d → Legal story.opening story.events
     → All (λ (event : Event). event.caller < length scripts) story.events → AllEnd story 0 scripts texts → PrintsOnly story.opening scripts report story.events
-    → (same : Bool) → (IsTrue same ↔ (report ≡ written_report (last_design story.opening story.events) story.events texts)) → MatchBool same (PrintsSome d scripts report) (PrintsNone d scripts report)
+    → (same : Bool) → (IsTrue same ↔ (report ≡ written_report (head_design story.opening story.events) story.events texts)) → MatchBool same (PrintsSome d scripts report) (PrintsNone d scripts report)
 compared one story d scripts texts report of legal callers all only true is = subst (λ (z : Design). PrintsSome z scripts report) of (prints_some story scripts texts report legal callers all only (is.0 refl))
 compared one story d scripts texts report of legal callers all only false is =
     none_of d story.opening scripts report of (prints_none one story scripts texts report legal callers all only (λ e. absurd (cc (is.1 e))))
@@ -464,20 +464,20 @@ called_so old new scripts n most before seats true is m = m
 called_so old new scripts n most before seats false is m = absurd (cc is)
 
 pub behind_none : {X : Type 0} (now : X → List ℕ) (old new : Story) (scripts : List (List Step)) (n : Next) (seats : List Seat) (called : IsCalled old new scripts n seats) (text : List ℕ) (o : Option X)
-    → ((before : List Event) (event : Event) → new.events ≡ before ++ event ∷ [] → MatchOption o ((more : List ℕ) → ¬ (text ≡ event_text (last_design new.opening new.events) (length before) event ++ more))
-    (λ more. text ≡ event_text (last_design new.opening new.events) (length before) event ++ now more)) → o ≡ None
-    → (more : List ℕ) → ¬ (text ≡ event_text (last_design new.opening new.events) (length old.events) (event_of n.caller called.call called.answer) ++ more)
+    → ((before : List Event) (event : Event) → new.events ≡ before ++ event ∷ [] → MatchOption o ((more : List ℕ) → ¬ (text ≡ event_text (head_design new.opening new.events) (length before) event ++ more))
+    (λ more. text ≡ event_text (head_design new.opening new.events) (length before) event ++ now more)) → o ≡ None
+    → (more : List ℕ) → ¬ (text ≡ event_text (head_design new.opening new.events) (length old.events) (event_of n.caller called.call called.answer) ++ more)
 behind_none now old new scripts n seats called text None all is = all old.events (event_of n.caller called.call called.answer) called.adds.events
 behind_none now old new scripts n seats called text (Some x) all is = absurd (cc is)
 
 pub behind_some : {X : Type 0} (now : X → List ℕ) (old new : Story) (scripts : List (List Step)) (n : Next) (seats : List Seat) (called : IsCalled old new scripts n seats) (text : List ℕ) (o : Option X) (more : X)
-    → ((before : List Event) (event : Event) → new.events ≡ before ++ event ∷ [] → MatchOption o ((more : List ℕ) → ¬ (text ≡ event_text (last_design new.opening new.events) (length before) event ++ more))
-    (λ more. text ≡ event_text (last_design new.opening new.events) (length before) event ++ now more)) → o ≡ Some more
-    → text ≡ event_text (last_design new.opening new.events) (length old.events) (event_of n.caller called.call called.answer) ++ now more
+    → ((before : List Event) (event : Event) → new.events ≡ before ++ event ∷ [] → MatchOption o ((more : List ℕ) → ¬ (text ≡ event_text (head_design new.opening new.events) (length before) event ++ more))
+    (λ more. text ≡ event_text (head_design new.opening new.events) (length before) event ++ now more)) → o ≡ Some more
+    → text ≡ event_text (head_design new.opening new.events) (length old.events) (event_of n.caller called.call called.answer) ++ now more
 behind_some {X} now old new scripts n seats called text o more all is =
     let event = event_of n.caller called.call called.answer in
-    subst (λ (z : Option X). MatchOption z ((more : List ℕ) → ¬ (text ≡ event_text (last_design new.opening new.events) (length old.events) event ++ more))
-    (λ more. text ≡ event_text (last_design new.opening new.events) (length old.events) event ++ now more)) is (all old.events event called.adds.events)
+    subst (λ (z : Option X). MatchOption z ((more : List ℕ) → ¬ (text ≡ event_text (head_design new.opening new.events) (length old.events) event ++ more))
+    (λ more. text ≡ event_text (head_design new.opening new.events) (length old.events) event ++ now more)) is (all old.events event called.adds.events)
 
 -- a top that is lent is there
 pub some_copied : {X : Type 0} (o : Option (Bor X)) (t : Option X) (x : Bor X) → o ≡ Some x → option_copied o ≡ t → t ≡ None → ⊥

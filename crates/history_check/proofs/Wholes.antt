@@ -6,7 +6,7 @@ use Rattle.netlist_schema.specs.Design.{Design}
 use Rattle.edif_spec.specs.Arranged.{canonical_text}
 use Rattle.db_spec.specs.declared.event.Event.{Event}
 use Rattle.db_core.specs.Story.{Story}
-use Rattle.script_spec.specs.Report.{last_design}
+use Rattle.script_spec.specs.Report.{head_design}
 use Rattle.script_spec.specs.Texts.{event_texts, line}
 use Rattle.script_run_spec.specs.Written.{numbered_texts, written_report}
 use Rattle.report_parts.specs.Parts.{rest_text}
@@ -28,10 +28,10 @@ written_parts d history texts =
     ∙ ap (λ (z : List ℕ). h ++ (e ++ z)) (append_assoc n l c)
 
 -- where the rest is compared, the whole is
-pub whole_same : (story : Story) (texts : List (List ℕ)) (report rest : List ℕ) (r : Bool) → IsBehind story report rest → IsTrue r ↔ (rest ≡ rest_text (last_design story.opening story.events) texts)
-    → IsTrue r ↔ (report ≡ written_report (last_design story.opening story.events) story.events texts)
+pub whole_same : (story : Story) (texts : List (List ℕ)) (report rest : List ℕ) (r : Bool) → IsBehind story report rest → IsTrue r ↔ (rest ≡ rest_text (head_design story.opening story.events) texts)
+    → IsTrue r ↔ (report ≡ written_report (head_design story.opening story.events) story.events texts)
 whole_same story texts report rest r behind iff =
-    let d = last_design story.opening story.events in
+    let d = head_design story.opening story.events in
     let h = line (codes "history" ∷ []) in
     let e = event_texts d 0 story.events in
     let parts = written_parts d story.events texts in (

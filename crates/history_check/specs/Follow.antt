@@ -9,7 +9,7 @@ use Rattle.db_spec.specs.declared.event.Call.{Call}
 use Rattle.db_spec.specs.declared.event.Event.{Event}
 use Rattle.db_core.specs.Calls.{Adds, event_of}
 use Rattle.db_core.specs.Story.{Story}
-use Rattle.script_spec.specs.Report.{HasFilled, Prints, Story as Came, last_design, transcript}
+use Rattle.script_spec.specs.Report.{HasFilled, Prints, SessionResult as Came, head_design, transcript}
 use Rattle.script_spec.specs.Session.{Ending, Full, LogFull, Nothing, Session, Whole, Word, exchanges}
 use Rattle.script_spec.specs.Texts.{event_texts, line}
 use Rattle.script_run_spec.specs.Written.{numbered_texts}
@@ -35,11 +35,11 @@ pub record AllStand (story : Story) (scripts : List (List Step)) (seats : List S
 -- each history that prints the report goes on from these events, and the rest of the text is what it prints of that
 abbrev pub IsRestOf : Story → List (List Step) → List ℕ → List ℕ → Type 0
 IsRestOf story scripts report rest = (history : List Event) (prints : Prints story.opening scripts report history)
-    → (more : List Event) × (history ≡ story.events ++ more) × (rest ≡ event_texts (last_design story.opening history) (length story.events) more ++ behind_events story.opening history prints.stories)
+    → (more : List Event) × (history ≡ story.events ++ more) × (rest ≡ event_texts (head_design story.opening history) (length story.events) more ++ behind_events story.opening history prints.results)
 
 -- the report is `history`, these events, and the rest behind them
 abbrev pub IsBehind : Story → List ℕ → List ℕ → Type 0
-IsBehind story report rest = report ≡ line (codes "history" ∷ []) ++ (event_texts (last_design story.opening story.events) 0 story.events ++ rest)
+IsBehind story report rest = report ≡ line (codes "history" ∷ []) ++ (event_texts (head_design story.opening story.events) 0 story.events ++ rest)
 
 -- where a caller stands, by its script and the history so far
 pub record Reached (story : Story) (steps : List Step) (caller : ℕ) : Type 0 where

@@ -3,7 +3,7 @@ ghost use Rattle.std.specs.Prelude.{◌≡◌, ◌++◌, ◌∷◌, ◌<◌, ◌
 ghost use Rattle.std.specs.List.{All};
 ghost use Rattle.db_spec.specs.declared.event.Event.{Event};
 ghost use Rattle.script_spec.specs.Headline.{CanWalk};
-ghost use Rattle.script_spec.specs.Report.{last_design};
+ghost use Rattle.script_spec.specs.Report.{head_design};
 ghost use Rattle.script_spec.specs.Texts.{event_text as text_of_event};
 ghost use Rattle.script_run_spec.specs.Scripts.{all_steps};
 ghost use Rattle.history_check.specs.Follow.{AllStand, CallComes, IsBehind, IsRestOf, said_by};
@@ -97,8 +97,8 @@ fn behind_event<'a>(
     text: &'a [u8],
 ) -> Result<Option<&'a [u8]>, NoMemory>
     ensures { IfOk result (λ rest. (before : List Event) (event : Event) → core.now.events ≡ before ++ event ∷ []
-        → MatchOption rest ((more : List ℕ) → ¬ (text.now ≡ text_of_event (last_design core.now.opening core.now.events) (length before) event ++ more))
-        (λ more. text.now ≡ text_of_event (last_design core.now.opening core.now.events) (length before) event ++ more.now)) }
+        → MatchOption rest ((more : List ℕ) → ¬ (text.now ≡ text_of_event (head_design core.now.opening core.now.events) (length before) event ++ more))
+        (λ more. text.now ≡ text_of_event (head_design core.now.opening core.now.events) (length before) event ++ more.now)) }
 {
     let log = core.log();
     let Some(last) = log.last() else {

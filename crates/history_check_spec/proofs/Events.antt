@@ -5,7 +5,7 @@ use Rattle.db_spec.specs.History.{Legal}
 use Rattle.db_spec.specs.State.{opening}
 use Rattle.db_spec.specs.declared.event.Event.{Event}
 use Rattle.db_spec.proofs.Histories.{legal-left}
-use Rattle.script_spec.specs.Report.{last_design}
+use Rattle.script_spec.specs.Report.{head_design}
 use Rattle.script_spec.specs.Texts.{event_text, event_texts}
 use Rattle.history_check_spec.proofs.Meeting.{event_stays}
 
@@ -21,26 +21,26 @@ texts_push d number (first ∷ events) event =
 
 -- the texts of the last events of a history stay as it goes on
 texts_stay : (d : Design) (before events more : List Event) (number : ℕ) → Legal d (before ++ (events ++ more))
-    → event_texts (last_design d (before ++ (events ++ more))) number events ≡ event_texts (last_design d (before ++ events)) number events
+    → event_texts (head_design d (before ++ (events ++ more))) number events ≡ event_texts (head_design d (before ++ events)) number events
 texts_stay d before [] more number legal = refl
 texts_stay d before (first ∷ events) more number legal =
     let whole : (before ++ first ∷ []) ++ (events ++ more) ≡ before ++ (first ∷ (events ++ more)) = append_assoc before (first ∷ []) (events ++ more) in
     let short : (before ++ first ∷ []) ++ events ≡ before ++ (first ∷ events) = append_assoc before (first ∷ []) events in
     let left : Legal d (before ++ (first ∷ events)) =
     legal-left (opening d) (before ++ (first ∷ events)) more (subst (λ (z : List Event). Legal d z) (sym (append_assoc before (first ∷ events) more)) legal) in
-    let one : event_text (last_design d (before ++ (first ∷ (events ++ more)))) number first ≡ event_text (last_design d (before ++ (first ∷ events))) number first =
+    let one : event_text (head_design d (before ++ (first ∷ (events ++ more)))) number first ≡ event_text (head_design d (before ++ (first ∷ events))) number first =
     event_stays d before first (events ++ more) number legal ∙ sym (event_stays d before first events number left) in
     let deeper = texts_stay d (before ++ first ∷ []) events more (number + 1) (subst (λ (z : List Event). Legal d z) (sym whole) legal) in
-    let others : event_texts (last_design d (before ++ (first ∷ (events ++ more)))) (number + 1) events ≡ event_texts (last_design d (before ++ (first ∷ events))) (number + 1) events =
-    ap (λ (z : List Event). event_texts (last_design d z) (number + 1) events) (sym whole) ∙ deeper ∙ ap (λ (z : List Event). event_texts (last_design d z) (number + 1) events) short in
-    ap (λ (z : List ℕ). z ++ event_texts (last_design d (before ++ (first ∷ (events ++ more)))) (number + 1) events) one
-    ∙ ap (λ (z : List ℕ). event_text (last_design d (before ++ (first ∷ events))) number first ++ z) others
+    let others : event_texts (head_design d (before ++ (first ∷ (events ++ more)))) (number + 1) events ≡ event_texts (head_design d (before ++ (first ∷ events))) (number + 1) events =
+    ap (λ (z : List Event). event_texts (head_design d z) (number + 1) events) (sym whole) ∙ deeper ∙ ap (λ (z : List Event). event_texts (head_design d z) (number + 1) events) short in
+    ap (λ (z : List ℕ). z ++ event_texts (head_design d (before ++ (first ∷ (events ++ more)))) (number + 1) events) one
+    ∙ ap (λ (z : List ℕ). event_text (head_design d (before ++ (first ∷ events))) number first ++ z) others
 
 -- the texts of a history that has one event more
 pub texts_one_more : (d : Design) (seen : List Event) (event : Event) → Legal d (seen ++ event ∷ [])
-    → event_texts (last_design d (seen ++ event ∷ [])) 0 (seen ++ event ∷ []) ≡ event_texts (last_design d seen) 0 seen ++ event_text (last_design d (seen ++ event ∷ [])) (length seen) event
+    → event_texts (head_design d (seen ++ event ∷ [])) 0 (seen ++ event ∷ []) ≡ event_texts (head_design d seen) 0 seen ++ event_text (head_design d (seen ++ event ∷ [])) (length seen) event
 texts_one_more d seen event legal =
-    let last = last_design d (seen ++ event ∷ []) in
+    let last = head_design d (seen ++ event ∷ []) in
     let place : 0 + length seen ≡ length seen = omega arith in
     texts_push last 0 seen event ∙ ap (λ (n : ℕ). event_texts last 0 seen ++ event_text last n event) place
     ∙ ap (λ (z : List ℕ). z ++ event_text last (length seen) event) (texts_stay d [] seen (event ∷ []) 0 legal)

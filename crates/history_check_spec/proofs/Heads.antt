@@ -12,7 +12,7 @@ use Rattle.db_spec.specs.declared.event.Call.{Call}
 use Rattle.db_spec.specs.declared.event.Call.TheVariants.{Pin, PinAt, Release, Collect, Commit}
 use Rattle.db_spec.specs.declared.event.Event.{Event}
 use Rattle.flat_lines_spec.specs.Lines.{spaced}
-use Rattle.script_spec.specs.Report.{Story, last_design, report, script_texts}
+use Rattle.script_spec.specs.Report.{SessionResult, head_design, report, script_texts}
 use Rattle.script_spec.specs.Texts.{answer_words, call_words, event_text, event_texts, line, op_lines, ops_of, replies_of}
 use Rattle.history_check_spec.specs.Heads.{begins_with_r, behind_events, head_text}
 use Rattle.history_check_spec.specs.Left.{is_release}
@@ -111,19 +111,19 @@ no_head number c s y b small e high =
 
 -- ---- what stands behind the events
 
-pub begins_late : (d : Design) (history : List Event) (stories : List Story) → (b : ℕ) × (rest : List ℕ) × (behind_events d history stories ≡ b ∷ rest) × (57 < b)
+pub begins_late : (d : Design) (history : List Event) (results : List SessionResult) → (b : ℕ) × (rest : List ℕ) × (behind_events d history results ≡ b ∷ rest) × (57 < b)
 begins_late d history [] = (100, _, refl, omega arith)
-begins_late d history (story ∷ stories) = (115, _, refl, omega arith)
+begins_late d history (came ∷ results) = (115, _, refl, omega arith)
 
 -- the report, part by part
-pub report_parts : (d : Design) (history : List Event) (stories : List Story)
-    → report d history stories ≡ line (codes "history" ∷ []) ++ (event_texts (last_design d history) 0 history ++ behind_events d history stories)
-report_parts d history stories =
+pub report_parts : (d : Design) (history : List Event) (results : List SessionResult)
+    → report d history results ≡ line (codes "history" ∷ []) ++ (event_texts (head_design d history) 0 history ++ behind_events d history results)
+report_parts d history results =
     let h = line (codes "history" ∷ []) in
-    let e = event_texts (last_design d history) 0 history in
-    let s = script_texts d history 0 stories in
+    let e = event_texts (head_design d history) 0 history in
+    let s = script_texts d history 0 results in
     let l = line (codes "design" ∷ []) in
-    let c = canonical_text (last_design d history) in
+    let c = canonical_text (head_design d history) in
     ap (λ (z : List ℕ). (z ++ l) ++ c) (append_assoc h e s)
     ∙ ap (λ (z : List ℕ). z ++ c) (append_assoc h (e ++ s) l)
     ∙ append_assoc h ((e ++ s) ++ l) c

@@ -3,7 +3,7 @@ use Rattle.std.specs.Prelude.{ℕ, ◌==◌, Bool, false, List, [], ◌∷◌, �
 use Rattle.netlist_schema.specs.Design.{Design}
 use Rattle.edif_spec.specs.Arranged.{canonical_text}
 use Rattle.db_spec.specs.declared.event.Event.{Event}
-use Rattle.script_spec.specs.Report.{Story, last_design, script_texts}
+use Rattle.script_spec.specs.Report.{SessionResult, head_design, script_texts}
 use Rattle.script_spec.specs.Texts.{line}
 
 -- the number of an event, `caller` and its caller, each with a blank behind it
@@ -16,5 +16,5 @@ begins_with_r [] = false
 begins_with_r (b ∷ bytes) = b == 114
 
 -- the transcripts and the last version
-abbrev pub behind_events : Design → List Event → List Story → List ℕ
-behind_events d history stories = script_texts d history 0 stories ++ line (codes "design" ∷ []) ++ canonical_text (last_design d history)
+abbrev pub behind_events : Design → List Event → List SessionResult → List ℕ
+behind_events d history results = script_texts d history 0 results ++ line (codes "design" ∷ []) ++ canonical_text (head_design d history)

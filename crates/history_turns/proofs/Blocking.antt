@@ -18,7 +18,7 @@ use Rattle.db_spec.specs.State.{opening}
 use Rattle.db_core.specs.Calls.{Accepts, Adds, Pins, commit_event, commit_of, event_of}
 use Rattle.db_core.specs.Story.{Story, IsPinOf, state}
 use Rattle.db_core.proofs.Staying.{pinned_there, still_legal}
-use Rattle.script_spec.specs.Report.{last_design, transcript}
+use Rattle.script_spec.specs.Report.{head_design, transcript}
 use Rattle.script_spec.specs.Session.{Began, Committed, Conflict, InBlock, Replied, Told, Word, replied}
 use Rattle.script_spec.specs.Texts.{conflict_words, line, reply_text}
 use Rattle.script_spec.specs.declared.script.Step.{Step}
@@ -28,7 +28,7 @@ use Rattle.script_run_spec.specs.Calls.{Writes}
 use Rattle.script_run_spec.proofs.OneLine.{writes_one}
 use Rattle.history_check_spec.specs.Left.{Again, Between, Leads}
 use Rattle.history_check_spec.proofs.Committing.{accepted_leads, again_leads, conflict_leads, gave_up_leads}
-use Rattle.history_check_spec.proofs.Meeting.{last_grown}
+use Rattle.history_check_spec.proofs.Meeting.{head_grown}
 use Rattle.history_turns.specs.Moves.{Called, IsStuck, Moves, Owed, reply_lines}
 use Rattle.history_turns.specs.Seats.{IsPinBy, behind_conflict, phase_of}
 use Rattle.history_turns.specs.declared.seats.At.{At}
@@ -68,26 +68,26 @@ module _ (old new : Story) (before text : List ℕ) (block : Block) (legal : Leg
 
   -- ---- conflicts
 
-  module _ (object : Object) (w : ℕ) (adds : Adds old new (commit_event block.tx (answer.Conflict object w))) (e : text ≡ before ++ line (conflict_words (last_design new.opening new.events) object w)) where
+  module _ (object : Object) (w : ℕ) (adds : Adds old new (commit_event block.tx (answer.Conflict object w))) (e : text ≡ before ++ line (conflict_words (head_design new.opening new.events) object w)) where
     abbrev event : Event
     event = commit_event block.tx (answer.Conflict object w)
 
     abbrev Then : Story → Type 0
-    Then story = text ≡ before ++ line (conflict_words (last_design story.opening story.events) object w) → Writes story.opening story.events before text (Conflict object w ∷ [])
+    Then story = text ≡ before ++ line (conflict_words (head_design story.opening story.events) object w) → Writes story.opening story.events before text (Conflict object w ∷ [])
 
     names_stay : (more : List Event) → Legal old.opening (old.events ++ more)
-        → line (conflict_words (last_design old.opening (old.events ++ more)) object w) ≡ line (conflict_words (last_design old.opening old.events) object w)
+        → line (conflict_words (head_design old.opening (old.events ++ more)) object w) ≡ line (conflict_words (head_design old.opening old.events) object w)
     names_stay more later =
         let there = conflict_is_there old.opening old.events block.tx.pin.caller block.tx.pin.number block.tx.ops object w adds.admits.answers in
-        ap (λ words. line (codes "conflict" ∷ (words ++ codes "version" ∷ decimal w ∷ []))) (words_stay (last_design old.opening old.events) (last_design old.opening (old.events ++ more)) object (last_grown old.opening old.events more later) there)
+        ap (λ words. line (codes "conflict" ∷ (words ++ codes "version" ∷ decimal w ∷ []))) (words_stay (head_design old.opening old.events) (head_design old.opening (old.events ++ more)) object (head_grown old.opening old.events more later) there)
 
     then_here : Then (record { opening = old.opening; events = old.events ++ event ∷ [] })
     then_here is more later =
         let on : (old.events ++ event ∷ []) ++ more ≡ old.events ++ (event ∷ more) = append_assoc old.events (event ∷ []) more in
         let first = names_stay (event ∷ []) (legal-left (opening old.opening) (old.events ++ event ∷ []) more later) in
         let second = names_stay (event ∷ more) (subst (λ (z : List Event). Legal old.opening z) on later) in
-        let same : line (conflict_words (last_design old.opening (old.events ++ event ∷ [])) object w) ≡ line (conflict_words (last_design old.opening ((old.events ++ event ∷ []) ++ more)) object w) =
-        first ∙ sym second ∙ ap (λ (z : List Event). line (conflict_words (last_design old.opening z) object w)) (sym on) in
+        let same : line (conflict_words (head_design old.opening (old.events ++ event ∷ [])) object w) ≡ line (conflict_words (head_design old.opening ((old.events ++ event ∷ []) ++ more)) object w) =
+        first ∙ sym second ∙ ap (λ (z : List Event). line (conflict_words (head_design old.opening z) object w)) (sym on) in
         is ∙ ap (λ (z : List ℕ). before ++ z) (same ∙ sym (append-nil _))
 
     conflict_writes : Writes new.opening new.events before text (Conflict object w ∷ [])
@@ -100,7 +100,7 @@ module _ (old new : Story) (before text : List ℕ) (block : Block) (legal : Leg
 
 -- by the retries that are left
 pub commit_conflict : (old new : Story) (before text : List ℕ) (tx : TxFacts) (retries : ℕ) → Legal old.opening old.events → IsPinOf old tx.pin → (object : Object) (w : ℕ)
-    → Adds old new (commit_event tx (answer.Conflict object w)) → text ≡ before ++ line (conflict_words (last_design new.opening new.events) object w)
+    → Adds old new (commit_event tx (answer.Conflict object w)) → text ≡ before ++ line (conflict_words (head_design new.opening new.events) object w)
     → Called old new tx.pin.caller false (phase_of (at.InBlock (record { tx = tx; retries = retries }))) step.Commit before text (behind_conflict tx retries)
 commit_conflict old new before text tx zero legal mine object w adds e = record {
   moves = λ lines. record {
@@ -129,7 +129,7 @@ commit_conflict old new before text tx (suc n) legal mine object w adds e = reco
 
 -- the transaction comes back as it was
 pub commit_refused : (old new : Story) (before text : List ℕ) (block : Block) (tx : TxFacts) (next : At) → tx ≡ block.tx → next ≡ behind_conflict tx block.retries → Legal old.opening old.events → IsPinOf old block.tx.pin
-    → (object : Object) (w : ℕ) → Adds old new (commit_event block.tx (answer.Conflict object w)) → text ≡ before ++ line (conflict_words (last_design new.opening new.events) object w)
+    → (object : Object) (w : ℕ) → Adds old new (commit_event block.tx (answer.Conflict object w)) → text ≡ before ++ line (conflict_words (head_design new.opening new.events) object w)
     → Called old new block.tx.pin.caller false (phase_of (at.InBlock block)) step.Commit before text next
 commit_refused old new before text block tx next back is legal mine object w adds e =
     subst (λ (a : At). Called old new block.tx.pin.caller false (phase_of (at.InBlock block)) step.Commit before text a) (sym (is ∙ ap (λ (t : TxFacts). behind_conflict t block.retries) back))

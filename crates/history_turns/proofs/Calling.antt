@@ -13,7 +13,7 @@ use Rattle.db_spec.specs.declared.event.Event.{Event}
 use Rattle.db_core.specs.Calls.{Adds, Pins, Releases, event_of}
 use Rattle.db_core.specs.Story.{Story, state}
 use Rattle.db_core.proofs.Staying.{pin_stays_on}
-use Rattle.script_spec.specs.Report.{last_design, word_text}
+use Rattle.script_spec.specs.Report.{head_design, word_text}
 use Rattle.script_spec.specs.Session.{Abandoned, Began, Collected, Gone, InBlock, LogFull, NoVersion, Nothing, OffPin, OnPin, Pinned, Released, Told, Word}
 use Rattle.script_spec.specs.Texts.{line}
 use Rattle.script_spec.specs.declared.script.Step.{Step}
@@ -76,7 +76,7 @@ others_kept old new event caller (at.Over places) legal adds other mine = tt
 
 module _ (old new : Story) (caller : ℕ) (r : Bool) (before text : List ℕ) where
   -- one line of a word that is the same however the history goes on
-  writes : (said : List ℕ) (word : Word) → ((more : List Event) → word_text (last_design new.opening (new.events ++ more)) (version_at new.opening (new.events ++ more)) word ≡ said)
+  writes : (said : List ℕ) (word : Word) → ((more : List Event) → word_text (head_design new.opening (new.events ++ more)) (version_at new.opening (new.events ++ more)) word ≡ said)
       → text ≡ before ++ said → Writes new.opening new.events before text (word ∷ [])
   writes said word same e = writes_one new.opening new.events before text said word same e
 

@@ -23,7 +23,7 @@ use Rattle.net_classes.specs.Inside.{IsFirstAt}
 use Rattle.net_classes.specs.PortClasses.{AreFactsOf, IsJoint}
 use Rattle.net_classes.specs.declared.joints.Joint.{Joint}
 use Rattle.net_names.specs.Names.{AreHanded, AreNames, AreOwnNames, IsHanded, by_itself, name_in, net_named, through}
-use Rattle.net_names.specs.declared.names.Name.{Name}
+use Rattle.net_names.specs.declared.names.NetName.{NetName}
 
 -- the beginning of a longer path
 take-front : {A : Type 0} (n : ℕ) (xs ys : List A) → n ≤ length xs → take n (xs ++ ys) ≡ take n xs
@@ -53,15 +53,15 @@ module _ (d : Design) (valid : IsValid d) (root : CellId) (path : List ℕ) (c :
       let conn' : Connected d root (at_path path n) (at_path path first) = subst (λ p. Connected d root (at_path p n) (at_path p first)) (append-nil path) conn in
       representative-connected d valid.no_cycle root (at_path path n) (at_path path first) (IsNet-from d root c path first at below) conn'
 
-  module _ (names : List Name) (are : AreNames d root path c names) where
+  module _ (names : List NetName) (are : AreNames d root path c names) where
     -- each net has a name, which is its representative
     pub name_known : (n : ℕ) → IsNet d c (at_root n)
-        → (name : Name) × (name_in names f.firsts n ≡ Some name) × (net_named path name ≡ representative d root (at_path path n)) × (name.depth ≤ length path)
+        → (name : NetName) × (name_in names f.firsts n ≡ Some name) × (net_named path name ≡ representative d root (at_path path n)) × (name.depth ≤ length path)
     name_known n net =
         let first = told.firsts n net in
         let below : first.0 < length names = omega (arith, net_below first.0 (Connected-net d c (at_root n) (at_root first.0) first.2.connected net), are.long) in
-        let none : Name = record { depth = 0; net = 0 } in
-        let name : Name = get_or names first.0 none in
+        let none : NetName = record { depth = 0; net = 0 } in
+        let name : NetName = get_or names first.0 none in
         let is : slice_get names first.0 ≡ Some name = slice_get-get_or names first.0 none below in (
           name,
           ap (option_and_then (slice_get names)) first.1 ∙ is,
@@ -70,17 +70,17 @@ module _ (d : Design) (valid : IsValid d) (root : CellId) (path : List ℕ) (c :
         )
 
 -- at the top each first net is its own representative
-pub own_are_names : (d : Design) (valid : IsValid d) (root : CellId) (names : List Name) → AreOwnNames 0 (length (nets_at d root)) names → AreNames d root [] root names
+pub own_are_names : (d : Design) (valid : IsValid d) (root : CellId) (names : List NetName) → AreOwnNames 0 (length (nets_at d root)) names → AreNames d root [] root names
 own_are_names d valid root names own = record {
   long = own.long;
-  shallow = λ n name is. let same = named n name is in omega (arith, ap (λ (v : Name). v.depth) same);
+  shallow = λ n name is. let same = named n name is in omega (arith, ap (λ (v : NetName). v.depth) same);
   each = λ n name first is.
       let within : n < length (nets_at d root) = omega (arith, slice_get_within names n name is, own.long) in
       let same = named n name is in
       ap (net_named []) same ∙ sym (root_first n within first);
 }
   where
-    named : (n : ℕ) (name : Name) → slice_get names n ≡ Some name → name ≡ record { depth = 0; net = n }
+    named : (n : ℕ) (name : NetName) → slice_get names n ≡ Some name → name ≡ record { depth = 0; net = n }
     named n name is =
         let within : n < length (nets_at d root) = omega (arith, slice_get_within names n name is, own.long) in
         same_Some name (record { depth = 0; net = n }) (sym is ∙ own.each n within)
@@ -94,9 +94,9 @@ own_are_names d valid root names own = record {
 
 -- the names of an inner occurrence
 module _ (d : Design) (valid : IsValid d) (root : CellId) (path : List ℕ) (up cell : CellId) (step : ℕ) (up_at : Reaches d root path up) (step_at : Reaches d up (step ∷ []) cell)
-    (fu fc : CellFacts) (told_up : AreFactsOf d up fu) (told : AreFactsOf d cell fc) (outside : List Name) (are_up : AreNames d root path up outside)
+    (fu fc : CellFacts) (told_up : AreFactsOf d up fu) (told : AreFactsOf d cell fc) (outside : List NetName) (are_up : AreNames d root path up outside)
     (joints : List Joint) (here : (j : Joint) → Contains joints j → IsJoint d up j × (j.inst ≡ step)) (whole : (j : Joint) → IsJoint d up j → j.inst ≡ step → Contains joints j)
-    (names : List Name)
+    (names : List NetName)
     (handed : AreHanded (λ j. first_in fc (record { port = j.port; bit = j.bit })) (name_in outside fu.firsts) (suc (length path)) joints (length (nets_at d cell)) names) where
   reached : Reaches d root (path ++ step ∷ []) cell
   reached = Reaches-append d root up cell path (step ∷ []) up_at step_at
@@ -128,7 +128,7 @@ module _ (d : Design) (valid : IsValid d) (root : CellId) (path : List ℕ) (up 
   long = let e = length-append path (step ∷ []) in omega (arith, e)
 
   -- a name through a joint
-  through_joint : (n : ℕ) (name : Name) → IsNet d cell (at_root n) → IsFirstInside d cell n n → (j : Joint) → Contains joints j
+  through_joint : (n : ℕ) (name : NetName) → IsNet d cell (at_root n) → IsFirstInside d cell n n → (j : Joint) → Contains joints j
       → first_in fc (record { port = j.port; bit = j.bit }) ≡ Some n → name_in outside fu.firsts j.net ≡ Some name
       → net_named (path ++ step ∷ []) name ≡ representative d root (at_path (path ++ step ∷ []) n)
   through_joint n name net n_first j has is given =
@@ -137,7 +137,7 @@ module _ (d : Design) (valid : IsValid d) (root : CellId) (path : List ℕ) (up 
       let m = inside_of j n is has in
       let known = name_known d valid root path up up_at fu told_up outside are_up j.net (Joins-net d up (at_root j.net) _ joins) in
       let same : known.0 ≡ name = same_Some known.0 name (sym known.1 ∙ given) in
-      let shallow : name.depth ≤ length path = subst (λ (v : Name). v.depth ≤ length path) same known.3 in
+      let shallow : name.depth ≤ length path = subst (λ (v : NetName). v.depth ≤ length path) same known.3 in
       let named : net_named path name ≡ representative d root (at_path path j.net) = subst (λ v. net_named path v ≡ representative d root (at_path path j.net)) same known.2 in
       let front : net_named (path ++ step ∷ []) name ≡ net_named path name = ap (λ p. at_path p name.net) (take-front name.depth path (step ∷ []) shallow) in
       let outer = named_by_parent d root (record { parent = path; step = step; cell = cell }) reached valid.no_cycle (λ v. get_or fc.firsts v 0) firsts is_net j.net n net (record {
@@ -149,11 +149,11 @@ module _ (d : Design) (valid : IsValid d) (root : CellId) (path : List ℕ) (up 
       }) in
       front ∙ named ∙ sym outer
 
-  depth_of : (name : Name) (j : Joint) → Contains joints j → name_in outside fu.firsts j.net ≡ Some name → name.depth ≤ length path
+  depth_of : (name : NetName) (j : Joint) → Contains joints j → name_in outside fu.firsts j.net ≡ Some name → name.depth ≤ length path
   depth_of name j has given =
       let joins = (here j has).0 in
       let known = name_known d valid root path up up_at fu told_up outside are_up j.net (Joins-net d up (at_root j.net) _ joins) in
-      subst (λ (v : Name). v.depth ≤ length path) (same_Some known.0 name (sym known.1 ∙ given)) known.3
+      subst (λ (v : NetName). v.depth ≤ length path) (same_Some known.0 name (sym known.1 ∙ given)) known.3
 
   -- where no joint is of the net, no net outside is handed to it
   untouched : (n : ℕ) → IsNet d cell (at_root n) → IsFirstInside d cell n n
@@ -185,7 +185,7 @@ module _ (d : Design) (valid : IsValid d) (root : CellId) (path : List ℕ) (up 
       let same : get_or fc.firsts n 0 ≡ n = firsts-same d cell n n (get_or fc.firsts n 0) n (firsts n net) n_first (Connected-same d cell (at_root n)) in
       ap (λ p. at_path p n) whole_path ∙ sym (rep ∙ ap (at_path (path ++ step ∷ [])) same)
 
-  handed_at : (n : ℕ) (name : Name) → slice_get names n ≡ Some name
+  handed_at : (n : ℕ) (name : NetName) → slice_get names n ≡ Some name
       → (n < length (nets_at d cell)) × IsHanded (λ j. first_in fc (record { port = j.port; bit = j.bit })) (name_in outside fu.firsts) (suc (length path)) joints n name
   handed_at n name is =
       let less : n < length (nets_at d cell) = omega (arith, slice_get_within names n name is, handed.long) in
@@ -193,16 +193,16 @@ module _ (d : Design) (valid : IsValid d) (root : CellId) (path : List ℕ) (up 
       let same : h.0 ≡ name = same_Some h.0 name (sym h.1 ∙ is) in
       (less, subst (λ v. IsHanded (λ j. first_in fc (record { port = j.port; bit = j.bit })) (name_in outside fu.firsts) (suc (length path)) joints n v) same h.2)
 
-  named_at : (n : ℕ) (name : Name) → IsNet d cell (at_root n) → IsFirstInside d cell n n
+  named_at : (n : ℕ) (name : NetName) → IsNet d cell (at_root n) → IsFirstInside d cell n n
       → IsHanded (λ j. first_in fc (record { port = j.port; bit = j.bit })) (name_in outside fu.firsts) (suc (length path)) joints n name
       → net_named (path ++ step ∷ []) name ≡ representative d root (at_path (path ++ step ∷ []) n)
   named_at n name net n_first (by_itself own none) = ap (net_named (path ++ step ∷ [])) own ∙ itself n net n_first none
   named_at n name net n_first (through j has is given) = through_joint n name net n_first j has is given
 
-  shallow_at : (n : ℕ) (name : Name)
+  shallow_at : (n : ℕ) (name : NetName)
       → IsHanded (λ j. first_in fc (record { port = j.port; bit = j.bit })) (name_in outside fu.firsts) (suc (length path)) joints n name
       → name.depth ≤ length (path ++ step ∷ [])
-  shallow_at n name (by_itself own none) = let e = ap (λ (v : Name). v.depth) own in omega (arith, e, long)
+  shallow_at n name (by_itself own none) = let e = ap (λ (v : NetName). v.depth) own in omega (arith, e, long)
   shallow_at n name (through j has is given) = omega (arith, depth_of name j has given, long)
 
   pub handed_are_names : AreNames d root (path ++ step ∷ []) cell names

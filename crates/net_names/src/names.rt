@@ -12,13 +12,13 @@ use std::alloc::Global;
 
 /// A net of an occurrence on the way from the top, by the number of steps that lead to it.
 #[derive(Clone, Copy, Debug, PartialEq, Eq)]
-pub struct Name {
+pub struct NetName {
     pub depth: u32,
     pub net: u32,
 }
 
 /// The name of a net: that of the first net that is connected with it inside. Takes no memory.
-pub fn name_of(names: &[Name], firsts: &[u32], net: u32) -> Option<Name>
+pub fn name_of(names: &[NetName], firsts: &[u32], net: u32) -> Option<NetName>
     ensures { result ≡ name_in names.now firsts.now net }
 {
     let first = *firsts.get(net as usize)?;
@@ -26,12 +26,12 @@ pub fn name_of(names: &[Name], firsts: &[u32], net: u32) -> Option<Name>
 }
 
 /// Each net by itself.
-fn own_names(alloc: Global, depth: u32, count: u32) -> Result<Vec<Name>, NoMemory>
+fn own_names(alloc: Global, depth: u32, count: u32) -> Result<Vec<NetName>, NoMemory>
     ensures { IfOk result (λ names. AreOwnNames depth count names.items) }
 {
     let mut names = Vec::new(alloc);
     for net in 0..count {
-        names.push(Name { depth, net })?;
+        names.push(NetName { depth, net })?;
     }
     Ok(names)
 }
@@ -41,9 +41,9 @@ fn hand_one(
     classes: &Classes,
     cell: CellId,
     joint: &Joint,
-    outside: &[Name],
+    outside: &[NetName],
     firsts: &[u32],
-    names: &mut Vec<Name>,
+    names: &mut Vec<NetName>,
 )
     ensures { IsHandedOne (first_of classes.now cell joint.now) (name_in outside.now firsts.now joint.now.net) names.old.items names.new.items }
 {
@@ -59,7 +59,7 @@ fn hand_one(
 }
 
 /// The names of the nets of the top: each first net inside by itself.
-pub fn top_names<S: Shown>(alloc: Global, design: &S, top: CellId) -> Result<Vec<Name>, NoMemory>
+pub fn top_names<S: Shown>(alloc: Global, design: &S, top: CellId) -> Result<Vec<NetName>, NoMemory>
     ensures { IfOk result (λ names. AreOwnNames 0 (length (nets_at (S.design design.now) top)) names.items) }
 {
     own_names(alloc, 0, net_count(design, top))
@@ -75,9 +75,9 @@ pub fn names_below<S: Shown>(
     cell: CellId,
     depth: u32,
     joints: &[Joint],
-    outside: &[Name],
+    outside: &[NetName],
     firsts: &[u32],
-) -> Result<Vec<Name>, NoMemory>
+) -> Result<Vec<NetName>, NoMemory>
     requires { All (λ j. IsSome (name_in outside.now firsts.now j.net)) joints.now }
     ensures { IfOk result (λ names. AreHanded (first_of classes.now cell) (name_in outside.now firsts.now) depth joints.now (length (nets_at (S.design design.now) cell)) names.items) }
 {
@@ -95,9 +95,9 @@ fn hand_down(
     classes: &Classes,
     cell: CellId,
     joints: &[Joint],
-    outside: &[Name],
+    outside: &[NetName],
     firsts: &[u32],
-    names: &mut Vec<Name>,
+    names: &mut Vec<NetName>,
 )
     requires { All (λ j. IsSome (name_in outside.now firsts.now j.net)) joints.now }
     ensures long { length names.new.items ≡ length names.old.items }

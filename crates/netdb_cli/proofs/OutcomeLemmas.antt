@@ -3,7 +3,7 @@ use Rattle.std.proofs.Common.{◌≡◌, ◌+◌, ◌++◌, ◌∙◌, List, [],
 use Rattle.std.specs.Prelude.{codes}
 use Prim.Native.Nat.{ℕ}
 use Rattle.netlist_schema.specs.Design.{Design}
-use Rattle.netdb_outside.specs.Outside.{SameFiles, Shelf}
+use Rattle.netdb_outside.specs.Outside.{SameFiles, Folder}
 use Rattle.script_spec.specs.declared.script.Step.{Step}
 use Rattle.edif_spec.specs.Files.{IsDesignFile}
 use Rattle.netdb_spec.specs.Command.{Request, Show, Run, Generate, Uses, Check}
@@ -20,7 +20,7 @@ use Rattle.netdb_spec.specs.Output.{output, HasTop}
 use Rattle.netdb_spec.specs.Outcome.{Gives, ReportGives, ScriptsGive}
 
 -- a design that was read stays one, since no file changes
-pub read_stays : (old new : Option Shelf) (name : List ℕ) (d : Design) → SameFiles old new → IsRead old name d → IsRead new name d
+pub read_stays : (old new : Option Folder) (name : List ℕ) (d : Design) → SameFiles old new → IsRead old name d → IsRead new name d
 read_stays old new name d same read = record {
   valid = read.valid;
   reads_back = read.reads_back;
@@ -67,24 +67,24 @@ summary_is_no_fault n old new word result (inl h) is = absurd (cc (sym h.0 ∙ i
 summary_is_no_fault n old new word result (inr h) is = text_is_no_fault h.0 old new word result h.2 is
 
 -- a refusal is no fault in writing
-pub design_is_no_fault : (told : Option Shelf) (name : List ℕ) (result : Status) → RefusesDesign told name result → result ≡ status.WriteFault → ⊥
+pub design_is_no_fault : (told : Option Folder) (name : List ℕ) (result : Status) → RefusesDesign told name result → result ≡ status.WriteFault → ⊥
 design_is_no_fault told name result h is = subst (λ (s : Status). RefusesDesign told name s) is h
 
-pub report_is_no_fault : (told : Option Shelf) (name : List ℕ) (result : Status) → RefusesReport told name result → result ≡ status.WriteFault → ⊥
+pub report_is_no_fault : (told : Option Folder) (name : List ℕ) (result : Status) → RefusesReport told name result → result ≡ status.WriteFault → ⊥
 report_is_no_fault told name result h is = subst (λ (s : Status). RefusesReport told name s) is h
 
-pub scripts_are_no_fault : (told : Option Shelf) (names : List (List ℕ)) (at : ℕ) (result : Status) → RefusesScripts told names at result → result ≡ status.WriteFault → ⊥
+pub scripts_are_no_fault : (told : Option Folder) (names : List (List ℕ)) (at : ℕ) (result : Status) → RefusesScripts told names at result → result ≡ status.WriteFault → ⊥
 scripts_are_no_fault told [] at result h is = h
 scripts_are_no_fault told (name ∷ names) at result (inl h) is = subst (λ (s : Status). RefusesScript told name at s) is h
 scripts_are_no_fault told (name ∷ names) at result (inr h) is = scripts_are_no_fault told names (at + 1) result h.2 is
 
 -- what a command gives is not that its words are none
-scripts_are_words : (told : Option Shelf) (names : List (List ℕ)) (at : ℕ) → RefusesScripts told names at status.Usage → ⊥
+scripts_are_words : (told : Option Folder) (names : List (List ℕ)) (at : ℕ) → RefusesScripts told names at status.Usage → ⊥
 scripts_are_words told [] at h = h
 scripts_are_words told (name ∷ names) at (inl h) = h
 scripts_are_words told (name ∷ names) at (inr h) = scripts_are_words told names (at + 1) h.2
 
-read_are_words : (names : List (List ℕ)) (word : ℕ) (Done : List (List Step) → Type 0) (told : Option Shelf) (old new : Option (List ℕ)) → ((scripts : List (List Step)) → Done scripts → ⊥)
+read_are_words : (names : List (List ℕ)) (word : ℕ) (Done : List (List Step) → Type 0) (told : Option Folder) (old new : Option (List ℕ)) → ((scripts : List (List Step)) → Done scripts → ⊥)
     → ScriptsGive names word Done told old new status.Usage → ⊥
 read_are_words names word Done told old new none (inl h) = scripts_are_words told names word h.0
 read_are_words names word Done told old new none (inr h) = none h.0 h.3
@@ -93,12 +93,12 @@ verdict_is_words : (d : Design) (scripts : List (List Step)) (report : List ℕ)
 verdict_is_words d scripts report old new (inl h) = h.1
 verdict_is_words d scripts report old new (inr h) = h.1
 
-report_is_words : (d : Design) (name : List ℕ) (names : List (List ℕ)) (told : Option Shelf) (old new : Option (List ℕ)) → ReportGives d name names told old new status.Usage → ⊥
+report_is_words : (d : Design) (name : List ℕ) (names : List (List ℕ)) (told : Option Folder) (old new : Option (List ℕ)) → ReportGives d name names told old new status.Usage → ⊥
 report_is_words d name names told old new (inl h) = h.0
 report_is_words d name names told old new (inr h) =
     read_are_words names 3 (λ scripts. CheckGives d scripts h.0 old new status.Usage) told old new (λ scripts gives. verdict_is_words d scripts h.0 old new gives.1) h.2
 
-are_words : (request : Request) (told : Option Shelf) (old new : Option (List ℕ)) → Gives request told old new status.Usage → ⊥
+are_words : (request : Request) (told : Option Folder) (old new : Option (List ℕ)) → Gives request told old new status.Usage → ⊥
 are_words (Show name wanted) told old new (inl h) = h.0
 are_words (Show name wanted) told old new (inr h) = h.3.1
 are_words (Run name names) told old new (inl h) = h.0
@@ -110,7 +110,7 @@ are_words (Check name report names) told old new (inr h) = report_is_words h.0 r
 are_words (Generate n) told old new (inl h) = absurd (cc (h.0))
 are_words (Generate n) told old new (inr h) = h.2
 
-pub never_usage : (request : Request) (told : Option Shelf) (old new : Option (List ℕ)) (result : Status) → Gives request told old new result → result ≡ status.Usage → ⊥
+pub never_usage : (request : Request) (told : Option Folder) (old new : Option (List ℕ)) (result : Status) → Gives request told old new result → result ≡ status.Usage → ⊥
 never_usage request told old new result h is = are_words request told old new (subst (λ (s : Status). Gives request told old new s) is h)
 
 -- nothing was written, and no fault counted

@@ -6,7 +6,7 @@ use Rattle.std.proofs.lemmas.Grind.{take_at_read}
 use Rattle.std.proofs.lemmas.List.{drop_all, length-map, length-take-le, map-append}
 use Rattle.netlist_schema.specs.declared.limits.TheConstants.{MOST_FILE_BYTES}
 use Rattle.netdb_outside.specs.Contents.{IsReadWhole}
-use Rattle.netdb_outside.specs.Outside.{Shelf, SameFiles, file_named}
+use Rattle.netdb_outside.specs.Outside.{Folder, SameFiles, file_named}
 use Rattle.edif_spec.specs.Design.{Design}
 use Rattle.script_run_spec.specs.Scripts.{all_steps}
 use Rattle.script_spec.specs.ScriptText.{Parts, steps_of}
@@ -25,26 +25,26 @@ use Rattle.netdb_spec.specs.declared.status.Status.TheVariants as status
 -- ---- one file
 
 -- what holds of the bytes that were read holds of the file
-pub some_file : (told : Option Shelf) (name bytes : List ℕ) (P : List ℕ → Type 0) → IfSome told (λ shelf. IsReadWhole shelf name bytes) → P bytes → IsFile told name P
+pub some_file : (told : Option Folder) (name bytes : List ℕ) (P : List ℕ → Type 0) → IfSome told (λ folder. IsReadWhole folder name bytes) → P bytes → IsFile told name P
 some_file None name bytes P h p = tt
-some_file (Some shelf) name bytes P h p = rw h.0 p
+some_file (Some folder) name bytes P h p = rw h.0 p
 
-pub read_through : (told : Option Shelf) (name bytes : List ℕ) (limit : ℕ) → length bytes ≤ limit → IfSome told (λ shelf. IsReadWhole shelf name bytes) → IsReadThrough told name limit
+pub read_through : (told : Option Folder) (name bytes : List ℕ) (limit : ℕ) → length bytes ≤ limit → IfSome told (λ folder. IsReadWhole folder name bytes) → IsReadThrough told name limit
 read_through None name bytes limit size h = tt
-read_through (Some shelf) name bytes limit size h = rw h.0 (h.1 ∙ sym (drop_all (limit + 1) bytes (omega (arith, size))))
+read_through (Some folder) name bytes limit size h = rw h.0 (h.1 ∙ sym (drop_all (limit + 1) bytes (omega (arith, size))))
 
 -- so is that of bytes that were read
-pub report_through : (told : Option Shelf) (name : List ℕ) (limit : ℕ) (r : Result (List ℕ) Status) → IfOk r (λ bytes. (length bytes ≤ limit) × IfSome told (λ shelf. IsReadWhole shelf name bytes))
+pub report_through : (told : Option Folder) (name : List ℕ) (limit : ℕ) (r : Result (List ℕ) Status) → IfOk r (λ bytes. (length bytes ≤ limit) × IfSome told (λ folder. IsReadWhole folder name bytes))
     → IfOk r (λ _. IsReadThrough told name limit)
 report_through told name limit (Ok bytes) h = read_through told name bytes limit h.0 h.1
 report_through told name limit (Err result) h = tt
 
 -- a file stays as it is
-pub stays : (old new : Option Shelf) (name : List ℕ) (P : List ℕ → Type 0) → SameFiles old new → IsFile old name P → IsFile new name P
+pub stays : (old new : Option Folder) (name : List ℕ) (P : List ℕ → Type 0) → SameFiles old new → IsFile old name P → IsFile new name P
 stays None None name P same h = tt
-stays None (Some shelf) name P same h = absurd (cc same)
-stays (Some shelf) None name P same h = tt
-stays (Some shelf) (Some other) name P same h = let files : other.files ≡ shelf.files = cc same in subst (λ fs. IsSomeAnd (file_named fs name) P) (sym files) h
+stays None (Some folder) name P same h = absurd (cc same)
+stays (Some folder) None name P same h = tt
+stays (Some folder) (Some other) name P same h = let files : other.files ≡ folder.files = cc same in subst (λ fs. IsSomeAnd (file_named fs name) P) (sym files) h
 
 -- ---- counts
 
@@ -54,14 +54,14 @@ none_counted old new result none same = record { fault = λ word is. absurd (non
 
 -- ---- the design file
 
-pub was_read : (told : Option Shelf) (name bytes : List ℕ) (d : Design) → IfSome told (λ shelf. IsReadWhole shelf name bytes) → IsDesignFile bytes d → IsRead told name d
+pub was_read : (told : Option Folder) (name bytes : List ℕ) (d : Design) → IfSome told (λ folder. IsReadWhole folder name bytes) → IsDesignFile bytes d → IsRead told name d
 was_read told name bytes d h file = record {
   valid = file.means.valid;
   reads_back = reads_back bytes d file;
   file = some_file told name bytes (λ (b : List ℕ). IsDesignFile b d) h file;
 }
 
-pub refused_bytes : (told : Option Shelf) (name bytes : List ℕ) (result : Status) → length bytes ≤ MOST_FILE_BYTES → IfSome told (λ shelf. IsReadWhole shelf name bytes)
+pub refused_bytes : (told : Option Folder) (name bytes : List ℕ) (result : Status) → length bytes ≤ MOST_FILE_BYTES → IfSome told (λ folder. IsReadWhole folder name bytes)
     → IsNoDesign bytes result → RefusesDesign told name result
 refused_bytes told name bytes status.Ok size read h = absurd h
 refused_bytes told name bytes status.Usage size read h = absurd h
@@ -76,7 +76,7 @@ refused_bytes told name bytes status.LogFull size read h = absurd h
 refused_bytes told name bytes status.NoMemory size read h = tt
 
 -- the design that was read from the file with these bytes, or why none was
-pub design_read : (told : Option Shelf) (name bytes : List ℕ) (r : Result Design Status) → length bytes ≤ MOST_FILE_BYTES → IfSome told (λ shelf. IsReadWhole shelf name bytes)
+pub design_read : (told : Option Folder) (name bytes : List ℕ) (r : Result Design Status) → length bytes ≤ MOST_FILE_BYTES → IfSome told (λ folder. IsReadWhole folder name bytes)
     → MatchResult r (IsDesignFile bytes) (IsNoDesign bytes)
     → IfOk r (λ d. IsRead told name d × IsReadThrough told name MOST_FILE_BYTES) × IfErr r (RefusesDesign told name)
 design_read told name bytes (Ok d) size read h = ((was_read told name bytes d read h, read_through told name bytes MOST_FILE_BYTES size read), tt)
@@ -89,7 +89,7 @@ design_counted old new bytes (Err result) h same = none_counted old new result (
 
 -- ---- scripts
 
-pub refused_text : (told : Option Shelf) (name bytes : List ℕ) (at : ℕ) (result : Status) → length bytes ≤ MOST_SCRIPT_BYTES → IfSome told (λ shelf. IsReadWhole shelf name bytes)
+pub refused_text : (told : Option Folder) (name bytes : List ℕ) (at : ℕ) (result : Status) → length bytes ≤ MOST_SCRIPT_BYTES → IfSome told (λ folder. IsReadWhole folder name bytes)
     → IsNoScript bytes at result → RefusesScript told name at result
 refused_text told name bytes at status.Ok size read h = absurd h
 refused_text told name bytes at status.Usage size read h = absurd h
@@ -104,7 +104,7 @@ refused_text told name bytes at status.LogFull size read h = absurd h
 refused_text told name bytes at status.NoMemory size read h = tt
 
 -- the script that was read from the file with this text, or why none was
-pub script_read : (told : Option Shelf) (name bytes : List ℕ) (at : ℕ) (r : Result Parts Status) → length bytes ≤ MOST_SCRIPT_BYTES → IfSome told (λ shelf. IsReadWhole shelf name bytes)
+pub script_read : (told : Option Folder) (name bytes : List ℕ) (at : ℕ) (r : Result Parts Status) → length bytes ≤ MOST_SCRIPT_BYTES → IfSome told (λ folder. IsReadWhole folder name bytes)
     → MatchResult r (λ script. IsScriptFile bytes (steps_of script.lines)) (IsNoScript bytes at)
     → IfOk r (λ script. IsFile told name (λ b. IsScriptFile b (steps_of script.lines)) × IsReadThrough told name MOST_SCRIPT_BYTES) × IfErr r (RefusesScript told name at)
 script_read told name bytes at (Ok script) size read h =
@@ -112,14 +112,14 @@ script_read told name bytes at (Ok script) size read h =
 script_read told name bytes at (Err result) size read h = (tt, refused_text told name bytes at result size read h)
 
 -- scripts stay as they are
-pub all_stay : (old new : Option Shelf) (names : List (List ℕ)) (scripts : List (List Step)) → SameFiles old new → AreRead old names scripts → AreRead new names scripts
+pub all_stay : (old new : Option Folder) (names : List (List ℕ)) (scripts : List (List Step)) → SameFiles old new → AreRead old names scripts → AreRead new names scripts
 all_stay old new [] [] same h = tt
 all_stay old new [] (steps ∷ scripts) same h = absurd h
 all_stay old new (name ∷ names) [] same h = absurd h
 all_stay old new (name ∷ names) (steps ∷ scripts) same h = (stays old new name (λ bytes. IsScriptFile bytes steps) same h.0, all_stay old new names scripts same h.1)
 
 -- one script more
-pub one_more : (told : Option Shelf) (names : List (List ℕ)) (scripts : List (List Step)) (name : List ℕ) (steps : List Step)
+pub one_more : (told : Option Folder) (names : List (List ℕ)) (scripts : List (List Step)) (name : List ℕ) (steps : List Step)
     → AreRead told names scripts → IsFile told name (λ bytes. IsScriptFile bytes steps) → AreRead told (names ++ name ∷ []) (scripts ++ steps ∷ [])
 one_more told [] [] name steps h k = (k, tt)
 one_more told [] (other ∷ scripts) name steps h k = absurd h
@@ -127,7 +127,7 @@ one_more told (other ∷ names) [] name steps h k = absurd h
 one_more told (other ∷ names) (others ∷ scripts) name steps h k = (h.0, one_more told names scripts name steps h.1 k)
 
 -- the file behind those that were read is refused
-pub refused_behind : (told : Option Shelf) (names : List (List ℕ)) (scripts : List (List Step)) (name : List ℕ) (rest : List (List ℕ)) (at : ℕ) (result : Status)
+pub refused_behind : (told : Option Folder) (names : List (List ℕ)) (scripts : List (List Step)) (name : List ℕ) (rest : List (List ℕ)) (at : ℕ) (result : Status)
     → AreRead told names scripts → RefusesScript told name (at + length names) result → RefusesScripts told (names ++ name ∷ rest) at result
 refused_behind told [] [] name rest at result h k = let e : at + 0 ≡ at = omega arith in inl (subst (λ n. RefusesScript told name n result) e k)
 refused_behind told [] (steps ∷ scripts) name rest at result h k = absurd h
@@ -145,7 +145,7 @@ snoc_last [] (b ∷ ys) x y e = absurd (omega (arith, ap length e, length-append
 snoc_last (a ∷ xs) [] x y e = absurd (omega (arith, ap length e, length-append xs (x ∷ [])))
 snoc_last (a ∷ xs) (b ∷ ys) x y e = snoc_last xs ys x y (ap (λ ws. drop 1 ws) e)
 
-last_of : (told : Option Shelf) (names : List (List ℕ)) (name : List ℕ) → IsReadThrough told name MOST_SCRIPT_BYTES → IsLastRead told (names ++ name ∷ [])
+last_of : (told : Option Folder) (names : List (List ℕ)) (name : List ℕ) → IsReadThrough told name MOST_SCRIPT_BYTES → IsLastRead told (names ++ name ∷ [])
 last_of told names name read front last is = subst (λ n. IsReadThrough told n MOST_SCRIPT_BYTES) (snoc_last names front name last is) read
 
 -- the names up to a place and the one there
@@ -155,7 +155,7 @@ names_up_to names i name less is =
     ∙ (map-append string_bytes (take i names) (get_or names i name ∷ []) ∙ ap (λ n. spelled (take i names) ++ string_bytes n ∷ []) (sym is))
 
 -- one script more was read
-pub read_one_more : (old new : Option Shelf) (names : List (String Global)) (i : ℕ) (name : String Global) (scripts : List Parts) (script : Parts) → i < length names → name ≡ get_or names i name
+pub read_one_more : (old new : Option Folder) (names : List (String Global)) (i : ℕ) (name : String Global) (scripts : List Parts) (script : Parts) → i < length names → name ≡ get_or names i name
     → SameFiles old new → AreRead old (spelled (take i names)) (all_steps scripts)
     → IsFile new (string_bytes name) (λ bytes. IsScriptFile bytes (steps_of script.lines)) × IsReadThrough new (string_bytes name) MOST_SCRIPT_BYTES
     → AreRead new (spelled (take (i + 1) names)) (all_steps (scripts ++ script ∷ [])) × IsLastRead new (spelled (take (i + 1) names))
@@ -180,7 +180,7 @@ names_parted names i name less is =
     ∙ (map-append string_bytes (take i names) (get_or names i name ∷ drop (suc i) names) ∙ ap (λ n. spelled (take i names) ++ string_bytes n ∷ spelled (drop (suc i) names)) (sym is))
 
 -- the script at a place is refused
-pub refused_at : (old new : Option Shelf) (names : List (String Global)) (i : ℕ) (name : String Global) (scripts : List Parts) (first : ℕ) (result : Status) → i < length names → name ≡ get_or names i name
+pub refused_at : (old new : Option Folder) (names : List (String Global)) (i : ℕ) (name : String Global) (scripts : List Parts) (first : ℕ) (result : Status) → i < length names → name ≡ get_or names i name
     → SameFiles old new → AreRead old (spelled (take i names)) (all_steps scripts) → RefusesScript new (string_bytes name) (i + first) result → RefusesScripts new (spelled names) first result
 refused_at old new names i name scripts first result less is same read refused =
     let front = spelled (take i names) in

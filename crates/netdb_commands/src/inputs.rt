@@ -19,7 +19,7 @@ ghost use Rattle.netdb_spec.specs.Visits.{Adds, FileReads, StepReads, design_fil
 ghost use Rattle.script_spec.specs.declared.limits.TheConstants.{MOST_SCRIPTS};
 
 use edif_file::{DesignReader, NoDesign};
-use netdb_outside::{Contents, Ended, Files, read_file, read_pieces};
+use netdb_outside::{FileRead, Ended, Files, read_file, read_pieces};
 use netdb_spec::{MOST_REPORT_BYTES, Status};
 use netlist_schema::{Design, MOST_FILE_BYTES, Text};
 use script_reader::{ScriptError, parse};
@@ -40,18 +40,18 @@ fn read_whole<F: Files>(
     word: u32,
     limit: u64,
 ) -> Result<Text, Status>
-    ensures read { IfOk result (λ bytes. (length bytes ≤ limit) × IfSome (F.told files.new) (λ shelf. IsReadWhole shelf name.now bytes)) }
+    ensures read { IfOk result (λ bytes. (length bytes ≤ limit) × IfSome (F.told files.new) (λ folder. IsReadWhole folder name.now bytes)) }
     ensures refused { IfErr result (RefusesFile (F.told files.new) name.now word limit) }
     ensures counts { CountsReading (F.faults files.old) (F.faults files.new) (status_of result) }
     ensures files { SameFiles (F.told files.old) (F.told files.new) }
     ensures visited { AddsVisit (F.visits files.old) (F.visits files.new) (FileReads (record { name = name.now; limit = limit }) word result) }
 {
     match read_file(alloc, files, name, limit) {
-        Contents::Bytes(text) => Ok(text),
-        Contents::TooLarge => Err(Status::TooLarge { word }),
-        Contents::Missing => Err(Status::Missing { word }),
-        Contents::Failed => Err(Status::ReadFault { word }),
-        Contents::NoMemory => Err(Status::NoMemory),
+        FileRead::Bytes(text) => Ok(text),
+        FileRead::TooLarge => Err(Status::TooLarge { word }),
+        FileRead::Missing => Err(Status::Missing { word }),
+        FileRead::Failed => Err(Status::ReadFault { word }),
+        FileRead::NoMemory => Err(Status::NoMemory),
     }
 }
 

@@ -6,12 +6,12 @@ use Rattle.netdb_outside.specs.Visits.{Visit, begun, read_on}
 use Rattle.netdb_outside.specs.declared.files.Got.{Got}
 use Rattle.netdb_outside.specs.declared.files.Opened.{Opened}
 
-pub one_asked : (old new : FilesFacts) (name : List ℕ) (result : Opened) → result ≡ opening (next_fails old) (file_named old.shelf.files name)
-    → new ≡ after_call old (opened_rest (next_fails old) (file_named old.shelf.files name)) → (before : List Visit) → Leads before old → Leads (before ++ begun name result ∷ []) new
+pub one_asked : (old new : FilesFacts) (name : List ℕ) (result : Opened) → result ≡ opening (next_fails old) (file_named old.folder.files name)
+    → new ≡ after_call old (opened_rest (next_fails old) (file_named old.folder.files name)) → (before : List Visit) → Leads before old → Leads (before ++ begun name result ∷ []) new
 one_asked old new name result answer after before led =
     subst (λ (x : Opened × FilesFacts). Leads (before ++ begun name x.0 ∷ []) x.1) (λ i. (sym answer i, sym after i)) (asked before old name led)
 
-pub one_read : (old new : FilesFacts) (size : ℕ) (result : Got) → result ≡ reading (next_fails old) old.shelf.rest size
-    → new ≡ after_call old (read_rest (next_fails old) old.shelf.rest size) → (before : List Visit) (visit : Visit) → Leads (before ++ visit ∷ []) old → Leads (before ++ read_on visit result ∷ []) new
+pub one_read : (old new : FilesFacts) (size : ℕ) (result : Got) → result ≡ reading (next_fails old) old.folder.rest size
+    → new ≡ after_call old (read_rest (next_fails old) old.folder.rest size) → (before : List Visit) (visit : Visit) → Leads (before ++ visit ∷ []) old → Leads (before ++ read_on visit result ∷ []) new
 one_read old new size result answer after before visit led =
     subst (λ (x : Got × FilesFacts). Leads (before ++ read_on visit x.0 ∷ []) x.1) (λ i. (sym answer i, sym after i)) (went_on before visit old size led)

@@ -1,7 +1,7 @@
 -- How far a file was read, piece by piece.
 use Rattle.std.proofs.Common.{◌≡◌, ◌≤◌, ◌<◌, ◌+◌, ◌-◌, ◌∙◌, ℕ, List, [], ◌∷◌, ◌++◌, take, length-take, refl, ap, subst, sym, arith}
 use Rattle.std.specs.Prelude.{Option}
-use Rattle.netdb_outside.specs.Outside.{Shelf}
+use Rattle.netdb_outside.specs.Outside.{Folder}
 use Rattle.netdb_outside.specs.Pieces.{Continues, GoesTo, VisitEnds}
 use Rattle.netdb_outside.specs.Reading.{ReadGives}
 use Rattle.netdb_outside.specs.Visits.{AddsVisit, Going, Visit, begun, read_on}
@@ -29,11 +29,11 @@ pub piece_came : (old new : List Visit → Type 0) (allowed n : ℕ) (answer : G
 piece_came old new allowed n answer is reads = subst (λ (a : Got). Continues old new (GoesTo allowed a)) is (piece_read old new allowed answer reads)
 
 -- as many bytes came as were asked for at most
-few_bytes : (old new : Option Shelf) (buf : List ℕ) (most allowed n : ℕ) → ReadGives old new (take most buf) (got.Bytes n) → most ≤ allowed + 1 → n ≤ allowed + 1
+few_bytes : (old new : Option Folder) (buf : List ℕ) (most allowed n : ℕ) → ReadGives old new (take most buf) (got.Bytes n) → most ≤ allowed + 1 → n ≤ allowed + 1
 few_bytes old new buf most allowed n gives less = omega (arith, gives.1, length-take most buf, less)
 
 -- bytes came, and there was no memory for them
-pub piece_lost : (told told' : Option Shelf) (old new : List Visit → Type 0) (buf : List ℕ) (most allowed n : ℕ) (answer : Got) → answer ≡ got.Bytes n → ReadGives told told' (take most buf) answer → most ≤ allowed + 1
+pub piece_lost : (told told' : Option Folder) (old new : List Visit → Type 0) (buf : List ℕ) (most allowed n : ℕ) (answer : Got) → answer ≡ got.Bytes n → ReadGives told told' (take most buf) answer → most ≤ allowed + 1
     → ((before : List Visit) (visit : Visit) → old (before ++ visit ∷ []) → new (before ++ read_on visit answer ∷ [])) → Continues old new (GoesTo allowed got.NoMemory)
 piece_lost told told' old new buf most allowed n answer is gives less reads before visit start =
     let small : n ≤ allowed + 1 = few_bytes told told' buf most allowed n (subst (λ (a : Got). ReadGives told told' (take most buf) a) is gives) less in

@@ -2,7 +2,7 @@
 use Rattle.std.specs.Prelude.{◌==◌, ◌≤◌, ℕ, min, Bool, true, false, if◌then◌else◌, List, [], ◌∷◌, ◌++◌, length, take, drop, map, Option, Some, None, slice_get, unwrap_or}
 use Rattle.std.specs.Option.{option_map_or}
 use Rattle.std.specs.List.{list_any}
-use Rattle.netdb_outside.specs.Outside.{Shelf, file_named, raised}
+use Rattle.netdb_outside.specs.Outside.{Folder, file_named, raised}
 use Rattle.netdb_outside.specs.Visits.{Visit, begun, read_on}
 use Rattle.netdb_outside.specs.declared.files.Got.{Got}
 use Rattle.netdb_outside.specs.declared.files.Got.TheVariants as got
@@ -13,7 +13,7 @@ use Rattle.netdb_outside.specs.declared.mem_files.Place.{Place}
 
 -- the files and the rest, the numbers of the calls that fail, how many calls were made, and how many faults there were
 pub record FilesFacts : Type 0 where
-  pub shelf : Shelf
+  pub folder : Folder
   pub failing : List ℕ
   pub calls : ℕ
   pub faults : ℕ
@@ -47,7 +47,7 @@ next_fails facts = list_any (λ number. number == raised facts.calls) facts.fail
 -- after one more call, which raises the count of faults where it fails, with this rest
 abbrev pub after_call : FilesFacts → List ℕ → FilesFacts
 after_call facts rest = record {
-  shelf = record { files = facts.shelf.files; rest = rest };
+  folder = record { files = facts.folder.files; rest = rest };
   failing = facts.failing;
   calls = raised facts.calls;
   faults = if next_fails facts then raised facts.faults else facts.faults;
@@ -84,10 +84,10 @@ read_buffer false rest buf = take (length buf) rest ++ drop (length rest) buf
 -- reads of what was asked for last.
 pub data Leads : List Visit → FilesFacts → Type 0 where
   untouched : (files : List (List ℕ × List ℕ)) (failing : List ℕ)
-      → Leads [] (record { shelf = record { files = files; rest = [] }; failing = failing; calls = 0; faults = 0 })
+      → Leads [] (record { folder = record { files = files; rest = [] }; failing = failing; calls = 0; faults = 0 })
   asked : (before : List Visit) (facts : FilesFacts) (name : List ℕ) → Leads before facts
-      → Leads (before ++ begun name (opening (next_fails facts) (file_named facts.shelf.files name)) ∷ [])
-      (after_call facts (opened_rest (next_fails facts) (file_named facts.shelf.files name)))
+      → Leads (before ++ begun name (opening (next_fails facts) (file_named facts.folder.files name)) ∷ [])
+      (after_call facts (opened_rest (next_fails facts) (file_named facts.folder.files name)))
   went_on : (before : List Visit) (visit : Visit) (facts : FilesFacts) (size : ℕ) → Leads (before ++ visit ∷ []) facts
-      → Leads (before ++ read_on visit (reading (next_fails facts) facts.shelf.rest size) ∷ [])
-      (after_call facts (read_rest (next_fails facts) facts.shelf.rest size))
+      → Leads (before ++ read_on visit (reading (next_fails facts) facts.folder.rest size) ∷ [])
+      (after_call facts (read_rest (next_fails facts) facts.folder.rest size))

@@ -11,7 +11,7 @@ abbrev pub raised : ℕ → ℕ
 raised n = min (n + 1) (2 ^ 64 - 1)
 
 -- files, by name with their bytes, and the rest of the one that is being read
-pub record Shelf : Type 0 where
+pub record Folder : Type 0 where
   pub files : List (List ℕ × List ℕ)
   pub rest : List ℕ
 
@@ -20,20 +20,20 @@ abbrev pub file_named : List (List ℕ × List ℕ) → List ℕ → Option (Lis
 file_named files name = option_map (λ file. file.1) (find (λ file. bytes_eq file.0 name) files)
 
 -- the same files are told before and after, or none are
-abbrev pub SameFiles : Option Shelf → Option Shelf → Type 0
-SameFiles old new = option_map (λ shelf. shelf.files) new ≡ option_map (λ shelf. shelf.files) old
+abbrev pub SameFiles : Option Folder → Option Folder → Type 0
+SameFiles old new = option_map (λ folder. folder.files) new ≡ option_map (λ folder. folder.files) old
 
 -- the rest of the file that is being read, where it is told
-abbrev pub rest_told : Option Shelf → Option (List ℕ)
-rest_told told = option_map (λ shelf. shelf.rest) told
+abbrev pub rest_told : Option Folder → Option (List ℕ)
+rest_told told = option_map (λ folder. folder.rest) told
 
 -- these bytes were taken: a rest that is told was these bytes, and behind them the rest that is told now
-abbrev pub Takes : Option Shelf → Option Shelf → List ℕ → Type 0
+abbrev pub Takes : Option Folder → Option Folder → List ℕ → Type 0
 Takes old new bytes = rest_told old ≡ option_map (λ rest. bytes ++ rest) (rest_told new)
 
 -- a rest that is told is empty
-abbrev pub NothingLeft : Option Shelf → Type 0
-NothingLeft told = IfSome told (λ shelf. shelf.rest ≡ [])
+abbrev pub NothingLeft : Option Folder → Type 0
+NothingLeft told = IfSome told (λ folder. folder.rest ≡ [])
 
 -- the bytes stand at the end of what was written, where that is told
 abbrev pub Appends : Option (List ℕ) → Option (List ℕ) → List ℕ → Type 0

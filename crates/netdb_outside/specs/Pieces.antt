@@ -1,7 +1,7 @@
 -- What reading a file in pieces gives to one who takes them. A taker is seen as what it may have taken.
 use Rattle.std.specs.Prelude.{◌≡◌, ℕ, ◌+◌, ◌≤◌, List, [], ◌∷◌, ◌++◌, length, Option, IfSome}
 use Rattle.netdb_outside.specs.Contents.{IsMissing, IsReadPast, IsReadWhole}
-use Rattle.netdb_outside.specs.Outside.{Shelf, Takes, NothingLeft}
+use Rattle.netdb_outside.specs.Outside.{Folder, Takes, NothingLeft}
 use Rattle.netdb_outside.specs.Visits.{AtEnd, Absent, Broken, Going, IsVisit, Visit, read_on}
 use Rattle.netdb_outside.specs.declared.files.Got.{Got}
 use Rattle.netdb_outside.specs.declared.files.Got.TheVariants as got
@@ -13,14 +13,14 @@ abbrev pub TakesIn : (List ℕ → Type 0) → (List ℕ → Type 0) → List �
 TakesIn old new bytes = (before : List ℕ) → old before → new (before ++ bytes)
 
 -- what one more piece gives: at least one byte, and one more than is allowed at most; at the end nothing
-abbrev pub PieceGives : Option Shelf → Option Shelf → (List ℕ → Type 0) → (List ℕ → Type 0) → ℕ → Got → Type 0
+abbrev pub PieceGives : Option Folder → Option Folder → (List ℕ → Type 0) → (List ℕ → Type 0) → ℕ → Got → Type 0
 PieceGives old new took took' allowed (got.Bytes n) = (piece : List ℕ) × (length piece ≡ n) × (1 ≤ n) × (n ≤ allowed + 1) × Takes old new piece × TakesIn took took' piece
 PieceGives old new took took' allowed got.End = NothingLeft old × NothingLeft new × TakesIn took took' []
 PieceGives old new took took' allowed got.Failed = Unit {0}
 PieceGives old new took took' allowed got.NoMemory = Unit {0}
 
 -- what reading on ends by: all of the rest was taken, within the limit; or there is more, of which the bytes up to one past the limit were read
-abbrev pub RestEnds : Option Shelf → Option Shelf → (List ℕ → Type 0) → (List ℕ → Type 0) → ℕ → Ended → Type 0
+abbrev pub RestEnds : Option Folder → Option Folder → (List ℕ → Type 0) → (List ℕ → Type 0) → ℕ → Ended → Type 0
 RestEnds old new took took' limit ends.Whole = (bytes : List ℕ) × (length bytes ≤ limit) × Takes old new bytes × NothingLeft new × TakesIn took took' bytes
 RestEnds old new took took' limit ends.TooLarge = (bytes : List ℕ) × (length bytes ≡ limit + 1) × Takes old new bytes
 RestEnds old new took took' limit ends.Missing = ⊥
@@ -28,10 +28,10 @@ RestEnds old new took took' limit ends.Failed = Unit {0}
 RestEnds old new took took' limit ends.NoMemory = Unit {0}
 
 -- what reading the file of this name ends by: its bytes were taken, within the limit, and, where files are told, what is so of the file
-abbrev pub FileEnds : Option Shelf → List ℕ → (List ℕ → Type 0) → (List ℕ → Type 0) → ℕ → Ended → Type 0
-FileEnds told name took took' limit ends.Whole = (bytes : List ℕ) × (length bytes ≤ limit) × IfSome told (λ shelf. IsReadWhole shelf name bytes) × TakesIn took took' bytes
-FileEnds told name took took' limit ends.TooLarge = IfSome told (λ shelf. IsReadPast shelf name limit)
-FileEnds told name took took' limit ends.Missing = IfSome told (λ shelf. IsMissing shelf name)
+abbrev pub FileEnds : Option Folder → List ℕ → (List ℕ → Type 0) → (List ℕ → Type 0) → ℕ → Ended → Type 0
+FileEnds told name took took' limit ends.Whole = (bytes : List ℕ) × (length bytes ≤ limit) × IfSome told (λ folder. IsReadWhole folder name bytes) × TakesIn took took' bytes
+FileEnds told name took took' limit ends.TooLarge = IfSome told (λ folder. IsReadPast folder name limit)
+FileEnds told name took took' limit ends.Missing = IfSome told (λ folder. IsMissing folder name)
 FileEnds told name took took' limit ends.Failed = Unit {0}
 FileEnds told name took took' limit ends.NoMemory = Unit {0}
 

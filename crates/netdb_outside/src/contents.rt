@@ -12,7 +12,7 @@ use std::alloc::Global;
 
 /// What reading a file within a limit gives.
 #[derive(Debug, Drop)]
-pub enum Contents {
+pub enum FileRead {
     /// All bytes of the file, at most as many as the limit.
     Bytes(Text),
     /// The file has more bytes than the limit.
@@ -48,7 +48,7 @@ impl Taker for Gathered {
 /// only where they are more, and then just the bytes up to one past the limit were read, and `Missing` only where there is
 /// no such file. So a file within the limit gives its bytes unless there was a fault or no memory; after those, part of it
 /// may have been read. Where it is told which files were asked for: this one alone, and as far as the answer says.
-pub fn read_file<F: Files>(alloc: Global, files: &mut F, name: &str, limit: u64) -> Contents
+pub fn read_file<F: Files>(alloc: Global, files: &mut F, name: &str, limit: u64) -> FileRead
     ensures files { SameFiles (F.told files.old) (F.told files.new) }
     ensures gives { FileGives (F.told files.new) name.now limit result }
     ensures failed { result ≡ Contents.Failed → Rose (F.faults files.old) (F.faults files.new) }
@@ -60,10 +60,10 @@ pub fn read_file<F: Files>(alloc: Global, files: &mut F, name: &str, limit: u64)
         bytes: Vec::new(alloc),
     };
     match read_pieces(alloc, files, name, limit, &mut gathered) {
-        Ended::Whole => Contents::Bytes(Text::of(gathered.bytes)),
-        Ended::TooLarge => Contents::TooLarge,
-        Ended::Missing => Contents::Missing,
-        Ended::Failed => Contents::Failed,
-        Ended::NoMemory => Contents::NoMemory,
+        Ended::Whole => FileRead::Bytes(Text::of(gathered.bytes)),
+        Ended::TooLarge => FileRead::TooLarge,
+        Ended::Missing => FileRead::Missing,
+        Ended::Failed => FileRead::Failed,
+        Ended::NoMemory => FileRead::NoMemory,
     }
 }

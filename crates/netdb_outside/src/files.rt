@@ -1,6 +1,6 @@
 //! `Files`: files that can be read.
 ghost use Rattle.std.specs.Prelude.{◌≡◌, ◌≢◌, ◌⊎◌, ℕ, ◌<◌, ◌≤◌, List, [], ◌∷◌, ◌++◌, length, Option, Some, None, IfSome};
-ghost use Rattle.netdb_outside.specs.Outside.{Shelf, SameFiles, NothingLeft, Rose, file_named};
+ghost use Rattle.netdb_outside.specs.Outside.{Folder, SameFiles, NothingLeft, Rose, file_named};
 ghost use Rattle.netdb_outside.specs.Reading.{ReadGives, ReadsOn};
 ghost use Rattle.netdb_outside.specs.Visits.{Visit, begun, read_on};
 
@@ -40,7 +40,7 @@ pub enum Got {
 /// answered. `open_file` adds the file of its name, whatever it answers, and `read` goes on with the last one.
 pub trait Files {
     /// The files, and the rest of the one that is being read, where they are told.
-    ghost told: { Self → Option Shelf };
+    ghost told: { Self → Option Folder };
 
     /// How many faults there were. The count stands still at its type's end.
     ghost faults: { Self → ℕ };
@@ -51,8 +51,8 @@ pub trait Files {
     /// Makes the named file the one that is read, from its first byte. After each answer but `Ready` none is read.
     fn open_file(&mut self, name: &str) -> Opened
         ensures files { SameFiles (told self.old) (told self.new) }
-        ensures ready { result ≡ Opened.Ready → IfSome (told self.new) (λ shelf. file_named shelf.files name.now ≡ Some shelf.rest) }
-        ensures missing { result ≡ Opened.Missing → IfSome (told self.new) (λ shelf. file_named shelf.files name.now ≡ None) }
+        ensures ready { result ≡ Opened.Ready → IfSome (told self.new) (λ folder. file_named folder.files name.now ≡ Some folder.rest) }
+        ensures missing { result ≡ Opened.Missing → IfSome (told self.new) (λ folder. file_named folder.files name.now ≡ None) }
         ensures others { result ≢ Opened.Ready → NothingLeft (told self.new) }
         ensures failed { result ≡ Opened.Failed → Rose (faults self.old) (faults self.new) }
         ensures quiet { (result ≡ Opened.Ready) ⊎ (result ≡ Opened.Missing) → faults self.new ≡ faults self.old }

@@ -16,7 +16,7 @@ mod sink;
 mod write_error;
 
 pub use buffered_sink::{Appended, BufferedSink};
-pub use contents::{Contents, read_file};
+pub use contents::{FileRead, read_file};
 pub use files::{Files, Got, Opened};
 pub use gate::{FreeGate, Gate};
 pub use hold_gate::{Hold, HoldGate};

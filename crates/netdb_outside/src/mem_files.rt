@@ -43,7 +43,7 @@ impl Model for MemFiles {
 
     ghost use Rattle.netdb_outside.specs.MemFiles.{named, rest_from, IsPlaced};
 
-    ghost view = { λ m. record { shelf = record { files = named m.files; rest = rest_from m.files m.place }; failing = m.failing; calls = m.calls; faults = m.faults } };
+    ghost view = { λ m. record { folder = record { files = named m.files; rest = rest_from m.files m.place }; failing = m.failing; calls = m.calls; faults = m.faults } };
 
     ghost invariant = { λ m. IsPlaced m.files m.place };
 }
@@ -53,7 +53,7 @@ impl MemFiles {
     /// no memory.
     pub fn new(files: Row<NamedFile>, failing: Row<u64>) -> MemFiles
         requires { AreDistinct (names files) }
-        ensures { result ≡ record { shelf = record { files = named files; rest = [] }; failing = failing; calls = 0; faults = 0 } }
+        ensures { result ≡ record { folder = record { files = named files; rest = [] }; failing = failing; calls = 0; faults = 0 } }
     {
         MemFiles {
             files,
@@ -67,7 +67,7 @@ impl MemFiles {
     /// Counts a call, and says whether it fails.
     fn count_call(&mut self) -> bool
         ensures fails { result ≡ next_fails self.old }
-        ensures after { self.new ≡ after_call self.old self.old.shelf.rest }
+        ensures after { self.new ≡ after_call self.old self.old.folder.rest }
         ensures never_falls { self.old.faults ≤ self.new.faults }
     {
         self.calls = self.calls.saturating_add(1);
@@ -80,9 +80,9 @@ impl MemFiles {
 
     /// Copies as much as fits of what is left to the front of a buffer, and says how many bytes that were.
     fn copy_next(&mut self, buf: &mut [u8]) -> usize
-        ensures count { result ≡ min (length self.old.shelf.rest) (length buf.old) }
-        ensures copied { buf.new ≡ take (length buf.old) self.old.shelf.rest ++ drop (length self.old.shelf.rest) buf.old }
-        ensures after { self.new ≡ record self.old { shelf = record { files = self.old.shelf.files; rest = drop (length buf.old) self.old.shelf.rest } } }
+        ensures count { result ≡ min (length self.old.folder.rest) (length buf.old) }
+        ensures copied { buf.new ≡ take (length buf.old) self.old.folder.rest ++ drop (length self.old.folder.rest) buf.old }
+        ensures after { self.new ≡ record self.old { folder = record { files = self.old.folder.files; rest = drop (length buf.old) self.old.folder.rest } } }
     {
         let Some(place) = self.place else {
             return 0;
@@ -100,15 +100,15 @@ impl MemFiles {
 impl MemFiles {
     /// Opens a file, as `open_file` does.
     fn open_named(&mut self, name: &str) -> Opened
-        ensures files { SameFiles (Some self.old.shelf) (Some self.new.shelf) }
-        ensures ready { result ≡ Opened.Ready → file_named self.new.shelf.files name.now ≡ Some self.new.shelf.rest }
-        ensures missing { result ≡ Opened.Missing → file_named self.new.shelf.files name.now ≡ None }
-        ensures others { result ≢ Opened.Ready → NothingLeft (Some self.new.shelf) }
+        ensures files { SameFiles (Some self.old.folder) (Some self.new.folder) }
+        ensures ready { result ≡ Opened.Ready → file_named self.new.folder.files name.now ≡ Some self.new.folder.rest }
+        ensures missing { result ≡ Opened.Missing → file_named self.new.folder.files name.now ≡ None }
+        ensures others { result ≢ Opened.Ready → NothingLeft (Some self.new.folder) }
         ensures failed { result ≡ Opened.Failed → Rose self.old.faults self.new.faults }
         ensures quiet { (result ≡ Opened.Ready) ⊎ (result ≡ Opened.Missing) → self.new.faults ≡ self.old.faults }
         ensures never_falls { self.old.faults ≤ self.new.faults }
-        ensures answer { result ≡ opening (next_fails self.old) (file_named self.old.shelf.files name.now) }
-        ensures after { self.new ≡ after_call self.old (opened_rest (next_fails self.old) (file_named self.old.shelf.files name.now)) }
+        ensures answer { result ≡ opening (next_fails self.old) (file_named self.old.folder.files name.now) }
+        ensures after { self.new ≡ after_call self.old (opened_rest (next_fails self.old) (file_named self.old.folder.files name.now)) }
     {
         let fails = self.count_call();
         self.place = None;
@@ -127,14 +127,14 @@ impl MemFiles {
     /// Reads on, as `read` does.
     fn read_next(&mut self, buf: &mut [u8]) -> Got
         requires { 0 < length buf.old }
-        ensures files { SameFiles (Some self.old.shelf) (Some self.new.shelf) }
-        ensures gives { ReadGives (Some self.old.shelf) (Some self.new.shelf) buf.new result }
+        ensures files { SameFiles (Some self.old.folder) (Some self.new.folder) }
+        ensures gives { ReadGives (Some self.old.folder) (Some self.new.folder) buf.new result }
         ensures failed { result ≡ Got.Failed → Rose self.old.faults self.new.faults }
         ensures quiet { ReadsOn result → self.new.faults ≡ self.old.faults }
         ensures never_falls { self.old.faults ≤ self.new.faults }
-        ensures answer { result ≡ reading (next_fails self.old) self.old.shelf.rest (length buf.old) }
-        ensures after { self.new ≡ after_call self.old (read_rest (next_fails self.old) self.old.shelf.rest (length buf.old)) }
-        ensures buffer { buf.new ≡ read_buffer (next_fails self.old) self.old.shelf.rest buf.old }
+        ensures answer { result ≡ reading (next_fails self.old) self.old.folder.rest (length buf.old) }
+        ensures after { self.new ≡ after_call self.old (read_rest (next_fails self.old) self.old.folder.rest (length buf.old)) }
+        ensures buffer { buf.new ≡ read_buffer (next_fails self.old) self.old.folder.rest buf.old }
     {
         if self.count_call() {
             return Got::Failed;
@@ -147,22 +147,22 @@ impl MemFiles {
 }
 
 impl Files for MemFiles {
-    ghost told = { λ m. Some m.shelf };
+    ghost told = { λ m. Some m.folder };
 
     ghost faults = { λ m. m.faults };
 
     ghost visits = { λ m visits. Leads visits m };
 
     fn open_file(&mut self, name: &str) -> Opened
-        ensures files { SameFiles (Some self.old.shelf) (Some self.new.shelf) }
-        ensures ready { result ≡ Opened.Ready → file_named self.new.shelf.files name.now ≡ Some self.new.shelf.rest }
-        ensures missing { result ≡ Opened.Missing → file_named self.new.shelf.files name.now ≡ None }
-        ensures others { result ≢ Opened.Ready → NothingLeft (Some self.new.shelf) }
+        ensures files { SameFiles (Some self.old.folder) (Some self.new.folder) }
+        ensures ready { result ≡ Opened.Ready → file_named self.new.folder.files name.now ≡ Some self.new.folder.rest }
+        ensures missing { result ≡ Opened.Missing → file_named self.new.folder.files name.now ≡ None }
+        ensures others { result ≢ Opened.Ready → NothingLeft (Some self.new.folder) }
         ensures failed { result ≡ Opened.Failed → Rose self.old.faults self.new.faults }
         ensures quiet { (result ≡ Opened.Ready) ⊎ (result ≡ Opened.Missing) → self.new.faults ≡ self.old.faults }
         ensures never_falls { self.old.faults ≤ self.new.faults }
-        ensures answer { result ≡ opening (next_fails self.old) (file_named self.old.shelf.files name.now) }
-        ensures after { self.new ≡ after_call self.old (opened_rest (next_fails self.old) (file_named self.old.shelf.files name.now)) }
+        ensures answer { result ≡ opening (next_fails self.old) (file_named self.old.folder.files name.now) }
+        ensures after { self.new ≡ after_call self.old (opened_rest (next_fails self.old) (file_named self.old.folder.files name.now)) }
         ensures visited { (before : List Visit) → Leads before self.old → Leads (before ++ begun name.now result ∷ []) self.new }
     {
         self.open_named(name)
@@ -170,14 +170,14 @@ impl Files for MemFiles {
 
     fn read(&mut self, buf: &mut [u8]) -> Got
         requires { 0 < length buf.old }
-        ensures files { SameFiles (Some self.old.shelf) (Some self.new.shelf) }
-        ensures gives { ReadGives (Some self.old.shelf) (Some self.new.shelf) buf.new result }
+        ensures files { SameFiles (Some self.old.folder) (Some self.new.folder) }
+        ensures gives { ReadGives (Some self.old.folder) (Some self.new.folder) buf.new result }
         ensures failed { result ≡ Got.Failed → Rose self.old.faults self.new.faults }
         ensures quiet { ReadsOn result → self.new.faults ≡ self.old.faults }
         ensures never_falls { self.old.faults ≤ self.new.faults }
-        ensures answer { result ≡ reading (next_fails self.old) self.old.shelf.rest (length buf.old) }
-        ensures after { self.new ≡ after_call self.old (read_rest (next_fails self.old) self.old.shelf.rest (length buf.old)) }
-        ensures buffer { buf.new ≡ read_buffer (next_fails self.old) self.old.shelf.rest buf.old }
+        ensures answer { result ≡ reading (next_fails self.old) self.old.folder.rest (length buf.old) }
+        ensures after { self.new ≡ after_call self.old (read_rest (next_fails self.old) self.old.folder.rest (length buf.old)) }
+        ensures buffer { buf.new ≡ read_buffer (next_fails self.old) self.old.folder.rest buf.old }
         ensures visited { (before : List Visit) (visit : Visit) → Leads (before ++ visit ∷ []) self.old → Leads (before ++ read_on visit result ∷ []) self.new }
     {
         self.read_next(buf)

@@ -4,11 +4,11 @@ use Prim.Native.Nat.{ℕ, suc}
 use Rattle.std.specs.Prelude.{IfSome, IsSomeAnd, codes, option_map}
 use Rattle.std.specs.List.{All}
 use Rattle.netlist_schema.specs.declared.limits.TheConstants.{MOST_FILE_BYTES}
-use Rattle.netdb_outside.specs.Outside.{Shelf, SameFiles, file_named}
+use Rattle.netdb_outside.specs.Outside.{Folder, SameFiles, file_named}
 use Rattle.edif_spec.specs.Design.{Design}
 use Rattle.script_spec.specs.Headline.{IsFull, IsWhole, RoomSuffices, SomeFull}
 use Rattle.script_spec.specs.Laws.{OneBadLine, ScriptOrBad}
-use Rattle.script_spec.specs.Report.{Story}
+use Rattle.script_spec.specs.Report.{SessionResult}
 use Rattle.script_spec.specs.ScriptText.{Parts, IsFirstBad, steps_of}
 use Rattle.script_spec.specs.Session.{Ending, Whole, Full}
 use Rattle.script_spec.specs.declared.script.Step.{Step}
@@ -81,19 +81,19 @@ small_file (Some bytes) word limit P Within result h f = (λ large. absurd (smal
     small_is_not_large : length bytes ≤ limit → limit < length bytes → ⊥
     small_is_not_large size large = absurd (omega (arith, size, large))
 
-file_refused : (shelf : Shelf) (name : List ℕ) (word limit : ℕ) (Within : List ℕ → Type 0) (result : Status) → RefusesFile (Some shelf) name word limit result
-    → (IsExcuse result → (bytes : List ℕ) → Within bytes) → IsDueOfFile (file_named shelf.files name) word limit Within result
-file_refused shelf name word limit Within status.Ok h all = absurd h
-file_refused shelf name word limit Within status.Usage h all = absurd h
-file_refused shelf name word limit Within (status.Missing w) h all = missing_file (file_named shelf.files name) word limit Within w h.0 h.1
-file_refused shelf name word limit Within (status.ReadFault w) h all = excused_file (file_named shelf.files name) word limit Within (status.ReadFault w) tt (all tt)
-file_refused shelf name word limit Within status.WriteFault h all = absurd h
-file_refused shelf name word limit Within (status.BadEdif fault) h all = absurd h
-file_refused shelf name word limit Within (status.BadScript w line) h all = absurd h
-file_refused shelf name word limit Within (status.TooLarge w) h all = large_file (file_named shelf.files name) word limit Within w h.0 h.1
-file_refused shelf name word limit Within status.NoTop h all = absurd h
-file_refused shelf name word limit Within status.LogFull h all = absurd h
-file_refused shelf name word limit Within status.NoMemory h all = excused_file (file_named shelf.files name) word limit Within status.NoMemory tt (all tt)
+file_refused : (folder : Folder) (name : List ℕ) (word limit : ℕ) (Within : List ℕ → Type 0) (result : Status) → RefusesFile (Some folder) name word limit result
+    → (IsExcuse result → (bytes : List ℕ) → Within bytes) → IsDueOfFile (file_named folder.files name) word limit Within result
+file_refused folder name word limit Within status.Ok h all = absurd h
+file_refused folder name word limit Within status.Usage h all = absurd h
+file_refused folder name word limit Within (status.Missing w) h all = missing_file (file_named folder.files name) word limit Within w h.0 h.1
+file_refused folder name word limit Within (status.ReadFault w) h all = excused_file (file_named folder.files name) word limit Within (status.ReadFault w) tt (all tt)
+file_refused folder name word limit Within status.WriteFault h all = absurd h
+file_refused folder name word limit Within (status.BadEdif fault) h all = absurd h
+file_refused folder name word limit Within (status.BadScript w line) h all = absurd h
+file_refused folder name word limit Within (status.TooLarge w) h all = large_file (file_named folder.files name) word limit Within w h.0 h.1
+file_refused folder name word limit Within status.NoTop h all = absurd h
+file_refused folder name word limit Within status.LogFull h all = absurd h
+file_refused folder name word limit Within status.NoMemory h all = excused_file (file_named folder.files name) word limit Within status.NoMemory tt (all tt)
 
 -- ---- the design file
 
@@ -114,23 +114,23 @@ design_due files name Then d result file holds =
 excused_design : (Then : Design → Type 0) (result : Status) → IsExcuse result → ((d : Design) → Then d) → (bytes : List ℕ) → Asked Then result bytes
 excused_design Then result h all bytes = (λ none. inr h, λ d file. all d)
 
-design_refused : (shelf : Shelf) (name : List ℕ) (Then : Design → Type 0) (result : Status) → RefusesDesign (Some shelf) name result
-    → (IsExcuse result → (d : Design) → Then d) → IsDueOfDesign shelf.files name Then result
-design_refused shelf name Then status.Ok h all = absurd h
-design_refused shelf name Then status.Usage h all = absurd h
-design_refused shelf name Then (status.Missing w) h all = file_refused shelf name 1 MOST_FILE_BYTES (Asked Then (status.Missing w)) (status.Missing w) h (λ none. absurd none)
-design_refused shelf name Then (status.ReadFault w) h all =
-    file_refused shelf name 1 MOST_FILE_BYTES (Asked Then (status.ReadFault w)) (status.ReadFault w) h (λ e. excused_design Then (status.ReadFault w) e (all e))
-design_refused shelf name Then status.WriteFault h all = absurd h
-design_refused shelf name Then (status.BadEdif fault) h all =
-    small_file (file_named shelf.files name) 1 MOST_FILE_BYTES (λ bytes. IsWrong bytes fault) (Asked Then (status.BadEdif fault)) (status.BadEdif fault) h.0
+design_refused : (folder : Folder) (name : List ℕ) (Then : Design → Type 0) (result : Status) → RefusesDesign (Some folder) name result
+    → (IsExcuse result → (d : Design) → Then d) → IsDueOfDesign folder.files name Then result
+design_refused folder name Then status.Ok h all = absurd h
+design_refused folder name Then status.Usage h all = absurd h
+design_refused folder name Then (status.Missing w) h all = file_refused folder name 1 MOST_FILE_BYTES (Asked Then (status.Missing w)) (status.Missing w) h (λ none. absurd none)
+design_refused folder name Then (status.ReadFault w) h all =
+    file_refused folder name 1 MOST_FILE_BYTES (Asked Then (status.ReadFault w)) (status.ReadFault w) h (λ e. excused_design Then (status.ReadFault w) e (all e))
+design_refused folder name Then status.WriteFault h all = absurd h
+design_refused folder name Then (status.BadEdif fault) h all =
+    small_file (file_named folder.files name) 1 MOST_FILE_BYTES (λ bytes. IsWrong bytes fault) (Asked Then (status.BadEdif fault)) (status.BadEdif fault) h.0
     (λ bytes wrong. (λ none. inl tt, λ d file. absurd (not_wrong bytes d fault file wrong)))
-design_refused shelf name Then (status.BadScript w line) h all = absurd h
-design_refused shelf name Then (status.TooLarge w) h all = file_refused shelf name 1 MOST_FILE_BYTES (Asked Then (status.TooLarge w)) (status.TooLarge w) h (λ none. absurd none)
-design_refused shelf name Then status.NoTop h all = absurd h
-design_refused shelf name Then status.LogFull h all = absurd h
-design_refused shelf name Then status.NoMemory h all =
-    file_refused shelf name 1 MOST_FILE_BYTES (Asked Then status.NoMemory) status.NoMemory h (λ e. excused_design Then status.NoMemory e (all e))
+design_refused folder name Then (status.BadScript w line) h all = absurd h
+design_refused folder name Then (status.TooLarge w) h all = file_refused folder name 1 MOST_FILE_BYTES (Asked Then (status.TooLarge w)) (status.TooLarge w) h (λ none. absurd none)
+design_refused folder name Then status.NoTop h all = absurd h
+design_refused folder name Then status.LogFull h all = absurd h
+design_refused folder name Then status.NoMemory h all =
+    file_refused folder name 1 MOST_FILE_BYTES (Asked Then status.NoMemory) status.NoMemory h (λ e. excused_design Then status.NoMemory e (all e))
 
 -- ---- scripts
 
@@ -152,42 +152,42 @@ script_due known files name word Then steps result file holds =
     small_file (file_named files name) word MOST_SCRIPT_BYTES (λ bytes. IsScriptFile bytes steps) (AskedBy word Then result) result (script_sized (file_named files name) steps file)
     (λ bytes h. (λ line bad. absurd (known.apart bytes h.script line h.text bad.1), λ other also. subst Then (one_text bytes steps other h also) holds))
 
-script_refused : Known → (shelf : Shelf) (name : List ℕ) (word : ℕ) (Then : List Step → Type 0) (result : Status) → RefusesScript (Some shelf) name word result
-    → (IsExcuse result → (steps : List Step) → Then steps) → IsDueOfFile (file_named shelf.files name) word MOST_SCRIPT_BYTES (AskedBy word Then result) result
-script_refused known shelf name word Then status.Ok h all = absurd h
-script_refused known shelf name word Then status.Usage h all = absurd h
-script_refused known shelf name word Then (status.Missing w) h all = file_refused shelf name word MOST_SCRIPT_BYTES (AskedBy word Then (status.Missing w)) (status.Missing w) h (λ none. absurd none)
-script_refused known shelf name word Then (status.ReadFault w) h all =
-    file_refused shelf name word MOST_SCRIPT_BYTES (AskedBy word Then (status.ReadFault w)) (status.ReadFault w) h (λ e bytes. (λ line bad. inr e, λ steps file. all e steps))
-script_refused known shelf name word Then status.WriteFault h all = absurd h
-script_refused known shelf name word Then (status.BadEdif fault) h all = absurd h
-script_refused known shelf name word Then (status.BadScript w line) h all =
-    small_file (file_named shelf.files name) word MOST_SCRIPT_BYTES (λ bytes. IsFirstBad bytes line) (AskedBy word Then (status.BadScript w line)) (status.BadScript w line) h.1
+script_refused : Known → (folder : Folder) (name : List ℕ) (word : ℕ) (Then : List Step → Type 0) (result : Status) → RefusesScript (Some folder) name word result
+    → (IsExcuse result → (steps : List Step) → Then steps) → IsDueOfFile (file_named folder.files name) word MOST_SCRIPT_BYTES (AskedBy word Then result) result
+script_refused known folder name word Then status.Ok h all = absurd h
+script_refused known folder name word Then status.Usage h all = absurd h
+script_refused known folder name word Then (status.Missing w) h all = file_refused folder name word MOST_SCRIPT_BYTES (AskedBy word Then (status.Missing w)) (status.Missing w) h (λ none. absurd none)
+script_refused known folder name word Then (status.ReadFault w) h all =
+    file_refused folder name word MOST_SCRIPT_BYTES (AskedBy word Then (status.ReadFault w)) (status.ReadFault w) h (λ e bytes. (λ line bad. inr e, λ steps file. all e steps))
+script_refused known folder name word Then status.WriteFault h all = absurd h
+script_refused known folder name word Then (status.BadEdif fault) h all = absurd h
+script_refused known folder name word Then (status.BadScript w line) h all =
+    small_file (file_named folder.files name) word MOST_SCRIPT_BYTES (λ bytes. IsFirstBad bytes line) (AskedBy word Then (status.BadScript w line)) (status.BadScript w line) h.1
     (λ bytes bad. (λ other also. inl (ap (λ (x : ℕ × ℕ). status.BadScript x.0 x.1) (λ i. (h.0 i, known.once bytes line other bad also.1 i))), λ steps file. absurd (known.apart bytes file.script line file.text bad)))
-script_refused known shelf name word Then (status.TooLarge w) h all = file_refused shelf name word MOST_SCRIPT_BYTES (AskedBy word Then (status.TooLarge w)) (status.TooLarge w) h (λ none. absurd none)
-script_refused known shelf name word Then status.NoTop h all = absurd h
-script_refused known shelf name word Then status.LogFull h all = absurd h
-script_refused known shelf name word Then status.NoMemory h all =
-    file_refused shelf name word MOST_SCRIPT_BYTES (AskedBy word Then status.NoMemory) status.NoMemory h (λ e bytes. (λ line bad. inr e, λ steps file. all e steps))
+script_refused known folder name word Then (status.TooLarge w) h all = file_refused folder name word MOST_SCRIPT_BYTES (AskedBy word Then (status.TooLarge w)) (status.TooLarge w) h (λ none. absurd none)
+script_refused known folder name word Then status.NoTop h all = absurd h
+script_refused known folder name word Then status.LogFull h all = absurd h
+script_refused known folder name word Then status.NoMemory h all =
+    file_refused folder name word MOST_SCRIPT_BYTES (AskedBy word Then status.NoMemory) status.NoMemory h (λ e bytes. (λ line bad. inr e, λ steps file. all e steps))
 
-scripts_refused : Known → (shelf : Shelf) (Then : List (List Step) → Type 0) (before : List (List Step)) (names : List (List ℕ)) (word : ℕ) (result : Status) → RefusesScripts (Some shelf) names word result
-    → (IsExcuse result → (scripts : List (List Step)) → Then scripts) → AreDueOf shelf.files Then before names word result
-scripts_refused known shelf Then before [] word result h all = absurd h
-scripts_refused known shelf Then before (name ∷ names) word result (inl h) all =
-    script_refused known shelf name word (λ steps. AreDueOf shelf.files Then (before ++ steps ∷ []) names (word + 1) result) result h
-    (λ e steps. excused_scripts shelf.files Then (before ++ steps ∷ []) names (word + 1) result e (all e))
-scripts_refused known shelf Then before (name ∷ names) word result (inr h) all =
-    script_due known shelf.files name word (λ steps. AreDueOf shelf.files Then (before ++ steps ∷ []) names (word + 1) result) h.0 result h.1
-    (scripts_refused known shelf Then (before ++ h.0 ∷ []) names (word + 1) result h.2 all)
+scripts_refused : Known → (folder : Folder) (Then : List (List Step) → Type 0) (before : List (List Step)) (names : List (List ℕ)) (word : ℕ) (result : Status) → RefusesScripts (Some folder) names word result
+    → (IsExcuse result → (scripts : List (List Step)) → Then scripts) → AreDueOf folder.files Then before names word result
+scripts_refused known folder Then before [] word result h all = absurd h
+scripts_refused known folder Then before (name ∷ names) word result (inl h) all =
+    script_refused known folder name word (λ steps. AreDueOf folder.files Then (before ++ steps ∷ []) names (word + 1) result) result h
+    (λ e steps. excused_scripts folder.files Then (before ++ steps ∷ []) names (word + 1) result e (all e))
+scripts_refused known folder Then before (name ∷ names) word result (inr h) all =
+    script_due known folder.files name word (λ steps. AreDueOf folder.files Then (before ++ steps ∷ []) names (word + 1) result) h.0 result h.1
+    (scripts_refused known folder Then (before ++ h.0 ∷ []) names (word + 1) result h.2 all)
 
-scripts_read : Known → (shelf : Shelf) (Then : List (List Step) → Type 0) (before : List (List Step)) (names : List (List ℕ)) (scripts : List (List Step)) (word : ℕ) (result : Status) → AreRead (Some shelf) names scripts
-    → Then (before ++ scripts) → AreDueOf shelf.files Then before names word result
-scripts_read known shelf Then before [] [] word result h due = subst Then (append-nil before) due
-scripts_read known shelf Then before [] (steps ∷ scripts) word result h due = absurd h
-scripts_read known shelf Then before (name ∷ names) [] word result h due = absurd h
-scripts_read known shelf Then before (name ∷ names) (steps ∷ scripts) word result h due =
-    script_due known shelf.files name word (λ steps. AreDueOf shelf.files Then (before ++ steps ∷ []) names (word + 1) result) steps result h.0
-    (scripts_read known shelf Then (before ++ steps ∷ []) names scripts (word + 1) result h.1 (subst Then (sym (append_assoc before (steps ∷ []) scripts)) due))
+scripts_read : Known → (folder : Folder) (Then : List (List Step) → Type 0) (before : List (List Step)) (names : List (List ℕ)) (scripts : List (List Step)) (word : ℕ) (result : Status) → AreRead (Some folder) names scripts
+    → Then (before ++ scripts) → AreDueOf folder.files Then before names word result
+scripts_read known folder Then before [] [] word result h due = subst Then (append-nil before) due
+scripts_read known folder Then before [] (steps ∷ scripts) word result h due = absurd h
+scripts_read known folder Then before (name ∷ names) [] word result h due = absurd h
+scripts_read known folder Then before (name ∷ names) (steps ∷ scripts) word result h due =
+    script_due known folder.files name word (λ steps. AreDueOf folder.files Then (before ++ steps ∷ []) names (word + 1) result) steps result h.0
+    (scripts_read known folder Then (before ++ steps ∷ []) names scripts (word + 1) result h.1 (subst Then (sym (append_assoc before (steps ∷ []) scripts)) due))
 
 -- ---- what was written
 
@@ -205,14 +205,14 @@ output_due wanted d old new status.LogFull h = absurd h.1
 output_due wanted d old new status.NoMemory h = excused_output wanted d status.NoMemory tt
 
 -- no script that ended by its last line met a full log
-not_full : (stories : List Story) → All (λ story. IsWhole story.ending) stories → SomeFull stories → ⊥
+not_full : (results : List SessionResult) → All (λ came. IsWhole came.ending) results → SomeFull results → ⊥
 not_full [] whole full = full
-not_full (story ∷ stories) whole (inl full) = whole_is_not_full story.ending (whole 0 story (omega arith)) full
+not_full (came ∷ results) whole (inl full) = whole_is_not_full came.ending (whole 0 came (omega arith)) full
   where
     whole_is_not_full : (ending : Ending) → IsWhole ending → IsFull ending → ⊥
     whole_is_not_full Whole h full = full
     whole_is_not_full (Full places) h full = absurd (cc h)
-not_full (story ∷ stories) whole (inr full) = not_full stories (λ k x less. whole (suc k) x (omega (arith, less))) full
+not_full (came ∷ results) whole (inr full) = not_full results (λ k x less. whole (suc k) x (omega (arith, less))) full
 
 run_due : Known → (d : Design) (scripts : List (List Step)) (old new : Option (List ℕ)) (result : Status) → RunGives d scripts old new result → IsDueOfRun d scripts result
 run_due known d scripts old new status.Ok h = record { no_top = λ some none. absurd (h.0 some none); served = λ can room. inr (inl refl); run = λ can. inr (inr (inl refl)) }
@@ -227,7 +227,7 @@ run_due known d scripts old new status.NoTop h = record { no_top = λ some none.
 run_due known d scripts old new status.LogFull h =
     let report = h.1.1.report in record {
       no_top = λ some none. absurd (h.0 some none);
-      served = λ can room. absurd (not_full report.prints.stories (known.room d scripts h.1.0 report.history room report.prints) report.full);
+      served = λ can room. absurd (not_full report.prints.results (known.room d scripts h.1.0 report.history room report.prints) report.full);
       run = λ can. inl refl;
     }
 run_due known d scripts old new status.NoMemory h = excused_run d scripts status.NoMemory tt
@@ -246,7 +246,7 @@ uses_due known d scripts old new status.LogFull h =
     let uses = h.1.1 in
     let report = uses.told.report in record {
       no_top = λ some none. absurd (h.0 some none);
-      served = λ can room. absurd (not_full report.prints.stories (known.room d scripts uses.report report.history room report.prints) report.full);
+      served = λ can room. absurd (not_full report.prints.results (known.room d scripts uses.report report.history room report.prints) report.full);
       run = λ can. inl refl;
     }
 uses_due known d scripts old new status.NoMemory h = excused_run d scripts status.NoMemory tt
@@ -288,33 +288,33 @@ summary_due n old new result (inr h) = go result h.2
 
 -- ---- a request
 
-show_due : (shelf : Shelf) (name : List ℕ) (wanted : Wanted) (old new : Option (List ℕ)) (result : Status) → Gives (Show name wanted) (Some shelf) old new result
-    → IsDueOfDesign shelf.files name (λ d. IsDueOf wanted d result) result
-show_due shelf name wanted old new result (inl h) = design_refused shelf name (λ d. IsDueOf wanted d result) result h.0 (λ e d. excused_output wanted d result e)
-show_due shelf name wanted old new result (inr h) = design_due shelf.files name (λ d. IsDueOf wanted d result) h.0 result h.1.file (output_due wanted h.0 old new result h.3)
+show_due : (folder : Folder) (name : List ℕ) (wanted : Wanted) (old new : Option (List ℕ)) (result : Status) → Gives (Show name wanted) (Some folder) old new result
+    → IsDueOfDesign folder.files name (λ d. IsDueOf wanted d result) result
+show_due folder name wanted old new result (inl h) = design_refused folder name (λ d. IsDueOf wanted d result) result h.0 (λ e d. excused_output wanted d result e)
+show_due folder name wanted old new result (inr h) = design_due folder.files name (λ d. IsDueOf wanted d result) h.0 result h.1.file (output_due wanted h.0 old new result h.3)
 
 -- scripts of a request ask for what their outcome is
-read_due : Known → (shelf : Shelf) (Then Done : List (List Step) → Type 0) (names : List (List ℕ)) (word : ℕ) (old new : Option (List ℕ)) (result : Status) → (IsExcuse result → (scripts : List (List Step)) → Then scripts)
-    → ((scripts : List (List Step)) → Done scripts → Then scripts) → ScriptsGive names word Done (Some shelf) old new result → AreDueOf shelf.files Then [] names word result
-read_due known shelf Then Done names word old new result excused due (inl h) = scripts_refused known shelf Then [] names word result h.0 excused
-read_due known shelf Then Done names word old new result excused due (inr h) = scripts_read known shelf Then [] names h.0 word result h.1 (due h.0 h.3)
+read_due : Known → (folder : Folder) (Then Done : List (List Step) → Type 0) (names : List (List ℕ)) (word : ℕ) (old new : Option (List ℕ)) (result : Status) → (IsExcuse result → (scripts : List (List Step)) → Then scripts)
+    → ((scripts : List (List Step)) → Done scripts → Then scripts) → ScriptsGive names word Done (Some folder) old new result → AreDueOf folder.files Then [] names word result
+read_due known folder Then Done names word old new result excused due (inl h) = scripts_refused known folder Then [] names word result h.0 excused
+read_due known folder Then Done names word old new result excused due (inr h) = scripts_read known folder Then [] names h.0 word result h.1 (due h.0 h.3)
 
-run_asks : Known → (shelf : Shelf) (name : List ℕ) (names : List (List ℕ)) (old new : Option (List ℕ)) (result : Status) → Gives (Run name names) (Some shelf) old new result → IsDueIn shelf.files (Run name names) result
-run_asks known shelf name names old new result (inl h) =
-    design_refused shelf name (λ d. AreDueOf shelf.files (λ scripts. IsDueOfRun d scripts result) [] names 2 result) result h.0
-    (λ e d. excused_scripts shelf.files (λ scripts. IsDueOfRun d scripts result) [] names 2 result e (λ scripts. excused_run d scripts result e))
-run_asks known shelf name names old new result (inr h) =
-    design_due shelf.files name (λ d. AreDueOf shelf.files (λ scripts. IsDueOfRun d scripts result) [] names 2 result) h.0 result h.1.file
-    (read_due known shelf (λ scripts. IsDueOfRun h.0 scripts result) (λ scripts. RunGives h.0 scripts old new result) names 2 old new result (λ e scripts. excused_run h.0 scripts result e)
+run_asks : Known → (folder : Folder) (name : List ℕ) (names : List (List ℕ)) (old new : Option (List ℕ)) (result : Status) → Gives (Run name names) (Some folder) old new result → IsDueIn folder.files (Run name names) result
+run_asks known folder name names old new result (inl h) =
+    design_refused folder name (λ d. AreDueOf folder.files (λ scripts. IsDueOfRun d scripts result) [] names 2 result) result h.0
+    (λ e d. excused_scripts folder.files (λ scripts. IsDueOfRun d scripts result) [] names 2 result e (λ scripts. excused_run d scripts result e))
+run_asks known folder name names old new result (inr h) =
+    design_due folder.files name (λ d. AreDueOf folder.files (λ scripts. IsDueOfRun d scripts result) [] names 2 result) h.0 result h.1.file
+    (read_due known folder (λ scripts. IsDueOfRun h.0 scripts result) (λ scripts. RunGives h.0 scripts old new result) names 2 old new result (λ e scripts. excused_run h.0 scripts result e)
     (λ scripts gives. run_due known h.0 scripts old new result gives) h.2)
 
-uses_ask : Known → (shelf : Shelf) (name : List ℕ) (names : List (List ℕ)) (old new : Option (List ℕ)) (result : Status) → Gives (Uses name names) (Some shelf) old new result → IsDueIn shelf.files (Uses name names) result
-uses_ask known shelf name names old new result (inl h) =
-    design_refused shelf name (λ d. AreDueOf shelf.files (λ scripts. IsDueOfRun d scripts result) [] names 2 result) result h.0
-    (λ e d. excused_scripts shelf.files (λ scripts. IsDueOfRun d scripts result) [] names 2 result e (λ scripts. excused_run d scripts result e))
-uses_ask known shelf name names old new result (inr h) =
-    design_due shelf.files name (λ d. AreDueOf shelf.files (λ scripts. IsDueOfRun d scripts result) [] names 2 result) h.0 result h.1.file
-    (read_due known shelf (λ scripts. IsDueOfRun h.0 scripts result) (λ scripts. UsesGive h.0 scripts old new result) names 2 old new result (λ e scripts. excused_run h.0 scripts result e)
+uses_ask : Known → (folder : Folder) (name : List ℕ) (names : List (List ℕ)) (old new : Option (List ℕ)) (result : Status) → Gives (Uses name names) (Some folder) old new result → IsDueIn folder.files (Uses name names) result
+uses_ask known folder name names old new result (inl h) =
+    design_refused folder name (λ d. AreDueOf folder.files (λ scripts. IsDueOfRun d scripts result) [] names 2 result) result h.0
+    (λ e d. excused_scripts folder.files (λ scripts. IsDueOfRun d scripts result) [] names 2 result e (λ scripts. excused_run d scripts result e))
+uses_ask known folder name names old new result (inr h) =
+    design_due folder.files name (λ d. AreDueOf folder.files (λ scripts. IsDueOfRun d scripts result) [] names 2 result) h.0 result h.1.file
+    (read_due known folder (λ scripts. IsDueOfRun h.0 scripts result) (λ scripts. UsesGive h.0 scripts old new result) names 2 old new result (λ e scripts. excused_run h.0 scripts result e)
     (λ scripts gives. uses_due known h.0 scripts old new result gives) h.2)
 
 -- a report that is there is within its limit
@@ -322,69 +322,69 @@ report_there : (found : Option (List ℕ)) (report : List ℕ) → length report
 report_there None report size h = h
 report_there (Some bytes) report size h = (omega (arith, size, ap length h), h)
 
-report_asks : Known → (shelf : Shelf) (d : Design) (name : List ℕ) (names : List (List ℕ)) (old new : Option (List ℕ)) (result : Status) → ReportGives d name names (Some shelf) old new result
-    → IsDueOfReport shelf.files d name names result
-report_asks known shelf d name names old new result (inl h) =
-    file_refused shelf name 2 MOST_REPORT_BYTES (λ bytes. AreDueOf shelf.files (λ scripts. IsDueOfCheck d scripts result) [] names 3 result) result h.0
-    (λ e bytes. excused_scripts shelf.files (λ scripts. IsDueOfCheck d scripts result) [] names 3 result e (λ scripts. excused_check d scripts result e))
-report_asks known shelf d name names old new result (inr h) =
-    small_file (file_named shelf.files name) 2 MOST_REPORT_BYTES (λ bytes. bytes ≡ h.0) (λ bytes. AreDueOf shelf.files (λ scripts. IsDueOfCheck d scripts result) [] names 3 result) result
-    (report_there (file_named shelf.files name) h.0 h.1.0 h.1.1)
-    (λ bytes is. read_due known shelf (λ scripts. IsDueOfCheck d scripts result) (λ scripts. CheckGives d scripts h.0 old new result) names 3 old new result (λ e scripts. excused_check d scripts result e)
+report_asks : Known → (folder : Folder) (d : Design) (name : List ℕ) (names : List (List ℕ)) (old new : Option (List ℕ)) (result : Status) → ReportGives d name names (Some folder) old new result
+    → IsDueOfReport folder.files d name names result
+report_asks known folder d name names old new result (inl h) =
+    file_refused folder name 2 MOST_REPORT_BYTES (λ bytes. AreDueOf folder.files (λ scripts. IsDueOfCheck d scripts result) [] names 3 result) result h.0
+    (λ e bytes. excused_scripts folder.files (λ scripts. IsDueOfCheck d scripts result) [] names 3 result e (λ scripts. excused_check d scripts result e))
+report_asks known folder d name names old new result (inr h) =
+    small_file (file_named folder.files name) 2 MOST_REPORT_BYTES (λ bytes. bytes ≡ h.0) (λ bytes. AreDueOf folder.files (λ scripts. IsDueOfCheck d scripts result) [] names 3 result) result
+    (report_there (file_named folder.files name) h.0 h.1.0 h.1.1)
+    (λ bytes is. read_due known folder (λ scripts. IsDueOfCheck d scripts result) (λ scripts. CheckGives d scripts h.0 old new result) names 3 old new result (λ e scripts. excused_check d scripts result e)
     (λ scripts gives. check_due d scripts h.0 old new result gives) h.2)
 
-check_asks : Known → (shelf : Shelf) (name report : List ℕ) (names : List (List ℕ)) (old new : Option (List ℕ)) (result : Status) → Gives (Check name report names) (Some shelf) old new result
-    → IsDueIn shelf.files (Check name report names) result
-check_asks known shelf name report names old new result (inl h) =
-    design_refused shelf name (λ d. IsDueOfReport shelf.files d report names result) result h.0 (λ e d. excused_report shelf.files d report names result e)
-check_asks known shelf name report names old new result (inr h) =
-    design_due shelf.files name (λ d. IsDueOfReport shelf.files d report names result) h.0 result h.1.file (report_asks known shelf h.0 report names old new result h.2)
+check_asks : Known → (folder : Folder) (name report : List ℕ) (names : List (List ℕ)) (old new : Option (List ℕ)) (result : Status) → Gives (Check name report names) (Some folder) old new result
+    → IsDueIn folder.files (Check name report names) result
+check_asks known folder name report names old new result (inl h) =
+    design_refused folder name (λ d. IsDueOfReport folder.files d report names result) result h.0 (λ e d. excused_report folder.files d report names result e)
+check_asks known folder name report names old new result (inr h) =
+    design_due folder.files name (λ d. IsDueOfReport folder.files d report names result) h.0 result h.1.file (report_asks known folder h.0 report names old new result h.2)
 
-due_now : Known → (told : Option Shelf) (request : Request) (old new : Option (List ℕ)) (result : Status) → Gives request told old new result → IsDue told request result
+due_now : Known → (told : Option Folder) (request : Request) (old new : Option (List ℕ)) (result : Status) → Gives request told old new result → IsDue told request result
 due_now known None (Show name wanted) old new result h = tt
 due_now known None (Run name names) old new result h = tt
 due_now known None (Uses name names) old new result h = tt
 due_now known None (Check name report names) old new result h = tt
 due_now known told (Generate n) old new result h = summary_due n old new result h
-due_now known (Some shelf) (Show name wanted) old new result h = show_due shelf name wanted old new result h
-due_now known (Some shelf) (Run name names) old new result h = run_asks known shelf name names old new result h
-due_now known (Some shelf) (Uses name names) old new result h = uses_ask known shelf name names old new result h
-due_now known (Some shelf) (Check name report names) old new result h = check_asks known shelf name report names old new result h
+due_now known (Some folder) (Show name wanted) old new result h = show_due folder name wanted old new result h
+due_now known (Some folder) (Run name names) old new result h = run_asks known folder name names old new result h
+due_now known (Some folder) (Uses name names) old new result h = uses_ask known folder name names old new result h
+due_now known (Some folder) (Check name report names) old new result h = check_asks known folder name report names old new result h
 
 -- what is asked for depends on the files alone
 abbrev DueIn : Option Files → Request → Status → Type 0
 DueIn told (Generate n) result = IsServed result
 DueIn told request result = IfSome told (λ files. IsDueIn files request result)
 
-abbrev files_of : Option Shelf → Option Files
-files_of told = option_map (λ (shelf : Shelf). shelf.files) told
+abbrev files_of : Option Folder → Option Files
+files_of told = option_map (λ (folder : Folder). folder.files) told
 
-to_files : (told : Option Shelf) (request : Request) (result : Status) → IsDue told request result → DueIn (files_of told) request result
+to_files : (told : Option Folder) (request : Request) (result : Status) → IsDue told request result → DueIn (files_of told) request result
 to_files None (Show name wanted) result h = tt
 to_files None (Run name names) result h = tt
 to_files None (Uses name names) result h = tt
 to_files None (Check name report names) result h = tt
 to_files None (Generate n) result h = h
-to_files (Some shelf) (Show name wanted) result h = h
-to_files (Some shelf) (Run name names) result h = h
-to_files (Some shelf) (Uses name names) result h = h
-to_files (Some shelf) (Check name report names) result h = h
-to_files (Some shelf) (Generate n) result h = h
+to_files (Some folder) (Show name wanted) result h = h
+to_files (Some folder) (Run name names) result h = h
+to_files (Some folder) (Uses name names) result h = h
+to_files (Some folder) (Check name report names) result h = h
+to_files (Some folder) (Generate n) result h = h
 
-of_files : (told : Option Shelf) (request : Request) (result : Status) → DueIn (files_of told) request result → IsDue told request result
+of_files : (told : Option Folder) (request : Request) (result : Status) → DueIn (files_of told) request result → IsDue told request result
 of_files None (Show name wanted) result h = tt
 of_files None (Run name names) result h = tt
 of_files None (Uses name names) result h = tt
 of_files None (Check name report names) result h = tt
 of_files None (Generate n) result h = h
-of_files (Some shelf) (Show name wanted) result h = h
-of_files (Some shelf) (Run name names) result h = h
-of_files (Some shelf) (Uses name names) result h = h
-of_files (Some shelf) (Check name report names) result h = h
-of_files (Some shelf) (Generate n) result h = h
+of_files (Some folder) (Show name wanted) result h = h
+of_files (Some folder) (Run name names) result h = h
+of_files (Some folder) (Uses name names) result h = h
+of_files (Some folder) (Check name report names) result h = h
+of_files (Some folder) (Generate n) result h = h
 
 -- the status comes that the files ask for, as they were told before
-pub is_due : ScriptOrBad → OneBadLine → RoomSuffices → (before told : Option Shelf) (request : Request) (old new : Option (List ℕ)) (result : Status) → SameFiles before told → Gives request told old new result → IsDue before request result
+pub is_due : ScriptOrBad → OneBadLine → RoomSuffices → (before told : Option Folder) (request : Request) (old new : Option (List ℕ)) (result : Status) → SameFiles before told → Gives request told old new result → IsDue before request result
 is_due apart once room before told request old new result same h =
     let known : Known = record { apart = apart; once = once; room = room } in
     of_files before request result

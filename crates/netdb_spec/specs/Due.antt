@@ -2,7 +2,7 @@
 use Rattle.std.specs.Prelude.{◌≡◌, ◌⊎◌, ◌+◌, ◌≤◌, ℕ, List, [], ◌∷◌, ◌++◌, length, Option, None, IfSome, MatchOption}
 use Rattle.netlist_schema.specs.Design.{Design}
 use Rattle.netlist_schema.specs.declared.limits.TheConstants.{MOST_FILE_BYTES}
-use Rattle.netdb_outside.specs.Outside.{Shelf, file_named}
+use Rattle.netdb_outside.specs.Outside.{Folder, file_named}
 use Rattle.script_spec.specs.Headline.{CanWalk, HaveRoom, SomeWalks}
 use Rattle.script_spec.specs.declared.script.Step.{Step}
 use Rattle.edif_spec.specs.Files.{IsDesignFile, IsNoDesignFile}
@@ -89,6 +89,6 @@ IsDueIn files (Check name report names) result = IsDueOfDesign files name (λ d.
 IsDueIn files (Generate n) result = IsServed result
 
 -- which status a request asks for; a generated run asks no file
-abbrev pub IsDue : Option Shelf → Request → Status → Type 0
+abbrev pub IsDue : Option Folder → Request → Status → Type 0
 IsDue told (Generate n) result = IsServed result
-IsDue told request result = IfSome told (λ shelf. IsDueIn shelf.files request result)
+IsDue told request result = IfSome told (λ folder. IsDueIn folder.files request result)

@@ -17,7 +17,7 @@ use Rattle.net_classes.specs.Joints.{IsNotBehind}
 use Rattle.net_classes.specs.PortClasses.{AreFactsOf, IsJoint}
 use Rattle.net_classes.specs.declared.joints.Joint.{Joint}
 use Rattle.net_names.specs.Names.{AreHanded, AreNames, AreOwnNames, first_of, name_in}
-use Rattle.net_names.specs.declared.names.Name.{Name}
+use Rattle.net_names.specs.declared.names.NetName.{NetName}
 use Rattle.net_names.proofs.NameLemmas.{handed_are_names, own_are_names}
 use Rattle.flat_items.specs.declared.notes.PlacedNotes.{PlacedNotes}
 use Rattle.flat_items.specs.Stand.{IsFrame, IsGround, top_of}
@@ -91,7 +91,7 @@ module _ (d : Design) (facts : Facts) (notes : PlacedNotes) (ground : IsGround d
       let named = net_is_named d facts notes ground path here frame (get_or on k j).net net here.names.items (firsts_in facts here.cell) refl refl in
       some_is (name_in here.names.items (firsts_in facts here.cell) (get_or on k j).net) named.name named.found
     where
-      some_is : (o : Option Name) (name : Name) → o ≡ Some name → IsSome o
+      some_is : (o : Option NetName) (name : NetName) → o ≡ Some name → IsSome o
       some_is None name is = absurd (none-some name is)
       some_is (Some v) name is = refl
 
@@ -109,7 +109,7 @@ module _ (d : Design) (facts : Facts) (notes : PlacedNotes) (ground : IsGround d
         → AreHanded (first_of facts inst.of) (name_in here.names.items (firsts_in facts here.cell)) deep_at on (length (nets_at d inst.of)) new.names.items
         → IsFrame d (path ++ step ∷ []) new
     frame_is_below on are deep_at new cell depth_is handed =
-        let names : List Name = new.names.items in
+        let names : List NetName = new.names.items in
         let first : AreHanded (λ (j : Joint). first_in inner.0 (record { port = j.port; bit = j.bit })) (name_in here.names.items (firsts_in facts here.cell)) deep_at on (length (nets_at d inst.of)) names =
         subst (λ (o : Option CellFacts). AreHanded (λ (j : Joint). option_and_then (λ (k : CellFacts). first_in k (record { port = j.port; bit = j.bit })) o) (name_in here.names.items (firsts_in facts here.cell)) deep_at on (length (nets_at d inst.of)) names)
         inner.1 handed in

@@ -32,7 +32,7 @@ fn go_on<S: Shown + Drop>(ground: &Ground<S>, place: &mut Place) -> Result<bool,
 }
 
 /// Goes on to the next item, where one is left: whether one is.
-pub fn settle<S: Shown + Drop>(ground: &Ground<S>, place: &mut Place) -> Result<bool, NoMemory>
+pub fn advance<S: Shown + Drop>(ground: &Ground<S>, place: &mut Place) -> Result<bool, NoMemory>
     requires ground { IsGround (S.design ground.now.design) ground.now.classes ground.now.notes }
     requires stands { MayStand (S.design ground.now.design) (stand_of place.old) }
     ensures stands { MayStand (S.design ground.now.design) (stand_of place.new) }
@@ -47,7 +47,7 @@ pub fn settle<S: Shown + Drop>(ground: &Ground<S>, place: &mut Place) -> Result<
 }
 
 /// Lends the next item of the occurrence, where one is left.
-pub fn peek<'a, S: Shown + Drop>(ground: &'a Ground<S>, place: &'a Place) -> Option<ItemRef<'a>>
+pub fn current<'a, S: Shown + Drop>(ground: &'a Ground<S>, place: &'a Place) -> Option<ItemRef<'a>>
     requires ground { IsGround (S.design ground.now.design) ground.now.classes ground.now.notes }
     requires stands { MayStand (S.design ground.now.design) (stand_of place.now) }
     ensures { IsLent (rest_of (S.design ground.now.design) (stand_of place.now)) result }
@@ -56,7 +56,7 @@ pub fn peek<'a, S: Shown + Drop>(ground: &'a Ground<S>, place: &'a Place) -> Opt
 }
 
 /// Passes over the next item of the occurrence, where one is left.
-pub fn pass<S: Shown + Drop>(ground: &Ground<S>, place: &mut Place)
+pub fn skip<S: Shown + Drop>(ground: &Ground<S>, place: &mut Place)
     requires ground { IsGround (S.design ground.now.design) ground.now.classes ground.now.notes }
     requires stands { MayStand (S.design ground.now.design) (stand_of place.old) }
     ensures stands { MayStand (S.design ground.now.design) (stand_of place.new) }
@@ -75,11 +75,11 @@ fn give<S: Shown + Drop>(ground: &Ground<S>, place: &mut Place) -> Result<Option
     ensures next { IfOk result (IsFirst (left (S.design ground.now.design) (stand_of place.old)) (left (S.design ground.now.design) (stand_of place.new))) }
     ensures err { OnErr result (stand_of place.new ≡ stand_of place.old) }
 {
-    let Some(ahead) = peek(ground, place) else {
+    let Some(ahead) = current(ground, place) else {
         return Ok(None);
     };
     let item = ahead.made(ground.alloc)?;
-    pass(ground, place);
+    skip(ground, place);
     Ok(Some(item))
 }
 
@@ -94,7 +94,7 @@ pub fn next_item<S: Shown + Drop>(
     ensures next { IfOk result (IsFirst (left (S.design ground.now.design) (stand_of place.old)) (left (S.design ground.now.design) (stand_of place.new))) }
     ensures err { OnErr result (left (S.design ground.now.design) (stand_of place.new) ≡ left (S.design ground.now.design) (stand_of place.old)) }
 {
-    if !settle(ground, place)? {
+    if !advance(ground, place)? {
         return Ok(None);
     }
     give(ground, place)

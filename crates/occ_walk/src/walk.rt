@@ -8,7 +8,7 @@ ghost use Rattle.occ_walk.specs.Walk.{GivesNext, IsLent, IsSettled};
 ghost use Rattle.flat_items.specs.Stand.{top_of};
 
 use crate::start::{go_along, start};
-use crate::steps::{next_item, pass, peek, settle};
+use crate::steps::{next_item, skip, current, advance};
 use flat_items::{Ground, ItemRef, Place};
 use flat_spec::{Item, Path};
 use netlist_schema::{CellId, NoMemory, Shown};
@@ -136,30 +136,30 @@ impl<S: Shown + Drop> Walk<S> {
     ///
     /// It takes time only where an occurrence is entered: in proportion to its nets, the ends on its instance and the occurrences that
     /// are left.
-    pub fn settle(&mut self) -> Result<bool, NoMemory>
+    pub fn advance(&mut self) -> Result<bool, NoMemory>
         ensures design { self.new.design ≡ self.old.design }
         ensures left { self.new.left ≡ self.old.left }
         ensures settled { IfOk result (IsSettled self.new) }
         ensures some { result ≡ Ok true → self.new.left ≢ [] }
     {
-        settle(&self.ground, &mut self.place)
+        advance(&self.ground, &mut self.place)
     }
 
     /// Lends the next item, where the walk has gone on to it: `None` exactly where all items of the occurrence at which it stands were
     /// given. It takes no memory.
-    pub fn peek(&self) -> Option<ItemRef<'_>>
+    pub fn current(&self) -> Option<ItemRef<'_>>
         ensures { IsLent self.now result }
     {
-        peek(&self.ground, &self.place)
+        current(&self.ground, &self.place)
     }
 
     /// Passes over the next item, where the walk has gone on to it; else it leaves what is left. It takes no memory.
-    pub fn pass(&mut self)
+    pub fn skip(&mut self)
         ensures design { self.new.design ≡ self.old.design }
         ensures passed { self.old.over ≡ false → self.new.left ≡ drop 1 self.old.left }
         ensures stays { self.old.over ≡ true → self.new.left ≡ self.old.left }
     {
-        pass(&self.ground, &mut self.place);
+        skip(&self.ground, &mut self.place);
     }
 }
 

@@ -9,7 +9,7 @@ ghost use Rattle.par_flat.specs.Desks.{AreDesks, IsSeat};
 
 use flat_items::Place;
 use netlist_schema::{NoMemory, Shown};
-use par_parts::{CountedGround, skip, start_at};
+use par_parts::{CountedGround, skip_many, start_at};
 use std::alloc::Global;
 
 /// The most items that are made into lines, and how long the text is behind which no line is made any more.
@@ -77,7 +77,7 @@ fn go_on<S: Shown + Drop>(
         return start_at(ground, first);
     }
     let mut place = place;
-    skip(ground, &mut place, first - before)?;
+    skip_many(ground, &mut place, first - before)?;
     Ok(place)
 }
 

@@ -39,12 +39,12 @@ fn add_ahead<S: Shown + Drop>(
     ensures given { IfOk result (GivesLine ground.now (left ground.now (stand_of place.old)) text.old.items
         (left ground.now (stand_of place.new)) text.new.items) }
 {
-    let Some(item) = ground.peek(place) else {
+    let Some(item) = ground.current(place) else {
         return Ok(false);
     };
     texts.keep(path_of(item));
     kept_text(ground.alloc(), texts, item, text)?;
-    ground.pass(place);
+    ground.skip(place);
     Ok(true)
 }
 
@@ -62,7 +62,7 @@ fn add_line<S: Shown + Drop>(
     ensures given { IfOk result (GivesLine ground.now (left ground.now (stand_of place.old)) text.old.items
         (left ground.now (stand_of place.new)) text.new.items) }
 {
-    if !ground.settle(place)? {
+    if !ground.advance(place)? {
         return Ok(false);
     }
     add_ahead(ground, texts, place, text)

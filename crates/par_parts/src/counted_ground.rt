@@ -15,7 +15,7 @@ use flat_spec::Item;
 use netlist_schema::{CellId, NoMemory, Shown};
 use occ_walk::WalkError;
 use occ_walk::start::start;
-use occ_walk::steps::{next_item, pass, peek, settle};
+use occ_walk::steps::{next_item, skip, current, advance};
 use std::alloc::Global;
 use std::marker::Model;
 
@@ -137,31 +137,31 @@ impl<S: Shown + Drop> CountedGround<S> {
     }
 
     /// Goes on to the next item, where one is left: whether one is.
-    pub fn settle(&self, place: &mut Place) -> Result<bool, NoMemory>
+    pub fn advance(&self, place: &mut Place) -> Result<bool, NoMemory>
         requires { MayStand self.now (stand_of place.old) }
         ensures stands { MayStand self.now (stand_of place.new) }
         ensures left { left self.now (stand_of place.new) ≡ left self.now (stand_of place.old) }
         ensures gone { IfOk result (IsSettled (rest_of self.now (stand_of place.new))) }
     {
-        settle(&self.ground, place)
+        advance(&self.ground, place)
     }
 
     /// Lends the next item of the occurrence, where one is left.
-    pub fn peek<'a>(&'a self, place: &'a Place) -> Option<ItemRef<'a>>
+    pub fn current<'a>(&'a self, place: &'a Place) -> Option<ItemRef<'a>>
         requires { MayStand self.now (stand_of place.now) }
         ensures { IsLent (rest_of self.now (stand_of place.now)) result }
     {
-        peek(&self.ground, place)
+        current(&self.ground, place)
     }
 
     /// Passes over the next item of the occurrence, where one is left.
-    pub fn pass(&self, place: &mut Place)
+    pub fn skip(&self, place: &mut Place)
         requires { MayStand self.now (stand_of place.old) }
         ensures stands { MayStand self.now (stand_of place.new) }
         ensures passed { HasPassed self.now (stand_of place.old) (stand_of place.new) }
         ensures stays { is_over place.old.stage ≡ true → left self.now (stand_of place.new) ≡ left self.now (stand_of place.old) }
     {
-        pass(&self.ground, place);
+        skip(&self.ground, place);
     }
 
     /// Gives the next item, where one is left. After `NoMemory` all are left that were.

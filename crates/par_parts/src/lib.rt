@@ -11,5 +11,5 @@ mod tables;
 pub use count::count_top;
 pub use counted_ground::CountedGround;
 pub use counts::count_items;
-pub use passing::{skip, start_at};
+pub use passing::{skip_many, start_at};
 pub use tables::ItemCounts;

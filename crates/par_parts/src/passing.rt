@@ -18,13 +18,13 @@ fn pass_own<S: Shown + Drop>(ground: &CountedGround<S>, place: &mut Place, count
     ensures less { result < count }
     ensures left { drop result (left ground.now (stand_of place.new)) ≡ drop count (left ground.now (stand_of place.old)) }
 {
-    ground.pass(place);
+    ground.skip(place);
     let mut more = count - 1;
     'own: while more > 0 {
         if place.stage.is_over() {
             return more;
         }
-        ground.pass(place);
+        ground.skip(place);
         more = ground.pass_nets(place, more - 1);
     }
     more
@@ -68,7 +68,7 @@ fn pass_more<S: Shown + Drop>(ground: &CountedGround<S>, place: &mut Place, coun
 /// Passes over so many items, or over all that are left, where these are fewer. After `NoMemory` some of them were passed over.
 ///
 /// What stands at and below an occurrence that is passed over as a whole takes no time but that of a look at its cell's count.
-pub fn skip<S: Shown + Drop>(
+pub fn skip_many<S: Shown + Drop>(
     ground: &CountedGround<S>,
     place: &mut Place,
     count: u64,
@@ -82,7 +82,7 @@ pub fn skip<S: Shown + Drop>(
         if more == 0 {
             return Ok(());
         }
-        if !ground.settle(place)? {
+        if !ground.advance(place)? {
             return Ok(());
         }
         more = pass_more(ground, place, more);
@@ -98,6 +98,6 @@ pub fn start_at<S: Shown + Drop>(ground: &CountedGround<S>, first: u64) -> Resul
     ensures left { IfOk result (λ place. left ground.now (stand_of place) ≡ drop first (flattening ground.now)) }
 {
     let mut place = ground.start()?;
-    skip(ground, &mut place, first)?;
+    skip_many(ground, &mut place, first)?;
     Ok(place)
 }

@@ -71,7 +71,7 @@ fn is_design<S: Shown>(alloc: Global, design: &S, text: &[u8]) -> Result<bool, N
 }
 
 /// Whether a text is the line `design` and the text of a design.
-fn is_last<S: Shown>(alloc: Global, design: &S, text: &[u8]) -> Result<bool, NoMemory>
+fn is_head<S: Shown>(alloc: Global, design: &S, text: &[u8]) -> Result<bool, NoMemory>
     ensures { IfOk result (λ same. IsTrue same ↔ (text.now ≡ line (codes "design" ∷ []) ++ canonical_text (S.design design.now))) }
 {
     match after(text, b"design\n") {
@@ -91,7 +91,7 @@ pub fn is_rest<S: Shown>(
     ensures { IfOk result (λ same. IsTrue same ↔ (text.now ≡ rest_text (S.design last.now) texts.now)) }
 {
     match behind_texts(texts, text) {
-        Some(rest) => is_last(alloc, last, rest),
+        Some(rest) => is_head(alloc, last, rest),
         None => Ok(false),
     }
 }

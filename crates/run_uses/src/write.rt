@@ -3,16 +3,16 @@ ghost use Rattle.std.specs.Prelude.{◌≡◌, ◌≤◌, ◌++◌, Err, List, O
 ghost use Rattle.netlist_schema.specs.Design.{Design as DesignFacts};
 ghost use Rattle.netdb_outside.specs.Outside.{Appends, AppendsFront, Rose};
 ghost use Rattle.script_spec.specs.Headline.{CanWalk};
-ghost use Rattle.script_spec.specs.Report.{last_design};
+ghost use Rattle.script_spec.specs.Report.{head_design};
 ghost use Rattle.script_spec.specs.declared.script.Step.{Step};
 ghost use Rattle.script_run_spec.specs.Scripts.{all_steps};
 ghost use Rattle.script_run_spec.specs.Written.{written_report};
-ghost use Rattle.used_spec.specs.LastUses.{last_uses_text};
+ghost use Rattle.used_spec.specs.HeadUses.{head_uses_text};
 ghost use Rattle.script_run_all.specs.Run.{HaveRun};
 ghost use Rattle.run_uses.specs.Written.{UsesWrite};
 ghost use Rattle.script_spec.specs.declared.limits.TheConstants.{MOST_SCRIPTS};
 
-use last_uses::write_last_uses;
+use head_uses::write_head_uses;
 use netdb_outside::{Gate, Sink, WriteError};
 use netlist_schema::Design;
 use script_report::write_report;
@@ -25,8 +25,8 @@ use std::thread::Threads;
 
 /// Writes the report of a run that is closed.
 fn write_history<K: Sink>(alloc: Global, closed: &Closed, out: &mut K) -> Result<(), WriteError>
-    ensures ok { OnOk result (Appends (K.written out.old) (K.written out.new) (written_report (last_design closed.now.core.opening closed.now.core.events) closed.now.core.events closed.now.texts)) }
-    ensures err { OnErr result (AppendsFront (K.written out.old) (K.written out.new) (written_report (last_design closed.now.core.opening closed.now.core.events) closed.now.core.events closed.now.texts)) }
+    ensures ok { OnOk result (Appends (K.written out.old) (K.written out.new) (written_report (head_design closed.now.core.opening closed.now.core.events) closed.now.core.events closed.now.texts)) }
+    ensures err { OnErr result (AppendsFront (K.written out.old) (K.written out.new) (written_report (head_design closed.now.core.opening closed.now.core.events) closed.now.core.events closed.now.texts)) }
     ensures fault { result ≡ Err WriteError.WriteFault → Rose (K.faults out.old) (K.faults out.new) }
     ensures never_falls { K.faults out.old ≤ K.faults out.new }
 {
@@ -41,26 +41,26 @@ fn write_history<K: Sink>(alloc: Global, closed: &Closed, out: &mut K) -> Result
 }
 
 /// Writes the uses of the last version of a run that is closed.
-fn write_last<K: Sink>(alloc: Global, closed: &Closed, out: &mut K) -> Result<(), WriteError>
-    ensures ok { OnOk result (Appends (K.written out.old) (K.written out.new) (last_uses_text closed.now.core.opening closed.now.core.events)) }
-    ensures err { OnErr result (AppendsFront (K.written out.old) (K.written out.new) (last_uses_text closed.now.core.opening closed.now.core.events)) }
+fn write_head<K: Sink>(alloc: Global, closed: &Closed, out: &mut K) -> Result<(), WriteError>
+    ensures ok { OnOk result (Appends (K.written out.old) (K.written out.new) (head_uses_text closed.now.core.opening closed.now.core.events)) }
+    ensures err { OnErr result (AppendsFront (K.written out.old) (K.written out.new) (head_uses_text closed.now.core.opening closed.now.core.events)) }
     ensures fault { result ≡ Err WriteError.WriteFault → Rose (K.faults out.old) (K.faults out.new) }
     ensures never_falls { K.faults out.old ≤ K.faults out.new }
 {
-    write_last_uses(alloc, closed.core.opening(), closed.core.log(), out)
+    write_head_uses(alloc, closed.core.opening(), closed.core.log(), out)
 }
 
 /// Writes both.
 fn write_both<K: Sink>(alloc: Global, closed: &Closed, out: &mut K) -> Result<(), WriteError>
-    ensures ok { OnOk result (Appends (K.written out.old) (K.written out.new) (written_report (last_design closed.now.core.opening closed.now.core.events) closed.now.core.events closed.now.texts
-        ++ last_uses_text closed.now.core.opening closed.now.core.events)) }
-    ensures err { OnErr result (AppendsFront (K.written out.old) (K.written out.new) (written_report (last_design closed.now.core.opening closed.now.core.events) closed.now.core.events closed.now.texts
-        ++ last_uses_text closed.now.core.opening closed.now.core.events)) }
+    ensures ok { OnOk result (Appends (K.written out.old) (K.written out.new) (written_report (head_design closed.now.core.opening closed.now.core.events) closed.now.core.events closed.now.texts
+        ++ head_uses_text closed.now.core.opening closed.now.core.events)) }
+    ensures err { OnErr result (AppendsFront (K.written out.old) (K.written out.new) (written_report (head_design closed.now.core.opening closed.now.core.events) closed.now.core.events closed.now.texts
+        ++ head_uses_text closed.now.core.opening closed.now.core.events)) }
     ensures fault { result ≡ Err WriteError.WriteFault → Rose (K.faults out.old) (K.faults out.new) }
     ensures never_falls { K.faults out.old ≤ K.faults out.new }
 {
     write_history(alloc, closed, out)?;
-    write_last(alloc, closed, out)
+    write_head(alloc, closed, out)
 }
 
 /// Writes both, and tells how the run ended.

@@ -8,7 +8,7 @@ use Rattle.script_held.specs.declared.held.Block.{Block}
 use Rattle.script_held.specs.declared.held.Held.{Held}
 use Rattle.script_held.specs.declared.held.Held.TheVariants as held
 use Rattle.script_held.specs.declared.held.Stop.{Stop}
-use Rattle.script_held.specs.declared.held.Stop.TheVariants.{Full, Short}
+use Rattle.script_held.specs.declared.held.Stop.TheVariants.{LogFull, NoMemory as StopNoMemory}
 
 -- a transaction on its pin and version, with the retries left and the operations so far
 abbrev pub block_of : Block → SessionHeld
@@ -36,23 +36,23 @@ IsHeldBy db pass held.OffPin = Unit {0}
 IsHeldBy db pass (held.InBlock block) = HasPin db pass block.tx.pin
 
 -- what is held behind a line, whose words were said or not
-abbrev pub told : {A E : Type 0} → Result A E → Held → Result Held Stop
-told (Ok a) held = Ok held
-told (Err e) held = Err (Short held)
+abbrev pub held_after : {A E : Type 0} → Result A E → Held → Result Held Stop
+held_after (Ok a) held = Ok held
+held_after (Err e) held = Err (StopNoMemory held)
 
 -- the end by a full log, whose word was said or not
 abbrev pub filled : {A E : Type 0} → Result A E → Held → Stop
-filled (Ok a) held = Full held
-filled (Err e) held = Short held
+filled (Ok a) held = LogFull held
+filled (Err e) held = StopNoMemory held
 
 -- what is still held where the lines have ended
 abbrev pub left_held : Result Held Stop → Held
 left_held (Ok held) = held
-left_held (Err (Full held)) = held
-left_held (Err (Short held)) = held
+left_held (Err (LogFull held)) = held
+left_held (Err (StopNoMemory held)) = held
 
 -- whether the log was full, where memory was not refused
 abbrev pub ended_full : Result Held Stop → Result Bool NoMemory
 ended_full (Ok held) = Ok false
-ended_full (Err (Full held)) = Ok true
-ended_full (Err (Short held)) = Err (record {})
+ended_full (Err (LogFull held)) = Ok true
+ended_full (Err (StopNoMemory held)) = Err (record {})

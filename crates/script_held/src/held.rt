@@ -4,7 +4,7 @@ ghost use Rattle.script_spec.specs.Session.{last_release};
 ghost use Rattle.script_run_spec.specs.Calls.{Makes};
 ghost use Rattle.db_share.specs.Passes.{IsReady};
 ghost use Rattle.db_share.specs.Calls.{GoesOn};
-ghost use Rattle.script_held.specs.Holding.{IsHeldBy, ended_full, filled, held_of, left_held, pin_held, told};
+ghost use Rattle.script_held.specs.Holding.{IsHeldBy, ended_full, filled, held_of, left_held, pin_held, held_after};
 
 use db_share::{Db, Pass, Pin, Tx};
 use netlist_schema::NoMemory;
@@ -34,18 +34,18 @@ pub enum Held {
 #[derive(Drop)]
 pub enum Stop {
     /// The log was full for a call.
-    Full(Held),
+    LogFull(Held),
     /// Memory was refused.
-    Short(Held),
+    NoMemory(Held),
 }
 
 /// What is held behind a line, where its last words were said; else the script stops.
-pub fn told(said: Result<(), NoMemory>, held: Held) -> Result<Held, Stop>
-    ensures { result ≡ told said held }
+pub fn held_after(said: Result<(), NoMemory>, held: Held) -> Result<Held, Stop>
+    ensures { result ≡ held_after said held }
 {
     match said {
         Ok(()) => Ok(held),
-        Err(NoMemory) => Err(Stop::Short(held)),
+        Err(NoMemory) => Err(Stop::NoMemory(held)),
     }
 }
 
@@ -54,8 +54,8 @@ pub fn filled(said: Result<(), NoMemory>, held: Held) -> Stop
     ensures { result ≡ filled said held }
 {
     match said {
-        Ok(()) => Stop::Full(held),
-        Err(NoMemory) => Stop::Short(held),
+        Ok(()) => Stop::LogFull(held),
+        Err(NoMemory) => Stop::NoMemory(held),
     }
 }
 
@@ -91,8 +91,8 @@ fn parts(ended: Result<Held, Stop>) -> (Held, Result<bool, NoMemory>)
 {
     match ended {
         Ok(held) => (held, Ok(false)),
-        Err(Stop::Full(held)) => (held, Ok(true)),
-        Err(Stop::Short(held)) => (held, Err(NoMemory)),
+        Err(Stop::LogFull(held)) => (held, Ok(true)),
+        Err(Stop::NoMemory(held)) => (held, Err(NoMemory)),
     }
 }
 

@@ -3,4 +3,4 @@
 
 mod held;
 
-pub use held::{Block, Held, Stop, filled, settle, told};
+pub use held::{Block, Held, Stop, filled, settle, held_after};

@@ -31,7 +31,7 @@ use Rattle.script_held.specs.declared.held.Block.{Block}
 use Rattle.script_held.specs.declared.held.Held.{Held}
 use Rattle.script_held.specs.declared.held.Held.TheVariants as held
 use Rattle.script_held.specs.declared.held.Stop.{Stop}
-use Rattle.script_held.specs.declared.held.Stop.TheVariants.{Full, Short}
+use Rattle.script_held.specs.declared.held.Stop.TheVariants.{LogFull as StopLogFull, NoMemory}
 use Rattle.script_held.proofs.Calls.{stays}
 use Rattle.script_run.specs.Coming.{Again, Begun, Comes, Refused, Starts, Stops, Tries, reply_lines}
 use Rattle.script_run.specs.Holding.{Stands}
@@ -136,7 +136,7 @@ module _ (db : Shared) (old new : Pass) (before mid text : List ℕ) (ops : List
         stands = stands_then db old new (held.InBlock next) on (held_still same_pin g.holds) (subst (λ (p : PinFacts). HasPin db new p) (sym same_pin) has);
       }
 
-  pub ran_short : Starts db old new before mid retries (Ok block) → next.tx.pin ≡ block.tx.pin → Stops db old new before text Nothing (step.Begin retries) (Short (held.InBlock next))
+  pub ran_short : Starts db old new before mid retries (Ok block) → next.tx.pin ≡ block.tx.pin → Stops db old new before text Nothing (step.Begin retries) (NoMemory (held.InBlock next))
   ran_short starts same_pin =
       let g = starts.0.0 in (
         begin_broken db.base old.number old.seen new.seen before mid retries block.tx.pin.number block.tx.pin.version block.retries block.tx.ops (block_of next) (held_still same_pin g.holds) g,
@@ -235,12 +235,12 @@ module _ (db : Shared) (old mid new : Pass) (before between text : List ℕ) (bl
     }
 
     pub again_stops : (stop : Stop) → Stops db mid new between text Nothing (step.Begin retries) stop → Tries db old new before text block (Err stop)
-    again_stops (Full h) f = (
+    again_stops (StopLogFull h) f = (
       subst (λ (n : ℕ). IsFilled db.base old.number old.seen new.seen before text (InBlock block.tx.pin.number block.tx.pin.version n block.tx.ops) step.Commit (held_of h)) (sym left)
           (begun_filled (held_of h) (subst (λ (n : ℕ). IsFilled db.base n mid.seen new.seen between text Nothing (step.Begin retries) (held_of h)) same f.0)),
       f.1,
     )
-    again_stops (Short h) k = (
+    again_stops (NoMemory h) k = (
       subst (λ (n : ℕ). IsBroken db.base old.number old.seen new.seen (InBlock block.tx.pin.number block.tx.pin.version n block.tx.ops) step.Commit (held_of h)) (sym left)
           (begun_broken (held_of h) (subst (λ (n : ℕ). IsBroken db.base n mid.seen new.seen Nothing (step.Begin retries) (held_of h)) same k.0)),
       k.1,
@@ -268,13 +268,13 @@ module _ (db : Shared) (old mid new : Pass) (before between text : List ℕ) (bl
         (of_next (λ (n : ℕ) (b : SessionHeld). GoesOn db.base n mid.seen new.seen between text b step.Commit (held_of h)) g.0)),
     g.1,
   )
-  again_comes (Err (Full h)) f = (
+  again_comes (Err (StopLogFull h)) f = (
     of_block (λ (b : SessionHeld). IsFilled db.base old.number old.seen new.seen before text b step.Commit (held_of h))
         (again_filled db.base old.number old.seen mid.seen new.seen before between text block.tx.pin.number block.tx.pin.version next.retries block.tx.ops next.tx.pin.number next.tx.pin.version (held_of h) a.runs
         (of_next (λ (n : ℕ) (b : SessionHeld). IsFilled db.base n mid.seen new.seen between text b step.Commit (held_of h)) f.0)),
     f.1,
   )
-  again_comes (Err (Short h)) k = (
+  again_comes (Err (NoMemory h)) k = (
     of_block (λ (b : SessionHeld). IsBroken db.base old.number old.seen new.seen b step.Commit (held_of h))
         (again_broken db.base old.number old.seen mid.seen new.seen before between text block.tx.pin.number block.tx.pin.version next.retries block.tx.ops next.tx.pin.number next.tx.pin.version (held_of h) a.runs
         (of_next (λ (n : ℕ) (b : SessionHeld). IsBroken db.base n mid.seen new.seen b step.Commit (held_of h)) k.0)),

@@ -33,12 +33,12 @@ use Rattle.db_spec.proofs.Pinned.{conflicts_are_pinned}
 use Rattle.db_core.specs.Calls.{commit_of, event_of}
 use Rattle.db_core.specs.declared.errors.CommitError.TheVariants.{LogFull as CommitFull, Conflict as Conflicted, NoMemory as CommitNoMemory}
 use Rattle.db_share.specs.Passes.{Shared, Pass, HasPin}
-use Rattle.db_share.specs.Calls.{GoesOn as PassGoesOn, HasReleased, IsFull, LacksMemory, Makes as MakesEvent}
+use Rattle.db_share.specs.Calls.{GoesOn as PassGoesOn, HasReleased, LacksRoom, LacksMemory, Makes as MakesEvent}
 use Rattle.db_share.proofs.Keeping.{keeps_committed}
 use Rattle.script_held.specs.Holding.{block_of, filled}
 use Rattle.script_held.specs.declared.held.Block.{Block}
 use Rattle.script_held.specs.declared.held.Held.TheVariants as held
-use Rattle.script_held.specs.declared.held.Stop.TheVariants.{Short}
+use Rattle.script_held.specs.declared.held.Stop.TheVariants.{NoMemory}
 use Rattle.script_held.proofs.Calls.{one_call}
 use Rattle.script_run.specs.Coming.{Commits, Stops, accepted, refused}
 use Rattle.script_run.specs.Holding.{Stands}
@@ -155,7 +155,7 @@ module _ (db : Shared) (old mid new : Pass) (before text : List ℕ) (block : Bl
 -- ---- the commit was no event
 
 module _ (db : Shared) (old new : Pass) (before text : List ℕ) (block : Block) (s : Stands db old (held.InBlock block)) where
-  full_commit : {A E : Type 0} (said : Result A E) → IsFull db old new (commit_of block.tx) → OnOk said (text ≡ before ++ line (codes "log-full" ∷ []))
+  full_commit : {A E : Type 0} (said : Result A E) → LacksRoom db old new (commit_of block.tx) → OnOk said (text ≡ before ++ line (codes "log-full" ∷ []))
       → Stops db old new before text (block_of block) step.Commit (filled said (held.OnPin block.tx.pin))
   full_commit (Ok a) f e = (
     commit_filled db.base old.number old.seen new.seen before text block.tx.pin.number block.tx.pin.version block.retries block.tx.ops s.holds (no_call db old new s.ready f.looks) f.full e,
@@ -166,14 +166,14 @@ module _ (db : Shared) (old new : Pass) (before text : List ℕ) (block : Block)
     keeps_committed db old new s.ready block.tx (Err (CommitFull, block.tx)) (f, refl) block.tx.pin s.mine,
   )
 
-  pub commit_full : {A E : Type 0} (said : Result A E) (tx : TxFacts) (pin : PinFacts) → pin ≡ tx.pin → tx ≡ block.tx → IsFull db old new (commit_of block.tx) → OnOk said (text ≡ before ++ line (codes "log-full" ∷ []))
+  pub commit_full : {A E : Type 0} (said : Result A E) (tx : TxFacts) (pin : PinFacts) → pin ≡ tx.pin → tx ≡ block.tx → LacksRoom db old new (commit_of block.tx) → OnOk said (text ≡ before ++ line (codes "log-full" ∷ []))
       → Stops db old new before text (block_of block) step.Commit (filled said (held.OnPin pin))
   commit_full said tx pin same back f e =
       subst (λ (p : PinFacts). Stops db old new before text (block_of block) step.Commit (filled said (held.OnPin p))) (sym (same ∙ ap (λ (t : TxFacts). t.pin) back)) (full_commit said f e)
 
-  pub commit_short : (tx : TxFacts) (pin : PinFacts) → pin ≡ tx.pin → tx ≡ block.tx → LacksMemory db old new (commit_of block.tx) → Stops db old new before text (block_of block) step.Commit (Short (held.OnPin pin))
+  pub commit_short : (tx : TxFacts) (pin : PinFacts) → pin ≡ tx.pin → tx ≡ block.tx → LacksMemory db old new (commit_of block.tx) → Stops db old new before text (block_of block) step.Commit (NoMemory (held.OnPin pin))
   commit_short tx pin same back l =
-      subst (λ (p : PinFacts). Stops db old new before text (block_of block) step.Commit (Short (held.OnPin p))) (sym (same ∙ ap (λ (t : TxFacts). t.pin) back)) (
+      subst (λ (p : PinFacts). Stops db old new before text (block_of block) step.Commit (NoMemory (held.OnPin p))) (sym (same ∙ ap (λ (t : TxFacts). t.pin) back)) (
         commit_broken db.base old.number old.seen new.seen before text block.tx.pin.number block.tx.pin.version block.retries block.tx.ops s.holds (no_call db old new s.ready l.looks),
         keeps_committed db old new s.ready block.tx (Err (CommitNoMemory, block.tx)) (l, refl) block.tx.pin s.mine,
       )

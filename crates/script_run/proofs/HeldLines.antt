@@ -18,13 +18,13 @@ use Rattle.script_run_spec.proofs.OneLine.{abandon_goes, broken, collect_broken,
 use Rattle.script_run_spec.proofs.Pins.{held_is_live, holds_after, live_is_there, one_released}
 use Rattle.db_core.specs.declared.errors.CollectError.TheVariants.{LogFull as CollectFull, NoMemory as CollectNoMemory}
 use Rattle.db_share.specs.Passes.{Shared, Pass, HasPin, KeepsPins}
-use Rattle.db_share.specs.Calls.{HasReleased, IsFull, LacksMemory, Makes}
+use Rattle.db_share.specs.Calls.{HasReleased, LacksRoom, LacksMemory, Makes}
 use Rattle.db_share.proofs.Keeping.{keeps_collected}
-use Rattle.script_held.specs.Holding.{IsHeldBy, block_of, filled, held_of, told}
+use Rattle.script_held.specs.Holding.{IsHeldBy, block_of, filled, held_of, held_after}
 use Rattle.script_held.specs.declared.held.Block.{Block}
 use Rattle.script_held.specs.declared.held.Held.{Held}
 use Rattle.script_held.specs.declared.held.Held.TheVariants as held
-use Rattle.script_held.specs.declared.held.Stop.TheVariants.{Short}
+use Rattle.script_held.specs.declared.held.Stop.TheVariants.{NoMemory}
 use Rattle.script_held.proofs.Calls.{one_call}
 use Rattle.script_run.specs.Coming.{Comes, Stops}
 use Rattle.script_run.specs.Holding.{Stands}
@@ -41,7 +41,7 @@ module _ (db : Shared) (old new : Pass) (before text : List ℕ) where
   -- ---- releases
 
   pub release_told : {A E : Type 0} (said : Result A E) (pin : PinFacts) → Stands db old (held.OnPin pin) → HasReleased db old new pin → OnOk said (text ≡ before ++ line (codes "released" ∷ []))
-      → Comes db old new before text (OnPin pin.number pin.version) step.Release (told said held.Nothing)
+      → Comes db old new before text (OnPin pin.number pin.version) step.Release (held_after said held.Nothing)
   release_told (Ok a) pin s r e =
       (release_goes db.base old.number old.seen new.seen before text pin.number pin.version s.holds (one_call db old new (call.Release pin.number) answer.Released s.ready r) e, tt)
   release_told (Err x) pin s r e =
@@ -53,7 +53,7 @@ module _ (db : Shared) (old new : Pass) (before text : List ℕ) where
       )
 
   abandoned : {A E : Type 0} (said : Result A E) (block : Block) → Stands db old (held.InBlock block) → HasReleased db old new block.tx.pin → OnOk said (text ≡ before ++ line (codes "abandoned" ∷ []))
-      → Comes db old new before text (block_of block) step.Abandon (told said held.Nothing)
+      → Comes db old new before text (block_of block) step.Abandon (held_after said held.Nothing)
   abandoned (Ok a) block s r e = (
     abandon_goes db.base old.number old.seen new.seen before text block.tx.pin.number block.tx.pin.version block.retries block.tx.ops s.holds
         (one_call db old new (call.Release block.tx.pin.number) answer.Released s.ready r) e,
@@ -69,14 +69,14 @@ module _ (db : Shared) (old new : Pass) (before text : List ℕ) where
       )
 
   pub abandon_told : {A E : Type 0} (said : Result A E) (block : Block) (pin : PinFacts) → pin ≡ block.tx.pin → Stands db old (held.InBlock block) → HasReleased db old new pin
-      → OnOk said (text ≡ before ++ line (codes "abandoned" ∷ [])) → Comes db old new before text (block_of block) step.Abandon (told said held.Nothing)
+      → OnOk said (text ≡ before ++ line (codes "abandoned" ∷ [])) → Comes db old new before text (block_of block) step.Abandon (held_after said held.Nothing)
   abandon_told said block pin is s r e = abandoned said block s (subst (λ (p : PinFacts). HasReleased db old new p) is r) e
 
   -- ---- collects
 
   module _ (h : Held) (n : IsNoBlock (held_of h)) (s : Stands db old h) where
     pub collect_told : {A E : Type 0} (said : Result A E) (count : ℕ) → Makes db old new call.Collect (answer.Collected count) → OnOk said (text ≡ before ++ line (codes "collected" ∷ decimal count ∷ []))
-        → Comes db old new before text (held_of h) step.Collect (told said h)
+        → Comes db old new before text (held_of h) step.Collect (held_after said h)
     collect_told (Ok a) count m e = (
       collect_goes db.base old.number old.seen new.seen before text (held_of h) count n s.holds (one_call db old new call.Collect (answer.Collected count) s.ready m) e,
       held_kept db old new h (keeps_collected db old new s.ready (Ok count) m) s.mine,
@@ -86,7 +86,7 @@ module _ (db : Shared) (old new : Pass) (before text : List ℕ) where
       held_kept db old new h (keeps_collected db old new s.ready (Ok count) m) s.mine,
     )
 
-    pub collect_full : {A E : Type 0} (said : Result A E) → IsFull db old new call.Collect → OnOk said (text ≡ before ++ line (codes "log-full" ∷ []))
+    pub collect_full : {A E : Type 0} (said : Result A E) → LacksRoom db old new call.Collect → OnOk said (text ≡ before ++ line (codes "log-full" ∷ []))
         → Stops db old new before text (held_of h) step.Collect (filled said h)
     collect_full (Ok a) f e = (
       collect_filled db.base old.number old.seen new.seen before text (held_of h) n s.holds (no_call db old new s.ready f.looks) f.full e,
@@ -97,7 +97,7 @@ module _ (db : Shared) (old new : Pass) (before text : List ℕ) where
       held_kept db old new h (keeps_collected db old new s.ready (Err CollectFull) f) s.mine,
     )
 
-    pub collect_short : LacksMemory db old new call.Collect → Stops db old new before text (held_of h) step.Collect (Short h)
+    pub collect_short : LacksMemory db old new call.Collect → Stops db old new before text (held_of h) step.Collect (NoMemory h)
     collect_short l = (
       collect_broken db.base old.number old.seen new.seen before text (held_of h) n s.holds (no_call db old new s.ready l.looks),
       held_kept db old new h (keeps_collected db old new s.ready (Err CollectNoMemory) l) s.mine,
@@ -111,7 +111,7 @@ held_is_there db pass h number v s holds = live_is_there db.base pass.seen pass.
 
 module _ (db : Shared) (pass : Pass) (before text : List ℕ) where
   pub walk_told : {A E : Type 0} (said : Result A E) (pin : PinFacts) (limit : Option ℕ) → Stands db pass (held.OnPin pin) → OnOk said (text ≡ before ++ flattening_text pin.design limit)
-      → Comes db pass pass before text (OnPin pin.number pin.version) (step.Walk limit) (told said (held.OnPin pin))
+      → Comes db pass pass before text (OnPin pin.number pin.version) (step.Walk limit) (held_after said (held.OnPin pin))
   walk_told (Ok a) pin limit s e =
       let le = held_is_there db pass (held.OnPin pin) pin.number pin.version s s.holds in (
         walk_goes db.base pass.number pass.seen before text pin.number pin.version limit s.ready.history.legal s.holds le
@@ -126,7 +126,7 @@ module _ (db : Shared) (pass : Pass) (before text : List ℕ) where
   )
 
   pub off_walk_told : {A E : Type 0} (said : Result A E) (limit : Option ℕ) → Stands db pass held.OffPin → OnOk said (text ≡ before ++ line (codes "no-pin" ∷ []))
-      → Comes db pass pass before text OffPin (step.Walk limit) (told said held.OffPin)
+      → Comes db pass pass before text OffPin (step.Walk limit) (held_after said held.OffPin)
   off_walk_told (Ok a) limit s e = (off_walk_goes db.base pass.number pass.seen before text limit s.ready.history.legal s.holds e, tt)
   off_walk_told (Err x) limit s e = (
     broken db.base pass.number pass.seen pass.seen before text OffPin OffPin (step.Walk limit) [] (makes_nothing db.base pass.number pass.seen s.ready.history.legal) s.holds
@@ -135,7 +135,7 @@ module _ (db : Shared) (pass : Pass) (before text : List ℕ) where
   )
 
   pub off_release_told : {A E : Type 0} (said : Result A E) → Stands db pass held.OffPin → OnOk said (text ≡ before ++ line (codes "no-pin" ∷ []))
-      → Comes db pass pass before text OffPin step.Release (told said held.Nothing)
+      → Comes db pass pass before text OffPin step.Release (held_after said held.Nothing)
   off_release_told (Ok a) s e = (off_release_goes db.base pass.number pass.seen before text s.ready.history.legal s.holds e, tt)
   off_release_told (Err x) s e = (
     broken db.base pass.number pass.seen pass.seen before text OffPin Nothing step.Release [] (makes_nothing db.base pass.number pass.seen s.ready.history.legal) s.holds
@@ -145,7 +145,7 @@ module _ (db : Shared) (pass : Pass) (before text : List ℕ) where
 
   pub op_told : {A E : Type 0} (said : Result A E) (block : Block) (op : Op) (tx : TxFacts) → Stands db pass (held.InBlock block) → OnOk said (HasRun block.tx tx op)
       → OnOk said (text ≡ before ++ line (reply_text (reply_behind block.tx.pin.design block.tx.ops op) ∷ [])) → tx.pin ≡ block.tx.pin
-      → Comes db pass pass before text (block_of block) (step.Run op) (told said (held.InBlock (record { tx = tx; retries = block.retries; first = block.first })))
+      → Comes db pass pass before text (block_of block) (step.Run op) (held_after said (held.InBlock (record { tx = tx; retries = block.retries; first = block.first })))
   op_told (Ok a) block op tx s run e same =
       let pin = block.tx.pin in
       let le = held_is_there db pass (held.InBlock block) pin.number pin.version s s.holds in

@@ -15,10 +15,10 @@ use Rattle.script_run_spec.specs.Lines.{Begins, GoesOn, IsBroken}
 use Rattle.script_run_spec.proofs.OneLine.{begin_goes, broken, gone_goes, no_version_goes, pin_at_goes, pin_filled, pin_goes}
 use Rattle.script_run_spec.proofs.Pins.{holds_after}
 use Rattle.db_share.specs.Passes.{Shared, Pass, HasPin, known}
-use Rattle.db_share.specs.Calls.{IsFull, LacksMemory, Looks, Makes, Pins}
-use Rattle.script_held.specs.Holding.{filled, told}
+use Rattle.db_share.specs.Calls.{LacksRoom, LacksMemory, Looks, Makes, Pins}
+use Rattle.script_held.specs.Holding.{filled, held_after}
 use Rattle.script_held.specs.declared.held.Held.TheVariants as held
-use Rattle.script_held.specs.declared.held.Stop.TheVariants.{Short}
+use Rattle.script_held.specs.declared.held.Stop.TheVariants.{NoMemory}
 use Rattle.script_held.proofs.Calls.{one_call}
 use Rattle.script_run.specs.Coming.{Comes, Starts, Stops}
 use Rattle.script_run.specs.Holding.{Stands}
@@ -59,7 +59,7 @@ module _ (db : Shared) (old new : Pass) (before text : List ℕ) (stands : Stand
   -- ---- `pin`
 
   pub pin_told : {A E : Type 0} (said : Result A E) (pin : PinFacts) (v : ℕ) → v ≡ pin.version → Pins db old new call.Pin pin → OnOk said (text ≡ before ++ line (codes "pin" ∷ decimal v ∷ []))
-      → Comes db old new before text Nothing step.Pin (told said (held.OnPin pin))
+      → Comes db old new before text Nothing step.Pin (held_after said (held.OnPin pin))
   pin_told (Ok a) pin v is p e = (
     pin_goes db.base old.number old.seen new.seen before text pin.number pin.version stands.holds (one_call db old new call.Pin (answer.Pinned pin.number pin.version) stands.ready p.makes) (on_version pin v is e),
     p.has,
@@ -67,17 +67,17 @@ module _ (db : Shared) (old new : Pass) (before text : List ℕ) (stands : Stand
   pin_told (Err x) pin v is p e =
       (pinned_broken step.Pin call.Pin pin (λ versions. ([], Pinned pin.version ∷ [], On (OnPin pin.number pin.version), inr (pin.number, pin.version, (refl, refl, refl)))) p.makes, p.has)
 
-  pub pin_full : {A E : Type 0} (said : Result A E) → IsFull db old new call.Pin → OnOk said (text ≡ before ++ line (codes "log-full" ∷ [])) → Stops db old new before text Nothing step.Pin (filled said held.Nothing)
+  pub pin_full : {A E : Type 0} (said : Result A E) → LacksRoom db old new call.Pin → OnOk said (text ≡ before ++ line (codes "log-full" ∷ [])) → Stops db old new before text Nothing step.Pin (filled said held.Nothing)
   pin_full said f e = full_told said step.Pin (λ versions. inl (refl, refl, refl)) f.looks f.full e
 
-  pub pin_short : LacksMemory db old new call.Pin → Stops db old new before text Nothing step.Pin (Short held.Nothing)
+  pub pin_short : LacksMemory db old new call.Pin → Stops db old new before text Nothing step.Pin (NoMemory held.Nothing)
   pin_short l = (nothing_done step.Pin (λ versions. inl (refl, refl, refl)) l.looks, tt)
 
   -- ---- `pin-at`
 
   module _ (wanted : ℕ) where
     pub pin_at_told : {A E : Type 0} (said : Result A E) (pin : PinFacts) (v : ℕ) → v ≡ pin.version → Pins db old new (call.PinAt wanted) pin → OnOk said (text ≡ before ++ line (codes "pin" ∷ decimal v ∷ []))
-        → Comes db old new before text Nothing (step.PinAt wanted) (told said (held.OnPin pin))
+        → Comes db old new before text Nothing (step.PinAt wanted) (held_after said (held.OnPin pin))
     pin_at_told (Ok a) pin v is p e = (
       pin_at_goes db.base old.number old.seen new.seen before text wanted pin.number pin.version stands.holds
           (one_call db old new (call.PinAt wanted) (answer.Pinned pin.number pin.version) stands.ready p.makes) (on_version pin v is e),
@@ -90,7 +90,7 @@ module _ (db : Shared) (old new : Pass) (before text : List ℕ) (stands : Stand
     )
 
     pub no_version_told : {A E : Type 0} (said : Result A E) (last : ℕ) → Makes db old new (call.PinAt wanted) (answer.NoVersion last) → OnOk said (text ≡ before ++ line (codes "no-version" ∷ decimal last ∷ []))
-        → Comes db old new before text Nothing (step.PinAt wanted) (told said held.OffPin)
+        → Comes db old new before text Nothing (step.PinAt wanted) (held_after said held.OffPin)
     no_version_told (Ok a) last made e =
         (no_version_goes db.base old.number old.seen new.seen before text wanted last stands.holds (one_call db old new (call.PinAt wanted) (answer.NoVersion last) stands.ready made) e, tt)
     no_version_told (Err x) last made e =
@@ -102,7 +102,7 @@ module _ (db : Shared) (old new : Pass) (before text : List ℕ) (stands : Stand
         )
 
     pub gone_told : {A E : Type 0} (said : Result A E) (least : ℕ) → Makes db old new (call.PinAt wanted) (answer.Gone least) → OnOk said (text ≡ before ++ line (codes "gone" ∷ decimal least ∷ []))
-        → Comes db old new before text Nothing (step.PinAt wanted) (told said held.OffPin)
+        → Comes db old new before text Nothing (step.PinAt wanted) (held_after said held.OffPin)
     gone_told (Ok a) least made e =
         (gone_goes db.base old.number old.seen new.seen before text wanted least stands.holds (one_call db old new (call.PinAt wanted) (answer.Gone least) stands.ready made) e, tt)
     gone_told (Err x) least made e =
@@ -113,25 +113,25 @@ module _ (db : Shared) (old new : Pass) (before text : List ℕ) (stands : Stand
           tt,
         )
 
-    pub pin_at_full : {A E : Type 0} (said : Result A E) → IsFull db old new (call.PinAt wanted) → OnOk said (text ≡ before ++ line (codes "log-full" ∷ []))
+    pub pin_at_full : {A E : Type 0} (said : Result A E) → LacksRoom db old new (call.PinAt wanted) → OnOk said (text ≡ before ++ line (codes "log-full" ∷ []))
         → Stops db old new before text Nothing (step.PinAt wanted) (filled said held.Nothing)
     pin_at_full said f e = full_told said (step.PinAt wanted) (λ versions. inl (refl, refl, refl)) f.looks f.full e
 
-    pub pin_at_short : LacksMemory db old new (call.PinAt wanted) → Stops db old new before text Nothing (step.PinAt wanted) (Short held.Nothing)
+    pub pin_at_short : LacksMemory db old new (call.PinAt wanted) → Stops db old new before text Nothing (step.PinAt wanted) (NoMemory held.Nothing)
     pin_at_short l = (nothing_done (step.PinAt wanted) (λ versions. inl (refl, refl, refl)) l.looks, tt)
 
   -- ---- `begin`
 
   module _ (retries : ℕ) where
-    pub begin_full : {A E : Type 0} (said : Result A E) → IsFull db old new call.Pin → OnOk said (text ≡ before ++ line (codes "log-full" ∷ []))
+    pub begin_full : {A E : Type 0} (said : Result A E) → LacksRoom db old new call.Pin → OnOk said (text ≡ before ++ line (codes "log-full" ∷ []))
         → Stops db old new before text Nothing (step.Begin retries) (filled said held.Nothing)
     begin_full said f e = full_told said (step.Begin retries) (λ versions. inl (refl, refl, refl)) f.looks f.full e
 
-    pub begin_short : LacksMemory db old new call.Pin → Stops db old new before text Nothing (step.Begin retries) (Short held.Nothing)
+    pub begin_short : LacksMemory db old new call.Pin → Stops db old new before text Nothing (step.Begin retries) (NoMemory held.Nothing)
     begin_short l = (nothing_done (step.Begin retries) (λ versions. inl (refl, refl, refl)) l.looks, tt)
 
     -- the pin was made, and no more
-    pub begun_broken : (pin : PinFacts) → Pins db old new call.Pin pin → Stops db old new before text Nothing (step.Begin retries) (Short (held.OnPin pin))
+    pub begun_broken : (pin : PinFacts) → Pins db old new call.Pin pin → Stops db old new before text Nothing (step.Begin retries) (NoMemory (held.OnPin pin))
     begun_broken pin p = (
       pinned_broken (step.Begin retries) call.Pin pin
           (λ versions. ([], Began pin.version ∷ [], On (InBlock pin.number pin.version retries []), inr (pin.number, pin.version, (refl, refl, refl)))) p.makes,

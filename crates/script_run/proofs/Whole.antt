@@ -20,7 +20,7 @@ use Rattle.script_held.specs.Holding.{IsHeldBy, ended_full, held_of, left_held}
 use Rattle.script_held.specs.declared.held.Held.{Held}
 use Rattle.script_held.specs.declared.held.Held.TheVariants as held
 use Rattle.script_held.specs.declared.held.Stop.{Stop}
-use Rattle.script_held.specs.declared.held.Stop.TheVariants.{Full, Short}
+use Rattle.script_held.specs.declared.held.Stop.TheVariants.{LogFull, NoMemory as StopNoMemory}
 use Rattle.script_held.proofs.Calls.{asked, stays}
 use Rattle.script_run.specs.Coming.{Comes, Ends, MayStand, step_at}
 use Rattle.script_run.proofs.Standing.{left_at, walks_later}
@@ -62,12 +62,12 @@ module _ (db : Shared) (first pass new : Pass) (steps : List Step) (text more : 
 
   -- or it stopped the script
   pub stops_at : (stop : Stop) → Comes db pass new text more (held_of h) step (Err stop) → Ends db new steps more (Err stop)
-  stops_at (Full next) f = (
+  stops_at (LogFull next) f = (
     f.1,
     subst (λ (n : ℕ). (last : List Event) → Makes db.base n new.seen last (last_release (held_of next)) → Ran db.base last n steps more true) (sym on.number)
         (λ last m. comes_to_full db.base pass.number steps pass.seen new.seen last text more (held_of h) (held_of next) step left a.come f.0 m),
   )
-  stops_at (Short next) k = (
+  stops_at (StopNoMemory next) k = (
     k.1,
     subst (λ (n : ℕ). (last : List Event) → Makes db.base n new.seen last (last_release (held_of next)) → IsBrokenOff db.base last n steps) (sym on.number)
         (λ last m. comes_to_break db.base pass.number steps pass.seen new.seen last text (held_of h) (held_of next) step left a.come k.0 m),
@@ -82,8 +82,8 @@ ends_at db first pass steps text h left none a =
 -- what is held is the pass's
 pub ends_held : (db : Shared) (pass : Pass) (steps : List Step) (text : List ℕ) (r : Result Held Stop) → Ends db pass steps text r → IsHeldBy db pass (left_held r)
 ends_held db pass steps text (Ok h) e = e.0
-ends_held db pass steps text (Err (Full h)) e = e.0
-ends_held db pass steps text (Err (Short h)) e = e.0
+ends_held db pass steps text (Err (LogFull h)) e = e.0
+ends_held db pass steps text (Err (StopNoMemory h)) e = e.0
 
 -- with the release of what was held the script has run, or was broken off
 module _ (db : Shared) (pass new : Pass) (steps : List Step) (text : List ℕ) (on : GoesOn db pass new) where
@@ -92,13 +92,13 @@ module _ (db : Shared) (pass new : Pass) (steps : List Step) (text : List ℕ) (
   has_run (Ok h) full is e m =
       let same : false ≡ full = cc (is) in
       subst (λ (b : Bool). Ran db.base new.seen new.number steps text b) same (subst (λ (n : ℕ). Ran db.base new.seen n steps text false) (sym on.number) (e.1 new.seen m))
-  has_run (Err (Full h)) full is e m =
+  has_run (Err (LogFull h)) full is e m =
       let same : true ≡ full = cc (is) in
       subst (λ (b : Bool). Ran db.base new.seen new.number steps text b) same (subst (λ (n : ℕ). Ran db.base new.seen n steps text true) (sym on.number) (e.1 new.seen m))
-  has_run (Err (Short h)) full is e m = absurd (cc (is))
+  has_run (Err (StopNoMemory h)) full is e m = absurd (cc (is))
 
   pub is_broken_off : (r : Result Held Stop) (error : NoMemory) → ended_full r ≡ Err error → Ends db pass steps text r → Makes db.base pass.number pass.seen new.seen (last_release (held_of (left_held r)))
       → IsBrokenOff db.base new.seen new.number steps
   is_broken_off (Ok h) error is e m = absurd (cc (is))
-  is_broken_off (Err (Full h)) error is e m = absurd (cc (is))
-  is_broken_off (Err (Short h)) error is e m = subst (λ (n : ℕ). IsBrokenOff db.base new.seen n steps) (sym on.number) (e.1 new.seen m)
+  is_broken_off (Err (LogFull h)) error is e m = absurd (cc (is))
+  is_broken_off (Err (StopNoMemory h)) error is e m = subst (λ (n : ℕ). IsBrokenOff db.base new.seen n steps) (sym on.number) (e.1 new.seen m)

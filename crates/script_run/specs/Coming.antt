@@ -26,7 +26,7 @@ use Rattle.script_held.specs.declared.held.Block.{Block}
 use Rattle.script_held.specs.declared.held.Held.{Held}
 use Rattle.script_held.specs.declared.held.Held.TheVariants.{InBlock, Nothing as Empty}
 use Rattle.script_held.specs.declared.held.Stop.{Stop}
-use Rattle.script_held.specs.declared.held.Stop.TheVariants.{Full, Short}
+use Rattle.script_held.specs.declared.held.Stop.TheVariants.{LogFull, NoMemory}
 use Rattle.script_run.specs.Holding.{Stands}
 
 -- the line was run, and this is held then
@@ -35,8 +35,8 @@ Went db old new before text held step next = GoesOn db.base old.number old.seen 
 
 -- the line stopped the script: the log was full, or memory was refused
 abbrev pub Stops : Shared → Pass → Pass → List ℕ → List ℕ → SessionHeld → Step → Stop → Type 0
-Stops db old new before text held step (Full next) = IsFilled db.base old.number old.seen new.seen before text held step (held_of next) × IsHeldBy db new next
-Stops db old new before text held step (Short next) = IsBroken db.base old.number old.seen new.seen held step (held_of next) × IsHeldBy db new next
+Stops db old new before text held step (LogFull next) = IsFilled db.base old.number old.seen new.seen before text held step (held_of next) × IsHeldBy db new next
+Stops db old new before text held step (NoMemory next) = IsBroken db.base old.number old.seen new.seen held step (held_of next) × IsHeldBy db new next
 
 -- what a line came to
 abbrev pub Comes : Shared → Pass → Pass → List ℕ → List ℕ → SessionHeld → Step → Result Held Stop → Type 0
@@ -52,12 +52,12 @@ Starts db old new before text retries (Err stop) = Stops db old new before text 
 -- what a commit came to whose word was said or not
 abbrev pub accepted : {A E : Type 0} → Result A E → Result (Option (List Op)) Stop
 accepted (Ok a) = Ok None
-accepted (Err e) = Err (Short Empty)
+accepted (Err e) = Err (NoMemory Empty)
 
 -- what a refused commit came to, whose operations came back where its word was said
 abbrev pub refused : {E : Type 0} → Result (List Op) E → Result (Option (List Op)) Stop
 refused (Ok ops) = Ok (Some ops)
-refused (Err e) = Err (Short Empty)
+refused (Err e) = Err (NoMemory Empty)
 
 -- the commit met a conflict, which was said, and the pin was released: the operations came back
 pub record Refused (db : Shared) (old new : Pass) (before text : List ℕ) (block : Block) (ops : List Op) : Type 0 where
@@ -109,9 +109,9 @@ reply_lines replies = flat_map (λ reply. line (reply_text reply ∷ [])) replie
 abbrev pub Ends : Shared → Pass → List Step → List ℕ → Result Held Stop → Type 0
 Ends db pass steps text (Ok held) = IsHeldBy db pass held
     × ((last : List Event) → Makes db.base pass.number pass.seen last (last_release (held_of held)) → Ran db.base last pass.number steps text false)
-Ends db pass steps text (Err (Full held)) = IsHeldBy db pass held
+Ends db pass steps text (Err (LogFull held)) = IsHeldBy db pass held
     × ((last : List Event) → Makes db.base pass.number pass.seen last (last_release (held_of held)) → Ran db.base last pass.number steps text true)
-Ends db pass steps text (Err (Short held)) = IsHeldBy db pass held
+Ends db pass steps text (Err (NoMemory held)) = IsHeldBy db pass held
     × ((last : List Event) → Makes db.base pass.number pass.seen last (last_release (held_of held)) → IsBrokenOff db.base last pass.number steps)
 
 -- the step of the line at this place

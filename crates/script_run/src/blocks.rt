@@ -103,7 +103,7 @@ fn begin_again<G: Gate>(
     };
     match run_ops(along, &mut block, begin.ops, pass.number(), out) {
         Ok(()) => Ok(block),
-        Err(NoMemory) => Err(Stop::Short(Held::InBlock(block))),
+        Err(NoMemory) => Err(Stop::NoMemory(Held::InBlock(block))),
     }
 }
 
@@ -146,7 +146,7 @@ fn accepted(said: Result<(), NoMemory>) -> Result<Option<Row<Op>>, Stop>
 {
     match said {
         Ok(()) => Ok(None),
-        Err(NoMemory) => Err(Stop::Short(Held::Nothing)),
+        Err(NoMemory) => Err(Stop::NoMemory(Held::Nothing)),
     }
 }
 
@@ -156,7 +156,7 @@ fn refused(said: Result<Row<Op>, NoMemory>) -> Result<Option<Row<Op>>, Stop>
 {
     match said {
         Ok(ops) => Ok(Some(ops)),
-        Err(NoMemory) => Err(Stop::Short(Held::Nothing)),
+        Err(NoMemory) => Err(Stop::NoMemory(Held::Nothing)),
     }
 }
 
@@ -180,7 +180,7 @@ fn commit_once<G: Gate>(
         Err((CommitError::LogFull, tx)) => {
             Err(filled(say_log_full(out), Held::OnPin(tx.abandon())))
         }
-        Err((CommitError::NoMemory, tx)) => Err(Stop::Short(Held::OnPin(tx.abandon()))),
+        Err((CommitError::NoMemory, tx)) => Err(Stop::NoMemory(Held::OnPin(tx.abandon()))),
         Err((CommitError::Conflict { object, version }, tx)) => {
             let conflict = Conflict { object, version };
             refused(give_up(rt, along, pass, tx, conflict, out))

@@ -12,7 +12,7 @@ use crate::along::Along;
 use db_share::{CollectError, Db, Pass, Pin, PinAtError, PinError, Tx};
 use netdb_outside::Gate;
 use netlist_schema::NoMemory;
-use script_held::{Block, Held, Stop, filled, told};
+use script_held::{Block, Held, Stop, filled, held_after};
 use script_lang::Step;
 use script_say::{
     say_abandoned, say_begin, say_collected, say_gone, say_log_full, say_no_version, say_pin,
@@ -36,10 +36,10 @@ pub(crate) fn pin_line(
     match db.pin(rt, alloc, pass) {
         Ok(pin) => {
             let said = say_pin(pin.version(), out);
-            told(said, Held::OnPin(pin))
+            held_after(said, Held::OnPin(pin))
         }
         Err(PinError::LogFull) => Err(filled(say_log_full(out), Held::Nothing)),
-        Err(PinError::NoMemory) => Err(Stop::Short(Held::Nothing)),
+        Err(PinError::NoMemory) => Err(Stop::NoMemory(Held::Nothing)),
     }
 }
 
@@ -59,12 +59,12 @@ pub(crate) fn pin_at_line(
     match db.pin_at(rt, alloc, pass, version) {
         Ok(pin) => {
             let said = say_pin(pin.version(), out);
-            told(said, Held::OnPin(pin))
+            held_after(said, Held::OnPin(pin))
         }
-        Err(PinAtError::NoVersion { head }) => told(say_no_version(head, out), Held::OffPin),
-        Err(PinAtError::Gone { least }) => told(say_gone(least, out), Held::OffPin),
+        Err(PinAtError::NoVersion { head }) => held_after(say_no_version(head, out), Held::OffPin),
+        Err(PinAtError::Gone { least }) => held_after(say_gone(least, out), Held::OffPin),
         Err(PinAtError::LogFull) => Err(filled(say_log_full(out), Held::Nothing)),
-        Err(PinAtError::NoMemory) => Err(Stop::Short(Held::Nothing)),
+        Err(PinAtError::NoMemory) => Err(Stop::NoMemory(Held::Nothing)),
     }
 }
 
@@ -83,9 +83,9 @@ pub(crate) fn collect_line(
     ensures comes { Comes db.now pass.old pass.new out.old.items out.new.items (held_of held) Step.Collect result }
 {
     match db.collect(rt, alloc, pass) {
-        Ok(count) => told(say_collected(count, out), held),
+        Ok(count) => held_after(say_collected(count, out), held),
         Err(CollectError::LogFull) => Err(filled(say_log_full(out), held)),
-        Err(CollectError::NoMemory) => Err(Stop::Short(held)),
+        Err(CollectError::NoMemory) => Err(Stop::NoMemory(held)),
     }
 }
 
@@ -102,7 +102,7 @@ pub(crate) fn release_line(
     ensures comes { Comes db.now pass.old pass.new out.old.items out.new.items (OnPin pin.number pin.version) Step.Release result }
 {
     db.release(rt, pass, pin);
-    told(say_released(out), Held::Nothing)
+    held_after(say_released(out), Held::Nothing)
 }
 
 /// Says the items of the pinned version.
@@ -135,14 +135,14 @@ pub(crate) fn start_block<G: Gate>(
     let pin = match along.db.pin(rt, along.alloc, pass) {
         Ok(pin) => pin,
         Err(PinError::LogFull) => return Err(filled(say_log_full(out), Held::Nothing)),
-        Err(PinError::NoMemory) => return Err(Stop::Short(Held::Nothing)),
+        Err(PinError::NoMemory) => return Err(Stop::NoMemory(Held::Nothing)),
     };
     let Ok(()) = say_begin(pin.version(), out) else {
-        return Err(Stop::Short(Held::OnPin(pin)));
+        return Err(Stop::NoMemory(Held::OnPin(pin)));
     };
     match Tx::start(along.alloc, pin) {
         Ok(tx) => Ok(Block { tx, retries, first }),
-        Err((_, pin)) => Err(Stop::Short(Held::OnPin(pin))),
+        Err((_, pin)) => Err(Stop::NoMemory(Held::OnPin(pin))),
     }
 }
 
@@ -159,5 +159,5 @@ pub(crate) fn abandon_line(
     ensures comes { Comes db.now pass.old pass.new out.old.items out.new.items (block_of block) Step.Abandon result }
 {
     db.release(rt, pass, block.tx.abandon());
-    told(say_abandoned(out), Held::Nothing)
+    held_after(say_abandoned(out), Held::Nothing)
 }

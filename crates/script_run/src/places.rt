@@ -16,7 +16,7 @@ use crate::lines::{
 };
 use db_share::{Db, Pass, Pin};
 use netdb_outside::Gate;
-use script_held::{Block, Held, Stop, told};
+use script_held::{Block, Held, Stop, held_after};
 use script_lang::Step;
 use script_say::say_no_pin;
 use std::alloc::Global;
@@ -65,7 +65,7 @@ fn block_line<G: Gate>(
     match step {
         Step::Run(op) => {
             let said = try_op(along.alloc, &mut block.tx, op, out);
-            told(said, Held::InBlock(block))
+            held_after(said, Held::InBlock(block))
         }
         Step::Commit => commit_block(rt, along, pass, block, out),
         Step::Abandon => abandon_line(rt, along.db, pass, block, out),
@@ -91,7 +91,7 @@ fn pinned_line<G: Gate>(
     match step {
         Step::Walk { limit } => {
             let said = show(along.alloc, &pin, *limit, out);
-            told(said, Held::OnPin(pin))
+            held_after(said, Held::OnPin(pin))
         }
         Step::Release => release_line(rt, along.db, pass, pin, out),
         Step::Collect => collect_line(rt, along.alloc, along.db, pass, Held::OnPin(pin), out),
@@ -114,8 +114,8 @@ fn off_line(
     ensures comes { Comes db.now pass.old pass.new out.old.items out.new.items OffPin step.now result }
 {
     match step {
-        Step::Walk { .. } => told(say_no_pin(out), Held::OffPin),
-        Step::Release => told(say_no_pin(out), Held::Nothing),
+        Step::Walk { .. } => held_after(say_no_pin(out), Held::OffPin),
+        Step::Release => held_after(say_no_pin(out), Held::Nothing),
         Step::Collect => collect_line(rt, alloc, db, pass, Held::OffPin, out),
         _ => unreachable!(),
     }

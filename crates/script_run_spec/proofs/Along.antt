@@ -3,7 +3,7 @@ use Rattle.std.proofs.Common.{◌≡◌, ◌∙◌, ℕ, List, [], ◌∷◌, �
 use Rattle.netlist_schema.specs.Design.{Design}
 use Rattle.db_spec.specs.History.{Legal, version_at}
 use Rattle.db_spec.specs.declared.event.Event.{Event}
-use Rattle.script_spec.specs.Report.{transcript, word_text, last_design}
+use Rattle.script_spec.specs.Report.{transcript, word_text, head_design}
 use Rattle.script_spec.specs.Session.{Ending, Exchange, Held, Nothing, Runs, Word, exchanges}
 use Rattle.script_spec.specs.declared.script.Step.{Step}
 use Rattle.script_run_spec.specs.Along.{Resumes}
@@ -16,8 +16,8 @@ use Rattle.script_run_spec.proofs.Places.{placed_behind}
 pub transcript-append : (d : Design) (history : List Event) (said words : List Word) → transcript d history (said ++ words) ≡ transcript d history said ++ transcript d history words
 transcript-append d history [] words = refl
 transcript-append d history (word ∷ said) words =
-    ap (λ (text : List ℕ). word_text (last_design d history) (version_at d history) word ++ text) (transcript-append d history said words)
-    ∙ sym (append_assoc (word_text (last_design d history) (version_at d history) word) (transcript d history said) (transcript d history words))
+    ap (λ (text : List ℕ). word_text (head_design d history) (version_at d history) word ++ text) (transcript-append d history said words)
+    ∙ sym (append_assoc (word_text (head_design d history) (version_at d history) word) (transcript d history said) (transcript d history words))
 
 -- what comes behind the new history comes behind the old one
 pub behind_both : (d : Design) (caller : ℕ) (old new : List Event) (done : List Exchange) (more : List Event) → (m : Makes d caller old new done) → new ++ more ≡ old ++ (m.more ++ more)

@@ -14,7 +14,7 @@ use Rattle.db_spec.proofs.Kept.{events_after}
 use Rattle.db_spec.proofs.Sound.{kept_up_after, never_falls}
 use Rattle.script_spec.specs.Headline.{HasNoPlaces, HoldsNone, IsFull, IsWhole, SomeFull}
 use Rattle.script_spec.specs.Laws.{SessionStays, TranscriptStays}
-use Rattle.script_spec.specs.Report.{HasFilled, Sessions, Story, last_design, transcript}
+use Rattle.script_spec.specs.Report.{HasFilled, Sessions, SessionResult, head_design, transcript}
 use Rattle.script_spec.specs.Session.{Ending, Whole, Full, Session}
 use Rattle.script_spec.specs.declared.script.Step.{Step}
 use Rattle.script_run_spec.specs.Ended.{Ended, HasEnded, HaveEnded, met_full}
@@ -73,42 +73,42 @@ filled d seen later (Full wanted) legal all none =
 
 -- what one script came to in the whole history
 record Came (d : Design) (history : List Event) (caller : ℕ) (steps : List Step) (ended : Ended) : Type 0 where
-  story : Story
-  session : Session d history caller steps story.said story.ending
-  text : ended.text ≡ transcript d history story.said
-  full : IsTrue ended.log_full ↔ IsFull story.ending
-  places_wanting : HasFilled history story.ending
+  came : SessionResult
+  session : Session d history caller steps came.said came.ending
+  text : ended.text ≡ transcript d history came.said
+  full : IsTrue ended.log_full ↔ IsFull came.ending
+  places_wanting : HasFilled history came.ending
 
-came : SessionStays → TranscriptStays → (d : Design) (history : List Event) (caller : ℕ) (steps : List Step) (ended : Ended) → Legal d history
+came_to : SessionStays → TranscriptStays → (d : Design) (history : List Event) (caller : ℕ) (steps : List Step) (ended : Ended) → Legal d history
     → places (state_after d history) ≡ length history → HasEnded d history caller steps ended → Came d history caller steps ended
-came stays shown d history caller steps ended legal all has =
+came_to stays shown d history caller steps ended legal all has =
     let r = has.ran in
     let legal_parts : Legal d (has.seen ++ has.later) = subst (λ (events : List Event). Legal d events) has.parts legal in
     let all_parts = subst (λ (events : List Event). places (state_after d events) ≡ length events) has.parts all in
     subst (λ (events : List Event). Came d events caller steps ended) (sym has.parts) (record {
-      story = record { said = r.said; ending = r.ending };
+      came = record { said = r.said; ending = r.ending };
       session = stays d has.seen has.later caller steps r.said r.ending legal_parts has.quiet r.session;
       text = r.transcribed ∙ sym (shown d has.seen has.later caller steps r.said r.ending legal_parts r.session);
       full = r.full;
       places_wanting = filled d has.seen has.later r.ending legal_parts all_parts r.no_places;
     })
 
-abbrev AllWhole : List Story → Type 0
-AllWhole = AllByRecursion (λ story. IsWhole story.ending)
+abbrev AllWhole : List SessionResult → Type 0
+AllWhole = AllByRecursion (λ came. IsWhole came.ending)
 
 -- what all came to
 record AllCame (d : Design) (history : List Event) (caller : ℕ) (scripts : List (List Step)) (ends : List Ended) : Type 0 where
-  stories : List Story
-  fit : Sessions d history caller scripts stories
-  texts : map (λ (ended : Ended). ended.text) ends ≡ transcripts d history stories
-  wanting : AllByRecursion (λ story. HasFilled history story.ending) stories
-  endings : MatchBool (met_full ends) (SomeFull stories) (AllWhole stories)
+  results : List SessionResult
+  fit : Sessions d history caller scripts results
+  texts : map (λ (ended : Ended). ended.text) ends ≡ transcripts d history results
+  wanting : AllByRecursion (λ came. HasFilled history came.ending) results
+  endings : MatchBool (met_full ends) (SomeFull results) (AllWhole results)
 
-one_more_ending : (flag rest : Bool) (story : Story) (stories : List Story) → IsTrue flag ↔ IsFull story.ending → MatchBool rest (SomeFull stories) (AllWhole stories)
-    → MatchBool (flag || rest) (SomeFull (story ∷ stories)) (AllWhole (story ∷ stories))
-one_more_ending true rest story stories full h = inl (full.0 refl)
-one_more_ending false true story stories full h = inr h
-one_more_ending false false story stories full h = (whole story.ending full.1, h)
+one_more_ending : (flag rest : Bool) (came : SessionResult) (results : List SessionResult) → IsTrue flag ↔ IsFull came.ending → MatchBool rest (SomeFull results) (AllWhole results)
+    → MatchBool (flag || rest) (SomeFull (came ∷ results)) (AllWhole (came ∷ results))
+one_more_ending true rest came results full h = inl (full.0 refl)
+one_more_ending false true came results full h = inr h
+one_more_ending false false came results full h = (whole came.ending full.1, h)
   where
     whole : (ending : Ending) → (IsFull ending → IsTrue false) → IsWhole ending
     whole Whole none = refl
@@ -116,23 +116,23 @@ one_more_ending false false story stories full h = (whole story.ending full.1, h
 
 all_came : SessionStays → TranscriptStays → (d : Design) (history : List Event) (caller : ℕ) (scripts : List (List Step)) (ends : List Ended) → Legal d history
     → places (state_after d history) ≡ length history → HaveEnded d history caller scripts ends → AllCame d history caller scripts ends
-all_came stays shown d history caller [] [] legal all has = record { stories = []; fit = tt; texts = refl; wanting = tt; endings = tt }
+all_came stays shown d history caller [] [] legal all has = record { results = []; fit = tt; texts = refl; wanting = tt; endings = tt }
 all_came stays shown d history caller [] (ended ∷ ends) legal all has = absurd has
 all_came stays shown d history caller (steps ∷ scripts) [] legal all has = absurd has
 all_came stays shown d history caller (steps ∷ scripts) (ended ∷ ends) legal all has =
-    let one = came stays shown d history caller steps ended legal all has.0 in
+    let one = came_to stays shown d history caller steps ended legal all has.0 in
     let rest = all_came stays shown d history (caller + 1) scripts ends legal all has.1 in
     record {
-      stories = one.story ∷ rest.stories;
+      results = one.came ∷ rest.results;
       fit = (one.session, rest.fit);
       texts = cc (one.text, rest.texts);
       wanting = (one.places_wanting, rest.wanting);
-      endings = one_more_ending ended.log_full (met_full ends) one.story rest.stories one.full rest.endings;
+      endings = one_more_ending ended.log_full (met_full ends) one.came rest.results one.full rest.endings;
     }
 
-whole_or_full : (flag : Bool) (stories : List Story) → MatchBool flag (SomeFull stories) (AllWhole stories) → MatchBool flag (SomeFull stories) (All (λ (story : Story). IsWhole story.ending) stories)
-whole_or_full true stories h = h
-whole_or_full false stories h = All-from_recursion (λ (story : Story). IsWhole story.ending) stories h
+whole_or_full : (flag : Bool) (results : List SessionResult) → MatchBool flag (SomeFull results) (AllWhole results) → MatchBool flag (SomeFull results) (All (λ (came : SessionResult). IsWhole came.ending) results)
+whole_or_full true results h = h
+whole_or_full false results h = All-from_recursion (λ (came : SessionResult). IsWhole came.ending) results h
 
 pub printed : SessionStays → TranscriptStays → EndedIsPrinted
 printed stays shown d scripts history ends legal callers has =
@@ -142,10 +142,10 @@ printed stays shown d scripts history ends legal callers has =
       prints = record {
         legal = legal;
         callers = callers;
-        stories = came.stories;
+        results = came.results;
         fit = came.fit;
-        filled = All-from_recursion (λ (story : Story). HasFilled history story.ending) came.stories came.wanting;
-        printed = ap (written_report (last_design d history) history) came.texts ∙ sym (report_is d history came.stories);
+        filled = All-from_recursion (λ (came : SessionResult). HasFilled history came.ending) came.results came.wanting;
+        printed = ap (written_report (head_design d history) history) came.texts ∙ sym (report_is d history came.results);
       };
-      endings = whole_or_full (met_full ends) came.stories came.endings;
+      endings = whole_or_full (met_full ends) came.results came.endings;
     }

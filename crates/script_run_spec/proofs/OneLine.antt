@@ -11,7 +11,7 @@ use Rattle.db_spec.specs.declared.event.Call.TheVariants as call
 use Rattle.db_spec.specs.declared.event.Event.{Event}
 use Rattle.db_spec.proofs.Histories.{version_stays}
 use Rattle.flat_lines_spec.specs.Lines.{flattening_text}
-use Rattle.script_spec.specs.Report.{last_design, word_text}
+use Rattle.script_spec.specs.Report.{head_design, word_text}
 use Rattle.script_spec.specs.Session.{Abandoned, Began, Collected, Gone, LogFull, NoPin, NoVersion, Pinned, Released, Replied, Walked, Word, Exchange, Goes, Held, Nothing, OnPin, OffPin, InBlock, On, Stop, Told, last_release, release, reply_behind}
 use Rattle.script_spec.specs.Texts.{line}
 use Rattle.script_spec.specs.declared.script.Step.{Step}
@@ -24,7 +24,7 @@ use Rattle.script_run_spec.proofs.Pins.{holds_after, one_released}
 
 -- one word, whose text is the same however the history goes on
 pub writes_one : (d : Design) (seen : List Event) (before text said : List ℕ) (word : Word)
-    → ((more : List Event) → word_text (last_design d (seen ++ more)) (version_at d (seen ++ more)) word ≡ said) → text ≡ before ++ said → Writes d seen before text (word ∷ [])
+    → ((more : List Event) → word_text (head_design d (seen ++ more)) (version_at d (seen ++ more)) word ≡ said) → text ≡ before ++ said → Writes d seen before text (word ∷ [])
 writes_one d seen before text said word same e more legal =
     e ∙ ap (λ (xs : List ℕ). before ++ xs) (sym (append-nil said) ∙ ap (λ (xs : List ℕ). xs ++ []) (sym (same more)))
 

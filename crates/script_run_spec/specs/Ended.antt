@@ -5,7 +5,7 @@ use Rattle.netlist_schema.specs.Design.{Design}
 use Rattle.db_spec.specs.declared.event.Event.{Event}
 use Rattle.script_spec.specs.declared.script.Step.{Step}
 use Rattle.script_spec.specs.Headline.{Ran}
-use Rattle.script_spec.specs.Report.{last_design}
+use Rattle.script_spec.specs.Report.{head_design}
 use Rattle.script_spec.specs.Session.{exchanges}
 use Rattle.script_run_spec.specs.Written.{written_report}
 
@@ -35,4 +35,4 @@ met_full ends = list_any (λ ended. ended.log_full) ends
 
 -- what is written of the history and of the transcripts
 abbrev pub ended_report : Design → List Event → List Ended → List ℕ
-ended_report d history ends = written_report (last_design d history) history (map (λ ended. ended.text) ends)
+ended_report d history ends = written_report (head_design d history) history (map (λ ended. ended.text) ends)

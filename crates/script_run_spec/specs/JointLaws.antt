@@ -13,7 +13,7 @@ use Rattle.script_run_spec.specs.Ended.{Ended, HaveEnded, ended_report, met_full
 -- full, where one met a full log, and else all ended by their last lines.
 pub record IsReported (d : Design) (scripts : List (List Step)) (history : List Event) (ends : List Ended) : Type 0 where
   pub prints : Prints d scripts (ended_report d history ends) history
-  pub endings : MatchBool (met_full ends) (SomeFull prints.stories) (All (λ story. IsWhole story.ending) prints.stories)
+  pub endings : MatchBool (met_full ends) (SomeFull prints.results) (All (λ came. IsWhole came.ending) prints.results)
 
 -- Scripts that ended at different times of one legal history, which has no other callers, have one report: each session and each
 -- transcript stays as the history goes on, and no pin is left that could hold a place.

@@ -4,14 +4,14 @@ use Rattle.netlist_schema.specs.Design.{Design}
 use Rattle.db_spec.specs.History.{version_at}
 use Rattle.db_spec.specs.declared.event.Event.{Event}
 use Rattle.script_spec.specs.declared.script.Step.{Step}
-use Rattle.script_spec.specs.Report.{Prints, Story, Sessions, report}
+use Rattle.script_spec.specs.Report.{Prints, SessionResult, Sessions, report}
 use Rattle.script_spec.specs.Session.{Nothing, exchanges}
 use Rattle.script_spec.proofs.OneSession.{one_run}
 
-one_story : (x y : Story) → (x.said ≡ y.said) × (x.ending ≡ y.ending) → x ≡ y
+one_story : (x y : SessionResult) → (x.said ≡ y.said) × (x.ending ≡ y.ending) → x ≡ y
 one_story x y e = ap (λ s. record { said = s; ending = x.ending }) e.0 ∙ ap (λ z. record { said = y.said; ending = z }) e.1
 
-pub one_stories : (d : Design) (history : List Event) (caller : ℕ) (scripts : List (List Step)) (a b : List Story)
+pub one_stories : (d : Design) (history : List Event) (caller : ℕ) (scripts : List (List Step)) (a b : List SessionResult)
     → Sessions d history caller scripts a → Sessions d history caller scripts b → a ≡ b
 one_stories d history caller [] [] [] x y = refl
 one_stories d history caller [] [] (t ∷ b) x y = absurd y
@@ -25,4 +25,4 @@ one_stories d history caller (script ∷ scripts) (s ∷ a) (t ∷ b) x y =
 
 pub one_report : (d : Design) (scripts : List (List Step)) (history : List Event) (a b : List ℕ) → Prints d scripts a history → Prints d scripts b history → a ≡ b
 one_report d scripts history a b x y =
-    x.printed ∙ ap (report d history) (one_stories d history 0 scripts x.stories y.stories x.fit y.fit) ∙ sym y.printed
+    x.printed ∙ ap (report d history) (one_stories d history 0 scripts x.results y.results x.fit y.fit) ∙ sym y.printed

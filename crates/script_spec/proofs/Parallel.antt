@@ -29,8 +29,8 @@ use Rattle.edif_spelling_spec.proofs.RowLemmas.{identifier-from_is_name}
 use Rattle.flat_lines_spec.specs.Lines.{flattening_text, item_lines, last_line, shown_items}
 use Rattle.script_spec.specs.Example.{board, text_of}
 use Rattle.script_spec.specs.ScriptText.{Says, Block, Free}
-use Rattle.script_spec.specs.ExampleParallel.{IsScriptA, n_in_a, m_in_b, scripts, parallel_history, parallel_lines, stories}
-use Rattle.script_spec.specs.Report.{Sessions, Story, HasFilled, last_design, transcript}
+use Rattle.script_spec.specs.ExampleParallel.{IsScriptA, n_in_a, m_in_b, scripts, parallel_history, parallel_lines, results}
+use Rattle.script_spec.specs.Report.{Sessions, SessionResult, HasFilled, head_design, transcript}
 use Rattle.script_spec.specs.Texts.{line, event_texts}
 use Rattle.script_spec.specs.Session.{Runs, Nothing, OnPin, InBlock, Whole, Began, Replied, Committed, Pinned, Walked, Released, Told, release, reply_behind}
 use Rattle.script_spec.specs.declared.script.Step.TheVariants.{Begin, Run, Commit, Pin, Walk, Release}
@@ -173,15 +173,15 @@ one_walk =
       ),
     )
 
-pub fit : Sessions board parallel_history 0 scripts stories
+pub fit : Sessions board parallel_history 0 scripts results
 fit = (one_block 1 2 (AddNet (in_w (codes "A")) (codes "n")) refl, (one_block 2 1 (AddNet (in_w (codes "B")) (codes "m")) refl, (one_walk, tt)))
 
 pub callers : All (λ (event : Event). event.caller < length scripts) parallel_history
 callers = All-from_recursion (λ (event : Event). event.caller < length scripts) parallel_history
     (omega arith, (omega arith, (omega arith, (omega arith, (omega arith, (omega arith, (omega arith, (omega arith, tt))))))))
 
-pub filled : All (λ (story : Story). HasFilled parallel_history story.ending) stories
-filled = All-from_recursion (λ (story : Story). HasFilled parallel_history story.ending) stories (tt, (tt, (tt, tt)))
+pub filled : All (λ (came : SessionResult). HasFilled parallel_history came.ending) results
+filled = All-from_recursion (λ (came : SessionResult). HasFilled parallel_history came.ending) results (tt, (tt, (tt, tt)))
 
 -- the walked version is flattened
 flat : flattening board ≡ Enter [] (id_of 0 2) [] ∷ Enter (0 ∷ []) (id_of 0 0) [] ∷ Enter (1 ∷ []) (id_of 0 1) [] ∷ []
@@ -199,7 +199,7 @@ walked = ap (λ (items : List Item). item_lines board (shown_items None items) +
 abbrev report_with : List ℕ → List ℕ → List ℕ
 report_with walk last =
     line (codes "history" ∷ [])
-    ++ event_texts (last_design board parallel_history) 0 parallel_history
+    ++ event_texts (head_design board parallel_history) 0 parallel_history
     ++ (line (codes "script" ∷ decimal 0 ∷ []) ++ transcript board parallel_history (Began 0 ∷ Replied Done ∷ Committed 2 ∷ [])
     ++ (line (codes "script" ∷ decimal 1 ∷ []) ++ transcript board parallel_history (Began 0 ∷ Replied Done ∷ Committed 1 ∷ [])
     ++ (line (codes "script" ∷ decimal 2 ∷ []) ++ (line (codes "pin" ∷ decimal 0 ∷ []) ++ (walk ++ (line (codes "released" ∷ []) ++ []))) ++ [])))

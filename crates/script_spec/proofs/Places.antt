@@ -11,7 +11,7 @@ use Rattle.db_spec.specs.Answers.{most_events}
 use Rattle.db_spec.specs.History.{version_at}
 use Rattle.db_spec.specs.declared.event.Event.{Event}
 use Rattle.script_spec.specs.Headline.{IsWhole, RoomSuffices, all_places, script_places, step_places}
-use Rattle.script_spec.specs.Report.{HasFilled, Sessions, Story}
+use Rattle.script_spec.specs.Report.{HasFilled, Sessions, SessionResult}
 use Rattle.script_spec.specs.Session.{Word, Held, Nothing, OnPin, OffPin, InBlock, Ending, Whole, Full, Outcome, On, Stop, Exchange, Told, Refused, Does, BeginsAgain, Commits, Goes, Runs, exchanges, last_release}
 use Rattle.script_spec.specs.declared.script.Step.{Step}
 use Rattle.script_spec.specs.declared.script.Step.TheVariants.{Begin, Run, Commit, Abandon, Pin, PinAt, Walk, Release, Collect}
@@ -164,27 +164,27 @@ all_events scripts (event ∷ history) callers =
 -- ---- all scripts
 
 -- where a script ends since the log was full, all scripts together have the places of the history and those that were wanted
-also : (P Q : Story → Type 0) → ((story : Story) → P story → Q story) → (stories : List Story) → AllByRecursion P stories → AllByRecursion Q stories
+also : (P Q : SessionResult → Type 0) → ((came : SessionResult) → P came → Q came) → (results : List SessionResult) → AllByRecursion P results → AllByRecursion Q results
 also P Q f [] a = tt
-also P Q f (story ∷ stories) a = (f story a.0, also P Q f stories a.1)
+also P Q f (came ∷ results) a = (f came a.0, also P Q f results a.1)
 
-each_has_places : (d : Design) (history : List Event) (caller : ℕ) (scripts : List (List Step)) (stories : List Story) → Sessions d history caller scripts stories
+each_has_places : (d : Design) (history : List Event) (caller : ℕ) (scripts : List (List Step)) (results : List SessionResult) → Sessions d history caller scripts results
     → (events_of_all caller scripts history ≤ all_places scripts)
-    × AllByRecursion (λ (story : Story). events_of_all caller scripts history + wanted story.ending ≤ all_places scripts) stories
+    × AllByRecursion (λ (came : SessionResult). events_of_all caller scripts history + wanted came.ending ≤ all_places scripts) results
 each_has_places d history caller [] [] s = (omega arith, tt)
-each_has_places d history caller [] (story ∷ stories) s = absurd s
+each_has_places d history caller [] (came ∷ results) s = absurd s
 each_has_places d history caller (script ∷ scripts) [] s = absurd s
-each_has_places d history caller (script ∷ scripts) (story ∷ stories) s =
-    let here : length (exchanges caller history) + wanted story.ending ≤ script_places script + 0 =
-    run_places (version_at d history) Nothing script (exchanges caller history) story.said story.ending s.0 in
-    let rest = each_has_places d history (caller + 1) scripts stories s.1 in
+each_has_places d history caller (script ∷ scripts) (came ∷ results) s =
+    let here : length (exchanges caller history) + wanted came.ending ≤ script_places script + 0 =
+    run_places (version_at d history) Nothing script (exchanges caller history) came.said came.ending s.0 in
+    let rest = each_has_places d history (caller + 1) scripts results s.1 in
     let others : events_of_all (caller + 1) scripts history ≤ all_places scripts = rest.0 in (
       omega (arith, here, others),
       (
         omega (arith, here, others),
-        also (λ (t : Story). events_of_all (caller + 1) scripts history + wanted t.ending ≤ all_places scripts)
-            (λ (t : Story). events_of_all caller (script ∷ scripts) history + wanted t.ending ≤ all_places (script ∷ scripts))
-            (λ t le. omega (arith, here, le)) stories rest.1,
+        also (λ (t : SessionResult). events_of_all (caller + 1) scripts history + wanted t.ending ≤ all_places scripts)
+            (λ (t : SessionResult). events_of_all caller (script ∷ scripts) history + wanted t.ending ≤ all_places (script ∷ scripts))
+            (λ t le. omega (arith, here, le)) results rest.1,
       ),
     )
 
@@ -195,8 +195,8 @@ whole_where_room history (Full places) f le = absurd (omega (arith, f, le))
 pub room_suffices : RoomSuffices
 room_suffices d scripts text history room prints =
     let all = all_events scripts history prints.callers in
-    let each = All-from_recursion (λ (story : Story). events_of_all 0 scripts history + wanted story.ending ≤ all_places scripts) prints.stories
-    (each_has_places d history 0 scripts prints.stories prints.fit).1 in
+    let each = All-from_recursion (λ (came : SessionResult). events_of_all 0 scripts history + wanted came.ending ≤ all_places scripts) prints.results
+    (each_has_places d history 0 scripts prints.results prints.fit).1 in
     λ k other lt.
     let places = each k other lt in
     whole_where_room history _ (prints.filled k other lt) (omega (arith, all, places, room))

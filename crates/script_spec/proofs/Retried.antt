@@ -19,9 +19,9 @@ use Rattle.db_spec.specs.declared.event.Answer.TheVariants as answer
 use Rattle.db_spec.specs.declared.event.Call.TheVariants as call
 use Rattle.db_spec.specs.declared.event.Event.{Event}
 use Rattle.script_spec.specs.Example.{board}
-use Rattle.script_spec.specs.ExampleRetry.{set_k, sets, scripts, retry_history, retry_lines, stories}
+use Rattle.script_spec.specs.ExampleRetry.{set_k, sets, scripts, retry_history, retry_lines, results}
 use Rattle.script_spec.specs.Objects.{face_object}
-use Rattle.script_spec.specs.Report.{Sessions, Story, HasFilled, last_design, script_texts}
+use Rattle.script_spec.specs.Report.{Sessions, SessionResult, HasFilled, head_design, script_texts}
 use Rattle.script_spec.specs.Texts.{line, event_texts}
 use Rattle.script_spec.specs.Session.{Runs, Nothing, InBlock, Whole, Began, Replied, Committed, Conflict, Told, release}
 
@@ -185,22 +185,22 @@ run_once =
       ),
     )
 
-pub fit : Sessions board retry_history 0 scripts stories
+pub fit : Sessions board retry_history 0 scripts results
 fit = (run_twice, (run_once, tt))
 
 pub callers : All (λ (event : Event). event.caller < length scripts) retry_history
 callers = All-from_recursion (λ (event : Event). event.caller < length scripts) retry_history
     (omega arith, (omega arith, (omega arith, (omega arith, (omega arith, (omega arith, (omega arith, (omega arith, (omega arith, tt)))))))))
 
-pub filled : All (λ (story : Story). HasFilled retry_history story.ending) stories
-filled = All-from_recursion (λ (story : Story). HasFilled retry_history story.ending) stories (tt, (tt, tt))
+pub filled : All (λ (came : SessionResult). HasFilled retry_history came.ending) results
+filled = All-from_recursion (λ (came : SessionResult). HasFilled retry_history came.ending) results (tt, (tt, tt))
 
 -- the report where this is the text of the last version
 abbrev report_with : List ℕ → List ℕ
 report_with last =
     line (codes "history" ∷ [])
-    ++ event_texts (last_design board retry_history) 0 retry_history
-    ++ script_texts board retry_history 0 stories
+    ++ event_texts (head_design board retry_history) 0 retry_history
+    ++ script_texts board retry_history 0 results
     ++ line (codes "design" ∷ [])
     ++ last
 

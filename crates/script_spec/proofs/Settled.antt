@@ -26,7 +26,7 @@ use Rattle.db_spec.proofs.Made.{conflict_is_there}
 use Rattle.db_spec.proofs.Versions.{follows_after, grown_on}
 use Rattle.flat_lines_spec.specs.Lines.{cell_text, flattening_text, lib_text, spaced}
 use Rattle.script_spec.specs.Laws.{ConflictsAreThere, ObjectsStay, TranscriptStays}
-use Rattle.script_spec.specs.Report.{last_design, transcript, word_text}
+use Rattle.script_spec.specs.Report.{head_design, transcript, word_text}
 use Rattle.script_spec.specs.Session.{Word, Began, Replied, Committed, Conflict, Abandoned, Pinned, NoVersion, Gone, Walked, Released, NoPin, Collected, LogFull, Held, Nothing, OnPin, OffPin, InBlock, Ending, Outcome, On, Stop, Exchange, Told, Commits, Goes, Runs, exchanges, replied, reply_behind}
 use Rattle.script_spec.specs.Texts.{conflict_words, library_text, line, object_text, object_words}
 use Rattle.script_spec.specs.declared.script.Step.{Step}
@@ -77,16 +77,16 @@ later d seen more =
     subst (λ (s : State). head (state_after d seen) ≤ head s) (sym (state_from-append (opening d) seen more))
     (later_head (state_after d seen) (state_from (state_after d seen) more) (goes_on_from (state_after d seen) more))
 
-last_grown : (d : Design) (seen more : List Event) → Grown (last_design d seen) (last_design d (seen ++ more))
-last_grown d seen more =
+head_grown : (d : Design) (seen more : List Event) → Grown (head_design d seen) (head_design d (seen ++ more))
+head_grown d seen more =
     let low = later d seen more in
     let v = head (state_after d seen) in
     let w = head (state_after d (seen ++ more)) in
-    subst (λ (old : Design). Grown old (last_design d (seen ++ more))) (version_stays d seen more v (omega arith))
+    subst (λ (old : Design). Grown old (head_design d (seen ++ more))) (version_stays d seen more v (omega arith))
     (grown_on (state_after d (seen ++ more)) (follows_after d (seen ++ more)) v (w - v) w (omega (arith, low)) (omega arith))
 
 pub objects_stay : ObjectsStay
-objects_stay d seen more object legal is = ap spaced (words_stay (last_design d seen) (last_design d (seen ++ more)) object (last_grown d seen more) is)
+objects_stay d seen more object legal is = ap spaced (words_stay (head_design d seen) (head_design d (seen ++ more)) object (head_grown d seen more) is)
 
 pub conflicts_are_there : ConflictsAreThere
 conflicts_are_there d seen more caller pin ops object w legal = conflict_is_there d seen caller pin ops object w (legal-right (opening d) seen _ legal).0.answers
@@ -114,7 +114,7 @@ Settled h last (Walked v limit) = v ≤ h
 Settled h last word = Unit {0}
 
 tell : (d : Design) (front rest : List Event) (caller : ℕ) (c : Call) (a : Answer) → Answers (state_after d front) caller c a
-    → Tells (head (state_after d (front ++ rest))) (last_design d (front ++ rest)) (Told c a)
+    → Tells (head (state_after d (front ++ rest))) (head_design d (front ++ rest)) (Told c a)
 tell d front rest caller call.Pin (answer.Pinned n v) x = let at = x.1 in let low = later d front rest in omega (arith, at, low)
 tell d front rest caller (call.PinAt w) (answer.Pinned n v) x = let high = x.0 in let at = x.3 in let low = later d front rest in omega (arith, high, at, low)
 tell d front rest caller (call.Release p) (answer.Pinned n v) x = absurd x
@@ -125,7 +125,7 @@ tell d front rest caller (call.PinAt u) (answer.Conflict o w) x = absurd x
 tell d front rest caller (call.Release p) (answer.Conflict o w) x = absurd x
 tell d front rest caller call.Collect (answer.Conflict o w) x = absurd x
 tell d front rest caller (call.Commit p ops) (answer.Conflict o w) x =
-    there_stays (last_design d front) (last_design d (front ++ rest)) o (last_grown d front rest) (conflict_is_there d front caller p ops o w x)
+    there_stays (head_design d front) (head_design d (front ++ rest)) o (head_grown d front rest) (conflict_is_there d front caller p ops o w x)
 tell d front rest caller c (answer.NoVersion last) x = tt
 tell d front rest caller c (answer.Gone least) x = tt
 tell d front rest caller c answer.Released x = tt
@@ -141,14 +141,14 @@ one_tells h last true event rest x xs = (x, xs)
 one_tells h last false event rest x xs = xs
 
 all_tell : (d : Design) (front rest : List Event) (caller : ℕ) → Legal d (front ++ rest)
-    → AllByRecursion (Tells (head (state_after d (front ++ rest))) (last_design d (front ++ rest))) (exchanges caller rest)
+    → AllByRecursion (Tells (head (state_after d (front ++ rest))) (head_design d (front ++ rest))) (exchanges caller rest)
 all_tell d front [] caller legal = tt
 all_tell d front (event ∷ rest) caller legal =
     let same : (front ++ event ∷ []) ++ rest ≡ front ++ event ∷ rest = append_assoc front (event ∷ []) rest in
     let then = all_tell d (front ++ event ∷ []) rest caller (subst (λ (xs : List Event). Legal d xs) (sym same) legal) in
-    one_tells (head (state_after d (front ++ event ∷ rest))) (last_design d (front ++ event ∷ rest)) (event.caller == caller) event (filter (λ e. e.caller == caller) rest)
+    one_tells (head (state_after d (front ++ event ∷ rest))) (head_design d (front ++ event ∷ rest)) (event.caller == caller) event (filter (λ e. e.caller == caller) rest)
     (tell d front (event ∷ rest) event.caller event.call event.answer (legal-right (opening d) front (event ∷ rest) legal).0.answers)
-    (subst (λ (xs : List Event). AllByRecursion (Tells (head (state_after d xs)) (last_design d xs)) (exchanges caller rest)) same then)
+    (subst (λ (xs : List Event). AllByRecursion (Tells (head (state_after d xs)) (head_design d xs)) (exchanges caller rest)) same then)
 
 -- ---- what a session says is settled
 
@@ -227,10 +227,10 @@ module _ (h : ℕ) (last : Design) where
 
 -- ---- the transcript
 
-word_stays : (d : Design) (seen more : List Event) (word : Word) → Settled (head (state_after d seen)) (last_design d seen) word
-    → word_text (last_design d (seen ++ more)) (version_at d (seen ++ more)) word ≡ word_text (last_design d seen) (version_at d seen) word
+word_stays : (d : Design) (seen more : List Event) (word : Word) → Settled (head (state_after d seen)) (head_design d seen) word
+    → word_text (head_design d (seen ++ more)) (version_at d (seen ++ more)) word ≡ word_text (head_design d seen) (version_at d seen) word
 word_stays d seen more (Conflict object v) s =
-    ap (λ words. line (codes "conflict" ∷ words ++ codes "version" ∷ decimal v ∷ [])) (words_stay (last_design d seen) (last_design d (seen ++ more)) object (last_grown d seen more) s)
+    ap (λ words. line (codes "conflict" ∷ words ++ codes "version" ∷ decimal v ∷ [])) (words_stay (head_design d seen) (head_design d (seen ++ more)) object (head_grown d seen more) s)
 word_stays d seen more (Walked v limit) s = ap (λ (e : Design). flattening_text e limit) (version_stays d seen more v s)
 word_stays d seen more (Began v) s = refl
 word_stays d seen more (Replied reply) s = refl
@@ -244,13 +244,13 @@ word_stays d seen more NoPin s = refl
 word_stays d seen more (Collected n) s = refl
 word_stays d seen more LogFull s = refl
 
-said_stays : (d : Design) (seen more : List Event) (said : List Word) → AllByRecursion (Settled (head (state_after d seen)) (last_design d seen)) said → transcript d (seen ++ more) said ≡ transcript d seen said
+said_stays : (d : Design) (seen more : List Event) (said : List Word) → AllByRecursion (Settled (head (state_after d seen)) (head_design d seen)) said → transcript d (seen ++ more) said ≡ transcript d seen said
 said_stays d seen more [] s = refl
 said_stays d seen more (word ∷ said) s =
     ap (λ text. text ++ transcript d (seen ++ more) said) (word_stays d seen more word s.0)
-    ∙ ap (λ text. word_text (last_design d seen) (version_at d seen) word ++ text) (said_stays d seen more said s.1)
+    ∙ ap (λ text. word_text (head_design d seen) (version_at d seen) word ++ text) (said_stays d seen more said s.1)
 
 pub transcript_stays : TranscriptStays
 transcript_stays d seen more caller steps said ending legal s =
     said_stays d seen more said
-    (settled_runs (head (state_after d seen)) (last_design d seen) (version_at d seen) Nothing steps (exchanges caller seen) said ending tt (all_tell d [] seen caller (legal-left (opening d) seen more legal)) s)
+    (settled_runs (head (state_after d seen)) (head_design d seen) (version_at d seen) Nothing steps (exchanges caller seen) said ending tt (all_tell d [] seen caller (legal-left (opening d) seen more legal)) s)

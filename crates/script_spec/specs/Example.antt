@@ -5,7 +5,7 @@ use Rattle.netlist_schema.specs.Design.{Design}
 use Rattle.flat_spec.specs.ExampleParts.{named, id_of, inst, body, lib, top}
 use Rattle.script_spec.specs.declared.script.ScriptLine.{ScriptLine}
 use Rattle.script_spec.specs.declared.script.Step.{Step}
-use Rattle.script_spec.specs.Report.{Story}
+use Rattle.script_spec.specs.Report.{SessionResult}
 use Rattle.script_spec.specs.Session.{Ending, Word}
 
 -- lines, each with a line feed at its end
@@ -17,8 +17,8 @@ abbrev pub at_line : ℕ → Step → ScriptLine
 at_line number step = record { number = number; step = step }
 
 -- what a session says and how it ends
-abbrev pub story : List Word → Ending → Story
-story said ending = record { said = said; ending = ending }
+abbrev pub came : List Word → Ending → SessionResult
+came said ending = record { said = said; ending = ending }
 
 -- two cells with nothing in them, and the top, which has one instance of each
 abbrev pub board : Design

@@ -10,8 +10,8 @@ use Rattle.db_spec.specs.declared.event.Call.TheVariants as call
 use Rattle.db_spec.specs.declared.event.Event.{Event}
 use Rattle.script_spec.specs.declared.script.Step.{Step}
 use Rattle.script_spec.specs.declared.script.Step.TheVariants.{Begin, Run, Commit, Pin, Walk, Release}
-use Rattle.script_spec.specs.Example.{text_of, at_line, story, board}
-use Rattle.script_spec.specs.Report.{Prints, Story, last_design}
+use Rattle.script_spec.specs.Example.{text_of, at_line, came, board}
+use Rattle.script_spec.specs.Report.{Prints, SessionResult, head_design}
 use Rattle.script_spec.specs.ScriptText.{IsScriptText}
 use Rattle.script_spec.specs.Session.{Began, Replied, Committed, Pinned, Walked, Released, Whole}
 
@@ -46,11 +46,11 @@ parallel_history =
     ∷ event 2 (call.Release 0) answer.Released
     ∷ []
 
-abbrev pub stories : List Story
-stories =
-    story (Began 0 ∷ Replied Done ∷ Committed 2 ∷ []) Whole
-    ∷ story (Began 0 ∷ Replied Done ∷ Committed 1 ∷ []) Whole
-    ∷ story (Pinned 0 ∷ Walked 0 None ∷ Released ∷ []) Whole
+abbrev pub results : List SessionResult
+results =
+    came (Began 0 ∷ Replied Done ∷ Committed 2 ∷ []) Whole
+    ∷ came (Began 0 ∷ Replied Done ∷ Committed 1 ∷ []) Whole
+    ∷ came (Pinned 0 ∷ Walked 0 None ∷ Released ∷ []) Whole
     ∷ []
 
 -- the lines of the report before the text of the last version
@@ -94,5 +94,5 @@ IsScriptA = IsScriptText text_a (record { lines = at_line 1 (Begin 0) ∷ at_lin
 
 -- the three scripts fit this legal history, and its report is these lines and the text of the last version
 pub record IsParallelRun : Type 0 where
-  pub prints : Prints board scripts (parallel_lines ++ canonical_text (last_design board parallel_history)) parallel_history
+  pub prints : Prints board scripts (parallel_lines ++ canonical_text (head_design board parallel_history)) parallel_history
   pub said : IsScriptA

@@ -13,9 +13,9 @@ use Rattle.db_spec.specs.declared.event.Call.TheVariants as call
 use Rattle.db_spec.specs.declared.event.Event.{Event}
 use Rattle.script_spec.specs.declared.script.Step.{Step}
 use Rattle.script_spec.specs.declared.script.Step.TheVariants.{Begin, Run, Commit}
-use Rattle.script_spec.specs.Example.{text_of, story, board}
+use Rattle.script_spec.specs.Example.{text_of, came, board}
 use Rattle.script_spec.specs.Objects.{face_object}
-use Rattle.script_spec.specs.Report.{Prints, Story, last_design}
+use Rattle.script_spec.specs.Report.{Prints, SessionResult, head_design}
 use Rattle.script_spec.specs.Session.{Began, Replied, Committed, Conflict, Whole}
 
 -- sets the property K of A to a number
@@ -41,10 +41,10 @@ retry_history =
     ∷ event 0 (call.Release 2) answer.Released
     ∷ []
 
-abbrev pub stories : List Story
-stories =
-    story (Began 0 ∷ Replied Done ∷ Conflict (face_object (id_of 0 0)) 1 ∷ Began 1 ∷ Replied Done ∷ Committed 2 ∷ []) Whole
-    ∷ story (Began 0 ∷ Replied Done ∷ Committed 1 ∷ []) Whole
+abbrev pub results : List SessionResult
+results =
+    came (Began 0 ∷ Replied Done ∷ Conflict (face_object (id_of 0 0)) 1 ∷ Began 1 ∷ Replied Done ∷ Committed 2 ∷ []) Whole
+    ∷ came (Began 0 ∷ Replied Done ∷ Committed 1 ∷ []) Whole
     ∷ []
 
 -- the lines of the report before the text of the last version
@@ -79,4 +79,4 @@ retry_lines = text_of (
 
 -- both scripts fit this legal history, and its report is these lines and the text of the last version
 abbrev pub IsRetriedRun : Type 0
-IsRetriedRun = Prints board scripts (retry_lines ++ canonical_text (last_design board retry_history)) retry_history
+IsRetriedRun = Prints board scripts (retry_lines ++ canonical_text (head_design board retry_history)) retry_history

@@ -10,7 +10,7 @@ use Rattle.script_spec.specs.declared.script.Step.{Step}
 use Rattle.script_spec.specs.declared.script.Step.TheVariants.{Begin, Pin, PinAt, Walk, Collect}
 use Rattle.script_spec.specs.ScriptText.{Parts, IsScriptText, steps_of}
 use Rattle.script_spec.specs.Session.{Word, Ending, Whole, Full, Session}
-use Rattle.script_spec.specs.Report.{Prints, Story, transcript}
+use Rattle.script_spec.specs.Report.{Prints, SessionResult, transcript}
 use Rattle.script_spec.specs.declared.limits.TheConstants.{MOST_SCRIPT_BYTES}
 
 -- ---- the texts of the scripts
@@ -50,21 +50,21 @@ IsWhole ending = ending ≡ Whole
 pub record WritesReport (d : Design) (scripts : List (List Step)) (written : List ℕ) : Type 0 where
   pub history : List Event
   pub prints : Prints d scripts written history
-  pub whole : All (λ story. IsWhole story.ending) prints.stories
+  pub whole : All (λ came. IsWhole came.ending) prints.results
 
 -- at the status for a full log the whole report is written, and some script met a full log
 abbrev pub IsFull : Ending → Type 0
 IsFull Whole = ⊥
 IsFull (Full places) = Unit {0}
 
-abbrev pub SomeFull : List Story → Type 0
+abbrev pub SomeFull : List SessionResult → Type 0
 SomeFull [] = ⊥
-SomeFull (story ∷ stories) = IsFull story.ending ⊎ SomeFull stories
+SomeFull (came ∷ results) = IsFull came.ending ⊎ SomeFull results
 
 pub record WritesFullReport (d : Design) (scripts : List (List Step)) (written : List ℕ) : Type 0 where
   pub history : List Event
   pub prints : Prints d scripts written history
-  pub full : SomeFull prints.stories
+  pub full : SomeFull prints.results
 
 -- at a fault in writing, and where memory was wanted, a front of such a report is written
 pub record WritesReportFront (d : Design) (scripts : List (List Step)) (written : List ℕ) : Type 0 where
@@ -122,4 +122,4 @@ HaveRoom scripts = all_places scripts ≤ most_events
 -- for a full log.
 abbrev pub RoomSuffices : Type 0
 RoomSuffices = (d : Design) (scripts : List (List Step)) (text : List ℕ) (history : List Event)
-    → HaveRoom scripts → (prints : Prints d scripts text history) → All (λ story. IsWhole story.ending) prints.stories
+    → HaveRoom scripts → (prints : Prints d scripts text history) → All (λ came. IsWhole came.ending) prints.results

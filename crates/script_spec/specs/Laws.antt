@@ -12,7 +12,7 @@ use Rattle.db_spec.specs.declared.event.Event.{Event}
 use Rattle.script_spec.specs.declared.script.Step.{Step}
 use Rattle.script_spec.specs.declared.script.Step.TheVariants.{Run}
 use Rattle.script_spec.specs.Lines.{IsSayable, IsSayableOp, op_text}
-use Rattle.script_spec.specs.Report.{Prints, last_design, transcript}
+use Rattle.script_spec.specs.Report.{Prints, head_design, transcript}
 use Rattle.script_spec.specs.ScriptText.{Parts, IsScriptText, IsFirstBad, Says}
 use Rattle.script_spec.specs.Session.{Word, Ending, Session, exchanges}
 use Rattle.script_spec.specs.Texts.{object_text}
@@ -65,13 +65,13 @@ SessionStays = (d : Design) (seen more : List Event) (caller : ℕ) (steps : Lis
 
 -- an object that is there keeps its text as the history goes on
 abbrev pub ObjectsStay : Type 0
-ObjectsStay = (d : Design) (seen more : List Event) (object : Object) → Legal d (seen ++ more) → IsThere (last_design d seen) object
-    → object_text (last_design d (seen ++ more)) object ≡ object_text (last_design d seen) object
+ObjectsStay = (d : Design) (seen more : List Event) (object : Object) → Legal d (seen ++ more) → IsThere (head_design d seen) object
+    → object_text (head_design d (seen ++ more)) object ≡ object_text (head_design d seen) object
 
 -- the object of a refused commit is there in the last version at its turn
 abbrev pub ConflictsAreThere : Type 0
 ConflictsAreThere = (d : Design) (seen more : List Event) (caller pin : ℕ) (ops : List Op) (object : Object) (w : ℕ) → Legal d (seen ++ refused caller pin ops object w ∷ more)
-    → IsThere (last_design d seen) object
+    → IsThere (head_design d seen) object
 
 -- what a session said keeps its text as the history goes on
 abbrev pub TranscriptStays : Type 0

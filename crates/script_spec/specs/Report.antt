@@ -13,8 +13,8 @@ use Rattle.script_spec.specs.Session.{Word, Began, Replied, Committed, Conflict,
 use Rattle.script_spec.specs.Texts.{line, reply_text, conflict_words, event_texts}
 
 -- the design of the last version
-abbrev pub last_design : Design → List Event → Design
-last_design d history = version_at d history (head (state_after d history))
+abbrev pub head_design : Design → List Event → Design
+head_design d history = version_at d history (head (state_after d history))
 
 -- ---- transcripts
 
@@ -37,21 +37,21 @@ word_text d versions LogFull = line (codes "log-full" ∷ [])
 
 -- the transcript of what a session says in a history
 abbrev pub transcript : Design → List Event → List Word → List ℕ
-transcript d history said = flat_map (word_text (last_design d history) (version_at d history)) said
+transcript d history said = flat_map (word_text (head_design d history) (version_at d history)) said
 
 -- ---- sessions of many scripts
 
 -- what a script came to: the words of its session, and how it ended
-pub record Story : Type 0 where
+pub record SessionResult : Type 0 where
   pub said : List Word
   pub ending : Ending
 
 -- the scripts fit the events of their callers, who are numbered from this number on, and come to these
-abbrev pub Sessions : Design → List Event → ℕ → List (List Step) → List Story → Type 0
+abbrev pub Sessions : Design → List Event → ℕ → List (List Step) → List SessionResult → Type 0
 Sessions d history caller [] [] = Unit {0}
-Sessions d history caller (script ∷ scripts) (story ∷ stories) =
-    Session d history caller script story.said story.ending × Sessions d history (caller + 1) scripts stories
-Sessions d history caller scripts stories = ⊥
+Sessions d history caller (script ∷ scripts) (came ∷ results) =
+    Session d history caller script came.said came.ending × Sessions d history (caller + 1) scripts results
+Sessions d history caller scripts results = ⊥
 
 -- where a session ends since the log was full, the history has not the places that the refused call wanted
 abbrev pub HasFilled : List Event → Ending → Type 0
@@ -61,25 +61,25 @@ HasFilled history (Full places) = most_events < length history + places
 -- ---- the report
 
 -- `script K` and its transcript, for the scripts from this number on
-abbrev pub script_texts : Design → List Event → ℕ → List Story → List ℕ
+abbrev pub script_texts : Design → List Event → ℕ → List SessionResult → List ℕ
 script_texts d history k [] = []
-script_texts d history k (story ∷ stories) = line (codes "script" ∷ decimal k ∷ []) ++ transcript d history story.said ++ script_texts d history (k + 1) stories
+script_texts d history k (came ∷ results) = line (codes "script" ∷ decimal k ∷ []) ++ transcript d history came.said ++ script_texts d history (k + 1) results
 
 -- `history` and the events, the transcripts in the order of the scripts, `design` and the canonical text of the last version
-abbrev pub report : Design → List Event → List Story → List ℕ
-report d history stories =
+abbrev pub report : Design → List Event → List SessionResult → List ℕ
+report d history results =
     line (codes "history" ∷ [])
-    ++ event_texts (last_design d history) 0 history
-    ++ script_texts d history 0 stories
+    ++ event_texts (head_design d history) 0 history
+    ++ script_texts d history 0 results
     ++ line (codes "design" ∷ [])
-    ++ canonical_text (last_design d history)
+    ++ canonical_text (head_design d history)
 
 -- The text is the report of this history: it is legal, its callers are the scripts, each fits its caller's events, a script ends by
 -- a full log only where the log is full for its call, and the text is as above.
 pub record Prints (d : Design) (scripts : List (List Step)) (text : List ℕ) (history : List Event) : Type 0 where
   pub legal : Legal d history
   pub callers : All (λ event. event.caller < length scripts) history
-  pub stories : List Story
-  pub fit : Sessions d history 0 scripts stories
-  pub filled : All (λ story. HasFilled history story.ending) stories
-  pub printed : text ≡ report d history stories
+  pub results : List SessionResult
+  pub fit : Sessions d history 0 scripts results
+  pub filled : All (λ came. HasFilled history came.ending) results
+  pub printed : text ≡ report d history results

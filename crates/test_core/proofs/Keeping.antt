@@ -14,7 +14,7 @@ use Rattle.db_core.specs.declared.errors.CollectError.TheVariants.{LogFull as Co
 use Rattle.db_core.specs.declared.errors.CommitError.{CommitError}
 use Rattle.db_core.specs.declared.errors.CommitError.TheVariants.{LogFull as CommitFull, Conflict, NoMemory as CommitNoMemory}
 use Rattle.db_core.specs.Story.{Story, IsHistory}
-use Rattle.db_core.specs.Calls.{Accepts, Adds, Collects, Commits, IsRefused, PinsAt, PinsLast, Releases, commit_of, event_of}
+use Rattle.db_core.specs.Calls.{Accepts, Adds, Collects, Commits, IsRefused, PinsAt, PinsHead, Releases, commit_of, event_of}
 use Rattle.db_core.proofs.Staying.{pin_stays_on}
 use Rattle.test_core.specs.Keeps.{IsPinBy, KeepsOthers, KeepsPins}
 
@@ -29,7 +29,7 @@ module _ (old new : Story) (history : IsHistory old) where
     caller_is = is.caller_is;
   }
 
-  pub keeps_pin : (by : ℕ) (r : Result PinFacts PinError) → PinsLast old new by r → KeepsPins old new
+  pub keeps_pin : (by : ℕ) (r : Result PinFacts PinError) → PinsHead old new by r → KeepsPins old new
   keeps_pin by (Ok made) is = over by Pin _ (λ n e. cc) is.adds
   keeps_pin by (Err PinFull) is = still is.same
   keeps_pin by (Err PinNoMemory) is = still is.same

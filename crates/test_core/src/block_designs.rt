@@ -4,14 +4,14 @@ use netlist_schema::{Design, Ident};
 use std::alloc::Global;
 use std::process::Abort;
 use std::test::Fail;
-use test_hand_designs::{CellPlan, Inside, Plan, design};
+use test_hand_designs::{CellPlan, Inside, DesignPlan, design};
 
 const EMPTY: Inside = Inside {
     insts: &[],
     nets: &[],
 };
 
-const BLOCKS: Plan = Plan {
+const BLOCKS: DesignPlan = DesignPlan {
     cells: &[
         CellPlan {
             id: b"A",

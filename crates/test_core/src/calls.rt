@@ -16,7 +16,7 @@ pub fn opened(rt: &impl Abort, alloc: Global, design: Design) -> Core {
 }
 
 /// Pins the last version.
-pub fn pin_last(rt: &impl Abort, core: &mut Core, caller: u32) -> Pin
+pub fn pin_head(rt: &impl Abort, core: &mut Core, caller: u32) -> Pin
     ensures keeps { KeepsPins core.old core.new }
     ensures pin { IsPinBy core.new caller result }
 {
@@ -130,7 +130,7 @@ fn started(rt: &impl Abort, alloc: Global, pin: Pin) -> Tx
 }
 
 /// Pins the last version and tries an edit there, whose reply is this one.
-pub fn try_last(
+pub fn try_on_head(
     rt: &impl Abort,
     alloc: Global,
     core: &mut Core,
@@ -141,7 +141,7 @@ pub fn try_last(
     ensures keeps { KeepsPins core.old core.new }
     ensures pin { IsPinBy core.new caller result.pin }
 {
-    let pin = pin_last(rt, core, caller);
+    let pin = pin_head(rt, core, caller);
     let mut tx = started(rt, alloc, pin);
     run(rt, alloc, &mut tx, edit, reply);
     tx

@@ -1,7 +1,7 @@
 //! Commits that clash with the commit of another caller, and commits that do not.
 ghost use Rattle.test_core.specs.Keeps.{IsPinBy, KeepsOthers};
 
-use crate::calls::{accepted, end_pin, opened, refused, try_last};
+use crate::calls::{accepted, end_pin, opened, refused, try_on_head};
 use crate::designs::{Edit, FIRST, placed, two};
 use db_core::{Core, Pin, Tx};
 use edit_spec::Reply;
@@ -35,8 +35,8 @@ fn overtaken(
     ensures first { IsPinBy core.new 0 result.0 }
     ensures second { IsPinBy core.new 1 result.1.pin }
 {
-    let before = try_last(rt, alloc, core, 0, first, &Reply::Done);
-    let tx = try_last(rt, alloc, core, 1, second, &Reply::Done);
+    let before = try_on_head(rt, alloc, core, 0, first, &Reply::Done);
+    let tx = try_on_head(rt, alloc, core, 1, second, &Reply::Done);
     let pin = accepted(rt, core, 0, before, 1);
     (pin, tx)
 }
@@ -56,7 +56,7 @@ fn has_events(rt: &impl Abort, core: &Core, count: usize) {
 fn try_anew(rt: &impl Abort, alloc: Global, core: &mut Core)
     ensures { KeepsOthers 1 core.old core.new }
 {
-    let again = try_last(rt, alloc, core, 1, FIRST_IN_SECOND, &Reply::IsCyclic);
+    let again = try_on_head(rt, alloc, core, 1, FIRST_IN_SECOND, &Reply::IsCyclic);
     let anew = again.abandon();
     is_pin(rt, &anew, 2, 1);
     has_events(rt, core, 6);

@@ -4,7 +4,7 @@ use netlist_schema::{CellId, Design, Direction, Ident, LibId, Name, Property, Ro
 use std::alloc::Global;
 use std::process::Abort;
 use std::test::Fail;
-use test_hand_designs::{CellPlan, Inside, Plan, design};
+use test_hand_designs::{CellPlan, Inside, DesignPlan, design};
 
 const EMPTY: Option<Inside<'static>> = Some(Inside {
     insts: &[],
@@ -40,19 +40,19 @@ const T: CellPlan<'static> = CellPlan {
     }),
 };
 
-const ONE: Plan<'static> = Plan {
+const ONE: DesignPlan<'static> = DesignPlan {
     cells: &[A],
     top: None,
     notes: &[],
 };
 
-const TWO: Plan<'static> = Plan {
+const TWO: DesignPlan<'static> = DesignPlan {
     cells: &[A, B],
     top: None,
     notes: &[],
 };
 
-const PLACED: Plan<'static> = Plan {
+const PLACED: DesignPlan<'static> = DesignPlan {
     cells: &[WITH_PORT, T],
     top: None,
     notes: &[],

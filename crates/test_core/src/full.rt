@@ -1,5 +1,5 @@
 //! A log that is full: of pins that are all live, and of pins that have ended.
-use crate::calls::{collect, end_pin, opened, pin_last};
+use crate::calls::{collect, end_pin, opened, pin_head};
 use crate::designs::one;
 use db_core::{CollectError, Core, PinError};
 use std::process::Abort;
@@ -47,7 +47,7 @@ fn half_of_the_log_are_live_pins(rt: HostRuntime) -> Result<(), Fail> {
 /// Pins the last version and ends the pin, so many times.
 fn go_round(rt: &impl Abort, core: &mut Core, times: u32) {
     for _ in 0..times {
-        let pin = pin_last(rt, core, 0);
+        let pin = pin_head(rt, core, 0);
         end_pin(core, 0, pin);
     }
 }

@@ -1,5 +1,5 @@
 //! Names of cells that are added by one commit each.
-use crate::calls::{accepted, end_pin, opened, try_last};
+use crate::calls::{accepted, end_pin, opened, try_on_head};
 use crate::designs::{Edit, one};
 use db_core::Core;
 use edit_spec::Reply;
@@ -21,14 +21,14 @@ const NAMES: [&str; 9] = [
 
 /// Adds a cell as this version.
 fn add(rt: &impl Abort, alloc: Global, core: &mut Core, name: &'static str, version: u64) {
-    let tx = try_last(rt, alloc, core, 0, Edit::Cell(name), &Reply::Done);
+    let tx = try_on_head(rt, alloc, core, 0, Edit::Cell(name), &Reply::Done);
     let pin = accepted(rt, core, 0, tx, version);
     end_pin(core, 0, pin);
 }
 
 /// An edit of the last version gets this reply.
 fn replies(rt: &impl Abort, alloc: Global, core: &mut Core, edit: Edit, reply: &Reply) {
-    let tx = try_last(rt, alloc, core, 0, edit, reply);
+    let tx = try_on_head(rt, alloc, core, 0, edit, reply);
     let _pin = tx.abandon();
 }
 

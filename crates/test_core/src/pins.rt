@@ -29,7 +29,7 @@ fn started(rt: &impl Abort, alloc: Global, pin: Pin) -> Tx
 }
 
 /// Pins the last version.
-fn pin_last(rt: &impl Abort, core: &mut Core, held: &Pin) -> Pin
+fn pin_head(rt: &impl Abort, core: &mut Core, held: &Pin) -> Pin
     requires { IsPinBy core.old 0 held.now }
     ensures held { IsPinBy core.new 0 held.now }
     ensures pin { IsPinBy core.new 1 result }
@@ -60,7 +60,7 @@ pub fn commit_net(rt: &impl Abort, alloc: Global, core: &mut Core, held: &Pin)
     requires { IsPinBy core.old 0 held.now }
     ensures { IsPinBy core.new 0 held.now }
 {
-    let own = pin_last(rt, core, held);
+    let own = pin_head(rt, core, held);
     let mut tx = started(rt, alloc, own);
     run(rt, &mut tx, add_net(rt, alloc));
     let own = commit(rt, core, tx, held);

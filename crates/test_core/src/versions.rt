@@ -1,7 +1,7 @@
 //! Which versions are kept, and what they are.
 ghost use Rattle.test_core.specs.Keeps.{IsPinBy, KeepsOthers, KeepsPins};
 
-use crate::calls::{accepted, collect, end_pin, look_at, opened, pin_last, try_last};
+use crate::calls::{accepted, collect, end_pin, look_at, opened, pin_head, try_on_head};
 use crate::designs::{Edit, FIRST, ident, one};
 use db_core::{CollectError, Core, Pin, PinAtError, Snapshot};
 use edit_spec::Reply;
@@ -14,7 +14,7 @@ use std::test::Fail;
 fn commit_net(rt: &impl Abort, alloc: Global, core: &mut Core)
     ensures { KeepsOthers 1 core.old core.new }
 {
-    let tx = try_last(rt, alloc, core, 1, Edit::Net("A", "n"), &Reply::Done);
+    let tx = try_on_head(rt, alloc, core, 1, Edit::Net("A", "n"), &Reply::Done);
     let pin = accepted(rt, core, 1, tx, 1);
     end_pin(core, 1, pin);
 }
@@ -89,7 +89,7 @@ fn have_nets(rt: &impl Abort, core: &Core, shown: &Snapshot) {
 }
 
 fn watched(rt: &impl Abort, alloc: Global, core: &mut Core) {
-    let held = pin_last(rt, core, 0);
+    let held = pin_head(rt, core, 0);
     let shown = held.snapshot().expect(rt, "memory for a version");
     while_held(rt, alloc, core, held);
     when_free(rt, core);

@@ -2,7 +2,7 @@
 use netlist_schema::Design;
 use std::alloc::Global;
 use std::test::Fail;
-use test_hand_designs::{CellPlan, Inside, Plan, design};
+use test_hand_designs::{CellPlan, Inside, DesignPlan, design};
 
 /// One instance of the first cell of the library.
 const INNER: Inside = Inside {
@@ -16,7 +16,7 @@ const OUTER: Inside = Inside {
     nets: &[],
 };
 
-const OUT_OF_ORDER: Plan = Plan {
+const OUT_OF_ORDER: DesignPlan = DesignPlan {
     cells: &[
         CellPlan {
             id: b"LUT",

@@ -1,5 +1,5 @@
 //! The check and its lines on one design.
-use crate::designs::Row;
+use crate::designs::Case;
 use erc_check::erc_check;
 use erc_report::write_findings;
 use flat_writer::FlatError;
@@ -50,13 +50,13 @@ fn check(rt: &impl Abort, alloc: Global, design: &Design, want: Option<&str>) ->
     Ok(())
 }
 
-pub fn check_row(rt: &impl Abort, alloc: Global, row: &Row) -> Result<(), Fail> {
+pub fn check_row(rt: &impl Abort, alloc: Global, row: &Case) -> Result<(), Fail> {
     let design = design_of(alloc, row.design.as_bytes())?;
     check(rt, alloc, &design, row.lines)
 }
 
 /// Where the sink is full, a front is written.
-pub fn check_full(rt: &impl Abort, alloc: Global, row: &Row) -> Result<(), Fail> {
+pub fn check_full(rt: &impl Abort, alloc: Global, row: &Case) -> Result<(), Fail> {
     let design = design_of(alloc, row.design.as_bytes())?;
     let mut sink = MemSink::new(alloc, Some(6));
     let written = write_findings(alloc, &design, &mut sink);

@@ -1,13 +1,13 @@
 //! The designs, as texts, and what is written of them.
 
 /// A design, and the lines of its findings: none where it has no top.
-pub struct Row {
+pub struct Case {
     pub design: &'static str,
     pub lines: Option<&'static str>,
 }
 
 /// A counter, as a synthesis tool writes it: nothing is wrong with it, though no net joins one bit of its output.
-pub static COUNTER: Row = Row {
+pub static COUNTER: Case = Case {
     design: "(edif counter
  (edifversion 2 0 0)
  (edifLevel 0)
@@ -41,7 +41,7 @@ pub static COUNTER: Row = Row {
 };
 
 /// Two bits of a bridge are one net, which leads to the lamp in a socket; no pin drives it.
-pub static FEEDTHROUGH: Row = Row {
+pub static FEEDTHROUGH: Case = Case {
     design: "(edif e (edifVersion 2 0 0) (edifLevel 0) (keywordMap (keywordLevel 0))
  (library w (edifLevel 0) (technology)
   (cell P (cellType GENERIC) (view v (viewType NETLIST) (interface (port a (direction INPUT)))))
@@ -66,7 +66,7 @@ pub static FEEDTHROUGH: Row = Row {
 };
 
 /// Pads drive the nets at which they are; a port of a cell that has contents is no pin.
-pub static PADS: Row = Row {
+pub static PADS: Case = Case {
     design: "(edif e (edifVersion 2 0 0) (edifLevel 0) (keywordMap (keywordLevel 0))
  (library w (edifLevel 0) (technology)
   (cell P (cellType GENERIC) (view v (viewType NETLIST) (interface (port a (direction INOUT)))))
@@ -91,7 +91,7 @@ pub static PADS: Row = Row {
 };
 
 /// Two outputs at one net, and an input at none.
-pub static CLASH: Row = Row {
+pub static CLASH: Case = Case {
     design: "(edif e (edifVersion 2 0 0) (edifLevel 0) (keywordMap (keywordLevel 0))
  (library w (edifLevel 0) (technology)
   (cell G (cellType GENERIC) (view v (viewType NETLIST)
@@ -108,7 +108,7 @@ pub static CLASH: Row = Row {
 };
 
 /// A driver in each of two boxes and one beside them; ports without a direction, arrays, and ports of the top.
-pub static LEVELS: Row = Row {
+pub static LEVELS: Case = Case {
     design: "(edif e (edifVersion 2 0 0) (edifLevel 0) (keywordMap (keywordLevel 0))
  (library w (edifLevel 0) (technology)
   (cell G (cellType GENERIC) (view v (viewType NETLIST)
@@ -139,7 +139,7 @@ pub static LEVELS: Row = Row {
 };
 
 /// A net without ends, and boxes: what has contents, be they empty, has no pins, and what has none is a leaf.
-pub static BOXES: Row = Row {
+pub static BOXES: Case = Case {
     design: "(edif e (edifVersion 2 0 0) (edifLevel 0) (keywordMap (keywordLevel 0))
  (library w (edifLevel 0) (technology)
   (cell E (cellType GENERIC) (view v (viewType NETLIST)
@@ -163,7 +163,7 @@ pub static BOXES: Row = Row {
 };
 
 /// The top is a leaf: its pins are those of the top, of which none is told.
-pub static LEAF: Row = Row {
+pub static LEAF: Case = Case {
     design: "(edif e (edifVersion 2 0 0) (edifLevel 0) (keywordMap (keywordLevel 0))
  (library w (edifLevel 0) (technology)
   (cell L (cellType GENERIC) (view v (viewType NETLIST)
@@ -174,7 +174,7 @@ pub static LEAF: Row = Row {
 };
 
 /// Two drivers of one net, between them a tower of 2047 occurrences with a net each, which has a driver.
-pub static TOWER: Row = Row {
+pub static TOWER: Case = Case {
     design: "(edif e (edifVersion 2 0 0) (edifLevel 0) (keywordMap (keywordLevel 0))
  (library w (edifLevel 0) (technology)
   (cell G (cellType GENERIC) (view v (viewType NETLIST)
@@ -273,7 +273,7 @@ pub static TOWER: Row = Row {
 };
 
 /// No top.
-pub static EMPTY: Row = Row {
+pub static EMPTY: Case = Case {
     design: "(edif e (edifVersion 2 0 0) (edifLevel 0) (keywordMap (keywordLevel 0)))",
     lines: None,
 };

@@ -2,7 +2,7 @@
 use netlist_schema::{Design, Direction};
 use std::alloc::Global;
 use std::test::Fail;
-use test_hand_designs::{CellPlan, Inside, Plan, design};
+use test_hand_designs::{CellPlan, Inside, DesignPlan, design};
 
 /// A leaf with a pin.
 const LAMP: CellPlan = CellPlan {
@@ -47,7 +47,7 @@ const TABLE: CellPlan = CellPlan {
     }),
 };
 
-const BOARD: Plan = Plan {
+const BOARD: DesignPlan = DesignPlan {
     cells: &[LAMP, THROUGH, SOCKET, TABLE],
     top: Some((b"T", 3)),
     notes: &[],
@@ -67,13 +67,13 @@ const STRIP: CellPlan = CellPlan {
     }),
 };
 
-const BESIDE: Plan = Plan {
+const BESIDE: DesignPlan = DesignPlan {
     cells: &[THROUGH, STRIP],
     top: Some((b"S", 1)),
     notes: &[],
 };
 
-const BARE: Plan = Plan {
+const BARE: DesignPlan = DesignPlan {
     cells: &[],
     top: None,
     notes: &[],

@@ -8,7 +8,7 @@ use Rattle.netlist_schema.specs.declared.cell.CellKind.TheVariants.{Generic}
 use Rattle.netlist_schema.specs.declared.property.Value.TheVariants.{Text}
 use Rattle.test_hand_designs.specs.declared.plans.CellPlan.{CellPlan}
 use Rattle.test_hand_designs.specs.declared.plans.Inside.{Inside}
-use Rattle.test_hand_designs.specs.declared.plans.Plan.{Plan}
+use Rattle.test_hand_designs.specs.declared.plans.DesignPlan.{DesignPlan}
 
 -- a name with no shown text
 abbrev pub plain : List ℕ → Name
@@ -66,7 +66,7 @@ planned_note p = record { path = map lent p.0.now; property = planned_property p
 abbrev pub planned_lib : List CellPlan → Lib
 planned_lib cells = record { head = record { name = plain (codes "w"); external = false }; cells = map planned_cell cells }
 
-abbrev pub planned : Plan → Design
+abbrev pub planned : DesignPlan → Design
 planned p = record {
   title = plain (codes "e");
   libs = planned_lib p.cells.now ∷ [];

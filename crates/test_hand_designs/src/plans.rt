@@ -46,14 +46,14 @@ pub struct CellPlan<'a> {
 
 /// A design e of one library w, whose cells have the view v.
 #[derive(Clone, Copy)]
-pub struct Plan<'a> {
+pub struct DesignPlan<'a> {
     pub cells: &'a [CellPlan<'a>],
     pub top: Option<TopPlan<'a>>,
     pub notes: &'a [NotePlan<'a>],
 }
 
 /// The design of a plan. It needs one that passes the test of `specs/Sound.antt`, which a plan that is written out does by computation.
-pub fn design(alloc: Global, plan: &Plan) -> Result<Design, Fail>
+pub fn design(alloc: Global, plan: &DesignPlan) -> Result<Design, Fail>
     requires { IsTrue (is_sound (planned plan.now)) }
     ensures { IfOk result (λ design. design ≡ planned plan.now) }
 {

@@ -1,5 +1,5 @@
 //! A system with one file, whose opening is refused or whose reading fails.
-use netdb_outside::{Contents, Files, HostFiles, read_file};
+use netdb_outside::{FileRead, Files, HostFiles, read_file};
 use std::alloc::{Allocator, Global};
 use std::fs::{Metadata, OpenFile, OpenOptions};
 use std::io::{ErrorKind, Read, Seek, SeekFrom, Write};
@@ -126,13 +126,13 @@ impl rt::Files for FakeSystem {
 }
 
 /// What reading gives, in words, and the number of bytes.
-fn told(contents: &Contents) -> (&'static str, usize) {
+fn told(contents: &FileRead) -> (&'static str, usize) {
     match contents {
-        Contents::Bytes(text) => ("bytes", text.as_slice().len()),
-        Contents::TooLarge => ("too large", 0),
-        Contents::Missing => ("missing", 0),
-        Contents::Failed => ("failed", 0),
-        Contents::NoMemory => ("no memory", 0),
+        FileRead::Bytes(text) => ("bytes", text.as_slice().len()),
+        FileRead::TooLarge => ("too large", 0),
+        FileRead::Missing => ("missing", 0),
+        FileRead::Failed => ("failed", 0),
+        FileRead::NoMemory => ("no memory", 0),
     }
 }
 

@@ -1,6 +1,6 @@
 //! Files and sinks, in memory and of the system.
 use netdb_outside::{
-    BufferedSink, Contents, Files, FreeGate, Gate, Got, HostFiles, HostOut, MemFiles, MemSink,
+    BufferedSink, FileRead, Files, FreeGate, Gate, Got, HostFiles, HostOut, MemFiles, MemSink,
     NamedFile, Put, Sink, WriteError, names_differ, read_file, read_retrying,
 };
 use netlist_schema::{Row, Text};
@@ -53,13 +53,13 @@ fn three_files(alloc: Global) -> Result<Vec<NamedFile>, AllocError> {
 }
 
 /// What reading gives, in words, and the number of bytes.
-fn told(contents: &Contents) -> (&'static str, usize) {
+fn told(contents: &FileRead) -> (&'static str, usize) {
     match contents {
-        Contents::Bytes(text) => ("bytes", text.as_slice().len()),
-        Contents::TooLarge => ("too large", 0),
-        Contents::Missing => ("missing", 0),
-        Contents::Failed => ("failed", 0),
-        Contents::NoMemory => ("no memory", 0),
+        FileRead::Bytes(text) => ("bytes", text.as_slice().len()),
+        FileRead::TooLarge => ("too large", 0),
+        FileRead::Missing => ("missing", 0),
+        FileRead::Failed => ("failed", 0),
+        FileRead::NoMemory => ("no memory", 0),
     }
 }
 
@@ -212,9 +212,9 @@ static OF_SYSTEM: [(&str, u64, (&str, usize)); 4] = [
     ("nowhere.txt", 20, ("missing", 0)),
 ];
 
-fn are_lines(contents: &Contents) -> bool {
+fn are_lines(contents: &FileRead) -> bool {
     match contents {
-        Contents::Bytes(text) => text.as_slice() == LINES,
+        FileRead::Bytes(text) => text.as_slice() == LINES,
         _ => false,
     }
 }

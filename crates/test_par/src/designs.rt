@@ -2,7 +2,7 @@
 use netlist_schema::{Design, Direction};
 use std::alloc::Global;
 use std::test::Fail;
-use test_hand_designs::{CellPlan, Inside, Plan, design};
+use test_hand_designs::{CellPlan, Inside, DesignPlan, design};
 use test_text_designs::design_of;
 
 /// A leaf with a pin.
@@ -48,13 +48,13 @@ const TABLE: CellPlan = CellPlan {
     }),
 };
 
-const BOARD: Plan = Plan {
+const BOARD: DesignPlan = DesignPlan {
     cells: &[LAMP, THROUGH, SOCKET, TABLE],
     top: Some((b"T", 3)),
     notes: &[],
 };
 
-const BARE: Plan = Plan {
+const BARE: DesignPlan = DesignPlan {
     cells: &[],
     top: None,
     notes: &[],

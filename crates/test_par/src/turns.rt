@@ -58,15 +58,15 @@ impl<'a> Shown for Watched<'a> {
 
 /// How many looks there were when a worker began, and when it ended.
 #[derive(Drop)]
-pub struct Turn {
+pub struct WorkerSpan {
     begun: AtomicU64,
     ended: AtomicU64,
 }
 
-impl Turn {
+impl WorkerSpan {
     /// No look was there.
-    fn new() -> Turn {
-        Turn {
+    fn new() -> WorkerSpan {
+        WorkerSpan {
             begun: AtomicU64::new(0),
             ended: AtomicU64::new(0),
         }
@@ -84,8 +84,8 @@ impl Turn {
 pub struct TurnGate<'a> {
     hold: &'a HoldGate,
     looks: &'a AtomicU64,
-    first: Turn,
-    second: Turn,
+    first: WorkerSpan,
+    second: WorkerSpan,
 }
 
 impl<'a> TurnGate<'a> {
@@ -94,8 +94,8 @@ impl<'a> TurnGate<'a> {
         TurnGate {
             hold,
             looks,
-            first: Turn::new(),
-            second: Turn::new(),
+            first: WorkerSpan::new(),
+            second: WorkerSpan::new(),
         }
     }
 
@@ -105,7 +105,7 @@ impl<'a> TurnGate<'a> {
     }
 
     /// The turn of a worker.
-    fn turn(&self, worker: u32) -> &Turn {
+    fn turn(&self, worker: u32) -> &WorkerSpan {
         if worker == 0 {
             &self.first
         } else {

@@ -3,14 +3,14 @@ use edit_spec::{CellName, Op};
 use netlist_schema::{Design, Ident};
 use std::alloc::Global;
 use std::test::Fail;
-use test_hand_designs::{CellPlan, Inside, Plan, design};
+use test_hand_designs::{CellPlan, Inside, DesignPlan, design};
 
 const EMPTY: Option<Inside<'static>> = Some(Inside {
     insts: &[],
     nets: &[],
 });
 
-const TWO_CELLS: Plan<'static> = Plan {
+const TWO_CELLS: DesignPlan<'static> = DesignPlan {
     cells: &[
         CellPlan {
             id: b"A",

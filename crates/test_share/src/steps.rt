@@ -41,7 +41,7 @@ fn begun(alloc: Global, pass: Pass, pin: Pin) -> Caller
     }
 }
 
-fn pin_last(rt: &impl Wait, alloc: Global, db: &Db, mut pass: Pass) -> Caller
+fn pin_head(rt: &impl Wait, alloc: Global, db: &Db, mut pass: Pass) -> Caller
     requires { IsReady db.now pass }
     ensures { GoesTo db.now pass result.pass result.tx }
 {
@@ -151,7 +151,7 @@ fn step_off(rt: &impl Wait, alloc: Global, db: &Db, pass: Pass, step: &Step) -> 
     ensures { GoesTo db.now pass result.pass result.tx }
 {
     match step {
-        Step::Pin => pin_last(rt, alloc, db, pass),
+        Step::Pin => pin_head(rt, alloc, db, pass),
         Step::PinAt(version) => pin_one(rt, alloc, db, pass, *version),
         Step::Collect => collect(rt, alloc, db, pass, None),
         _ => Caller { pass, tx: None },

@@ -3,7 +3,7 @@ use crate::said::{script_of, uses_of};
 use crate::texts::SMALL;
 use db_spec::{Answer, Call, Event};
 use edit_spec::Op;
-use last_uses::write_last_uses;
+use head_uses::write_head_uses;
 use netdb_outside::{MemSink, WriteError};
 use netlist_schema::{Copied, Object, Row};
 use script_lang::Step;
@@ -82,7 +82,7 @@ fn uses_of_the_last_version_are_told(rt: HostRuntime) -> Result<(), Fail> {
     let alloc = rt.alloc();
     let opening = design_of(alloc, SMALL.as_bytes())?;
     let mut sink = MemSink::new(alloc, None);
-    write_last_uses(alloc, &opening, history(alloc)?.as_slice(), &mut sink)?;
+    write_head_uses(alloc, &opening, history(alloc)?.as_slice(), &mut sink)?;
     assert!(rt;
         sink.written()
             == "uses\ncell w Q uses 0\ncell w P uses 1\n use w T b\ncell w T uses 0\ncell w N uses 0\n".as_bytes()
@@ -95,7 +95,7 @@ fn without_events_they_are_those_of_the_opening(rt: HostRuntime) -> Result<(), F
     let alloc = rt.alloc();
     let opening = design_of(alloc, SMALL.as_bytes())?;
     let mut sink = MemSink::new(alloc, None);
-    write_last_uses(alloc, &opening, &[], &mut sink)?;
+    write_head_uses(alloc, &opening, &[], &mut sink)?;
     assert!(rt; sink.written() == uses_of(alloc, &opening)?.as_slice());
     Ok(())
 }
@@ -105,7 +105,7 @@ fn a_front_is_written_where_the_sink_is_full(rt: HostRuntime) -> Result<(), Fail
     let alloc = rt.alloc();
     let opening = design_of(alloc, SMALL.as_bytes())?;
     let mut sink = MemSink::new(alloc, Some(7));
-    let told = write_last_uses(alloc, &opening, &[], &mut sink);
+    let told = write_head_uses(alloc, &opening, &[], &mut sink);
     assert!(rt; told == Err(WriteError::WriteFault));
     assert!(rt; sink.written() == "uses\nce".as_bytes());
     Ok(())

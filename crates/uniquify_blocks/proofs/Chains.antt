@@ -17,7 +17,7 @@ use Rattle.uniquify_copies.specs.Drafts.{IsCopied, IsDraft, IsNumbered, Marked, 
 use Rattle.uniquify_copies.specs.declared.namer.Twin.{Twin}
 use Rattle.uniquify_copies.specs.Seats.{copies_at, copies_of, occurrence_of, path_of, seats, seats_after}
 use Rattle.uniquify_copies.specs.declared.spot.Spot.{Spot}
-use Rattle.uniquify_copies.specs.declared.draft.Draft.{Draft}
+use Rattle.uniquify_copies.specs.declared.draft.CopyDraft.{CopyDraft}
 use Rattle.uniquify_copies.proofs.SeatLists.{seats_length}
 use Rattle.uniquify_blocks.specs.Along.{chain}
 use Rattle.uniquify_blocks.specs.Plans.{all_copied}
@@ -68,7 +68,7 @@ chain_length : (path : List ℕ) (steps : List Step) → length (chain path step
 chain_length path [] = refl
 chain_length path (step ∷ steps) = ap suc (chain_length (path ++ step.place ∷ []) steps)
 
-draft_length : (d : Design) (top : CellId) (steps : List Step) (draft : Draft) → IsDraft d top (all_copied (chain [] steps)) draft → length draft.spots.items ≡ length steps
+draft_length : (d : Design) (top : CellId) (steps : List Step) (draft : CopyDraft) → IsDraft d top (all_copied (chain [] steps)) draft → length draft.spots.items ≡ length steps
 draft_length d top steps draft is =
     let all = ap (λ (os : List Occurrence). length os) (is.occurrences ∙ ap (λ os. root_of top ∷ os) (all_copied-occurrences (chain [] steps))) in
     let left = map-length occurrence_of (seats top draft.spots.items) in
@@ -81,7 +81,7 @@ draft_length d top steps draft is =
     map-length f (x ∷ xs) = ap suc (map-length f xs)
 
 -- the next block of a chain
-next_is : (d : Design) (top : CellId) (steps : List Step) (step : Step) (old new : Draft) (above : ℕ) (fits : Bool) → above ≡ length old.spots.items → IsDraft d top (all_copied (chain [] steps)) old
+next_is : (d : Design) (top : CellId) (steps : List Step) (step : Step) (old new : CopyDraft) (above : ℕ) (fits : Bool) → above ≡ length old.spots.items → IsDraft d top (all_copied (chain [] steps)) old
     → ((up : Occurrence) → IsNumbered top (all_copied (chain [] steps)) above up → IsCopied d top (all_copied (chain [] steps)) (placed_in up step.place step.of) new fits)
     → (o : Occurrence) × (chain [] (steps ++ step ∷ []) ≡ chain [] steps ++ o ∷ []) × IsCopied d top (all_copied (chain [] steps)) o new fits
 next_is d top steps step old new above fits above_is is more =
@@ -92,7 +92,7 @@ next_is d top steps step old new above fits above_is is more =
     let o = placed_in end.0 step.place step.of in
     (o, chain_push [] steps step ∙ (λ i. chain [] steps ++ record { path = sym end.2 i ++ step.place ∷ []; cell = step.of } ∷ []), more end.0 at)
 
-pub one_drafted : (d : Design) (top : CellId) (steps : List Step) (i : ℕ) (step : Step) (old new : Draft) (above : ℕ) → i < length steps → step ≡ get_or steps i step → above ≡ length old.spots.items
+pub one_drafted : (d : Design) (top : CellId) (steps : List Step) (i : ℕ) (step : Step) (old new : CopyDraft) (above : ℕ) → i < length steps → step ≡ get_or steps i step → above ≡ length old.spots.items
     → IsDraft d top (all_copied (chain [] (take i steps))) old
     → ((up : Occurrence) → IsNumbered top (all_copied (chain [] (take i steps))) above up → IsCopied d top (all_copied (chain [] (take i steps))) (placed_in up step.place step.of) new true)
     → IsDraft d top (all_copied (chain [] (take (i + 1) steps))) new
@@ -108,7 +108,7 @@ chain_append path (x ∷ xs) ys =
     let rest = chain_append (path ++ x.place ∷ []) xs ys in
     (rest.0, ap (λ os. record { path = path ++ x.place ∷ []; cell = x.of } ∷ os) rest.1)
 
-pub not_drafted : (d : Design) (top : CellId) (steps : List Step) (i : ℕ) (step : Step) (old new : Draft) (above : ℕ) → i < length steps → step ≡ get_or steps i step → above ≡ length old.spots.items
+pub not_drafted : (d : Design) (top : CellId) (steps : List Step) (i : ℕ) (step : Step) (old new : CopyDraft) (above : ℕ) → i < length steps → step ≡ get_or steps i step → above ≡ length old.spots.items
     → IsDraft d top (all_copied (chain [] (take i steps))) old
     → ((up : Occurrence) → IsNumbered top (all_copied (chain [] (take i steps))) above up → IsCopied d top (all_copied (chain [] (take i steps))) (placed_in up step.place step.of) new false)
     → has_no_room (copies_after d [] (chain [] steps)) ≡ true
@@ -151,7 +151,7 @@ whole_chain (x ∷ xs) zero past = absurd (omega arith)
 whole_chain (x ∷ xs) (suc i) past = ap (λ l. x ∷ l) (whole_chain xs i (omega (arith, past)))
 
 -- what the call says, in the design with which the walk began
-pub drafted_more : (d e : Design) → e ≡ d → (top : CellId) (steps : List Step) (i : ℕ) (step : Step) (old new : Draft) (above : ℕ) (fits : Bool) → i < length steps → step ≡ get_or steps i step
+pub drafted_more : (d e : Design) → e ≡ d → (top : CellId) (steps : List Step) (i : ℕ) (step : Step) (old new : CopyDraft) (above : ℕ) (fits : Bool) → i < length steps → step ≡ get_or steps i step
     → above ≡ length old.spots.items → IsDraft d top (all_copied (chain [] (take i steps))) old → fits ≡ true
     → ((t : CellId) (done : List Marked) (up : Occurrence) → IsDraft e t done old → IsNumbered t done above up → IsCopied e t done (placed_in up step.place step.of) new fits)
     → IsDraft d top (all_copied (chain [] (take (i + 1) steps))) new
@@ -161,7 +161,7 @@ drafted_more d e same top steps i step old new above fits less at above_is is fi
     (λ up there. subst (λ b. IsCopied d top done (placed_in up step.place step.of) new b) fits_is
     (subst (λ x. IsCopied x top done (placed_in up step.place step.of) new fits) same (copied top done up (subst (λ x. IsDraft x top done old) (sym same) is) there)))
 
-pub drafted_none : (d e : Design) → e ≡ d → (top : CellId) (steps : List Step) (i : ℕ) (step : Step) (old new : Draft) (above : ℕ) (fits : Bool) → i < length steps → step ≡ get_or steps i step
+pub drafted_none : (d e : Design) → e ≡ d → (top : CellId) (steps : List Step) (i : ℕ) (step : Step) (old new : CopyDraft) (above : ℕ) (fits : Bool) → i < length steps → step ≡ get_or steps i step
     → above ≡ length old.spots.items → IsDraft d top (all_copied (chain [] (take i steps))) old → fits ≡ false
     → ((t : CellId) (done : List Marked) (up : Occurrence) → IsDraft e t done old → IsNumbered t done above up → IsCopied e t done (placed_in up step.place step.of) new fits)
     → has_no_room (copies_after d [] (chain [] steps)) ≡ true

@@ -30,7 +30,7 @@ use Rattle.eco_reads.specs.Plan.{IsGood}
 use Rattle.eco_reads.proofs.Reading.{done_made, done_read, read_nothing, read_some}
 use Rattle.uniquify_blocks.specs.Along.{IsOnPath}
 use Rattle.uniquify_blocks.specs.Plans.{IsPlan, IsPlanned, IsPut}
-use Rattle.uniquify_blocks.specs.declared.plan.Plan.{Plan}
+use Rattle.uniquify_blocks.specs.declared.plan.SplitPlan.{SplitPlan}
 use Rattle.uniquify_blocks.proofs.Walking.{Read}
 
 pub top_of : (o : Option TopHead) (top : CellId) → Some top ≡ option_map (λ (t : TopHead). t.cell) o → (head : TopHead) × (o ≡ Some head) × (head.cell ≡ top)
@@ -127,10 +127,10 @@ module _ (s u : State) (head : TopHead) (path : List (List ℕ)) (is_top : s.des
         ∙ (λ i. unless (option_or (refuse (not (leads i)) NoPath) (option_or (too_many_cells the_split.copies) None)) (Copies (length the_split.copies)) (split_edits d the_split))
         ∙ ap (λ (o : Option Reply). unless (option_or o None) (Copies (length the_split.copies)) (split_edits d the_split)) full)
 
-    plan_comes : (plan : Plan) → IsPlan d the_split plan → outcome d (UniquePath path) ≡ record { reply = Copies plan.copies; edits = edits_of d plan.change }
+    plan_comes : (plan : SplitPlan) → IsPlan d the_split plan → outcome d (UniquePath path) ≡ record { reply = Copies plan.copies; edits = edits_of d plan.change }
     plan_comes plan is = made_here is.room ∙ (λ i. record { reply = Copies (sym is.count i); edits = sym is.edits i })
 
-    pub path_can : IsValid d → (planned : Option Plan) → IsPlanned d the_split planned → IfSome planned (λ plan. IsGood u.design plan.change)
+    pub path_can : IsValid d → (planned : Option SplitPlan) → IsPlanned d the_split planned → IfSome planned (λ plan. IsGood u.design plan.change)
     path_can valid None is = tt
     path_can valid (Some plan) is =
         subst (λ e. IsGood e plan.change) (sym read.design)
@@ -139,14 +139,14 @@ module _ (s u : State) (head : TopHead) (path : List (List ℕ)) (is_top : s.des
           valid = subst (λ (out : Outcome). IsValid (edited d out.edits)) (plan_comes plan is) (step_is_valid d (UniquePath path) tt valid);
         })
 
-    pub path_put : (v : State) (planned : Option Plan) (reply : Reply) → IsPlanned d the_split planned → IsPut u v planned reply → IsDone s v (UniquePath path) reply
+    pub path_put : (v : State) (planned : Option SplitPlan) (reply : Reply) → IsPlanned d the_split planned → IsPut u v planned reply → IsDone s v (UniquePath path) reply
     path_put v None reply is (says, same) = subst (λ t. IsDone s t (UniquePath path) reply) (sym same) (subst (IsDone s u (UniquePath path)) (sym says) (too_many_done is))
     path_put v (Some plan) reply is (says, made) =
         subst (IsDone s v (UniquePath path)) (sym says)
         (done_made s u v (UniquePath path) (Copies plan.copies) (edits_of d plan.change) (IsOnPath d head.cell path) read (path_needs d head path is_top) (plan_comes plan is)
         (subst (λ e. HasMade u v (edits_of e plan.change)) read.design made))
 
-    pub path_result : {E : Type 0} (v : State) (planned : Option Plan) (result : Result Reply E) → IsPlanned d the_split planned → MatchResult result (IsPut u v planned) (λ _. v ≡ u)
+    pub path_result : {E : Type 0} (v : State) (planned : Option SplitPlan) (result : Result Reply E) → IsPlanned d the_split planned → MatchResult result (IsPut u v planned) (λ _. v ≡ u)
         → IsDoneOrFails result s v (UniquePath path)
     path_result v planned (Ok reply) is put = path_put v planned reply is put
     path_result v planned (Err err) is same = subst (λ t. HasReadSome s t) (sym same) (read_some s u (IsOnPath d head.cell path) read)
@@ -178,7 +178,7 @@ module _ (s u : State) (top : CellId) (path : List (List ℕ)) (found : Some top
   pub code_empty : (length path == 0) ≡ true → IsDone s u (UniquePath path) NoPath
   code_empty empty = no_path_done s u head.0 path head.1 read_head (and_first (length path == 0) _ empty)
 
-  module _ (leads : resolves s.design top path ≡ true) (some : (length path == 0) ≡ false) (w : State) (same : w ≡ u) (planned : Option Plan) (is : IsPlanned u.design (along_path u.design path top) planned) where
+  module _ (leads : resolves s.design top path ≡ true) (some : (length path == 0) ≡ false) (w : State) (same : w ≡ u) (planned : Option SplitPlan) (is : IsPlanned u.design (along_path u.design path top) planned) where
     is_path_here : is_path s.design (Some head.0) path ≡ true
     is_path_here = and_both (length path == 0) (resolves s.design head.0.cell path) some (ap (λ c. resolves s.design c path) head.2 ∙ leads)
 

@@ -23,7 +23,7 @@ use Rattle.uniquify_copies.proofs.DraftSeats.{draft_seats, draft_split, split_fo
 use Rattle.uniquify_copies.specs.Changes.{AreSeats}
 use Rattle.uniquify_copies.specs.Drafts.{IsDraft, has_no_room}
 use Rattle.uniquify_copies.specs.Seats.{copies_of, seats, split_of}
-use Rattle.uniquify_copies.specs.declared.draft.Draft.{Draft}
+use Rattle.uniquify_copies.specs.declared.draft.CopyDraft.{CopyDraft}
 use Rattle.uniquify_blocks.specs.Along.{chain}
 use Rattle.uniquify_blocks.specs.Plans.{all_copied}
 use Rattle.uniquify_copies.specs.declared.spot.Step.{Step}
@@ -58,7 +58,7 @@ module _ (d : Design) (top : CellId) (path : List (List ℕ)) (steps : List Step
     copies = copies_after d [] ((all_copied-copied (chain [] steps) ∙ sym are) i);
   }
 
-  module _ (draft : Draft) (is : IsDraft d top (all_copied (chain [] steps)) draft) where
+  module _ (draft : CopyDraft) (is : IsDraft d top (all_copied (chain [] steps)) draft) where
     pub path_seats : AreSeats d top draft.spots.items
     path_seats = draft_seats d top (all_copied (chain [] steps)) draft is
         (subst (λ os. AreDistinct (map (λ (o : Occurrence). o.path) (root_of top ∷ os))) (sym (all_copied-occurrences (chain [] steps)))

@@ -14,6 +14,6 @@ mod step;
 pub use below::read_below;
 pub use kids::block_kids;
 pub use paths::unique_path;
-pub use plan::{Plan, plan_of, put_plan};
+pub use plan::{SplitPlan, plan_of, put_plan};
 pub use read::{read_block, read_cell};
 pub use step::step_at;

@@ -9,19 +9,19 @@ use crate::step::step_at;
 use edit_cells::Cells;
 use netlist_schema::NoMemory;
 use std::alloc::Global;
-use uniquify_copies::{Draft, Step};
+use uniquify_copies::{CopyDraft, Step};
 
 /// A copy for each of these blocks, each in the one before it; `None` where a library has no room for one.
 pub(crate) fn draft_blocks<C: Cells>(
     alloc: Global,
     cells: &mut C,
     steps: &[Step],
-) -> Result<Option<Draft>, NoMemory>
+) -> Result<Option<CopyDraft>, NoMemory>
     requires { All (λ step. IsCell (C.state cells.old).design step.of) steps.now }
     ensures drafted { IfOk result (λ found. (top : CellId) → IsChainDraft (C.state cells.old).design top steps.now found) }
     ensures some { HasReadSome (C.state cells.old) (C.state cells.new) }
 {
-    let mut draft = Draft::new(alloc);
+    let mut draft = CopyDraft::new(alloc);
     for place in 0..steps.len() {
         let step = step_at(steps, place);
         let above = draft.spots.len();

@@ -10,7 +10,7 @@ ghost use Rattle.uniquify_blocks.specs.Plans.{IsPlanned};
 
 use crate::along::blocks_along;
 use crate::path_draft::draft_blocks;
-use crate::plan::{Plan, plan_of, put_plan};
+use crate::plan::{SplitPlan, plan_of, put_plan};
 use edit_cells::Cells;
 use edit_spec::{Op, Reply};
 use netlist_schema::{CellId, Ident, NoMemory, Row};
@@ -24,7 +24,7 @@ fn try_plan<C: Cells>(
     top: CellId,
     steps: &[Step],
     path: &Row<Ident>,
-) -> Result<Option<Plan>, NoMemory>
+) -> Result<Option<SplitPlan>, NoMemory>
     requires valid { IsValid (C.state cells.old).design }
     requires top { (head : TopHead) × ((C.state cells.old).design.top ≡ Some head) × (head.cell ≡ top) }
     requires steps { blocks (C.state cells.old).design (steps_along (C.state cells.old).design top path.now) ≡ chain [] steps.now }
@@ -45,7 +45,7 @@ fn plan_path<C: Cells>(
     top: CellId,
     steps: &[Step],
     path: &Row<Ident>,
-) -> Result<Option<Plan>, NoMemory>
+) -> Result<Option<SplitPlan>, NoMemory>
     requires valid { IsValid (C.state cells.old).design }
     requires top { (head : TopHead) × ((C.state cells.old).design.top ≡ Some head) × (head.cell ≡ top) }
     requires steps { blocks (C.state cells.old).design (steps_along (C.state cells.old).design top path.now) ≡ chain [] steps.now }

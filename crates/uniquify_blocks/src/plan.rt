@@ -17,7 +17,7 @@ use uniquify_copies::{Spot, split_change};
 
 /// A change, and the number of cells that it copies.
 #[derive(Drop)]
-pub struct Plan {
+pub struct SplitPlan {
     pub change: Change,
     pub copies: u32,
 }
@@ -41,7 +41,7 @@ pub fn plan_of<C: Cells>(
     cells: &mut C,
     top: CellId,
     spots: &[Spot],
-) -> Result<Plan, NoMemory>
+) -> Result<SplitPlan, NoMemory>
     requires valid { IsValid (C.state cells.old).design }
     requires seats { AreSeats (C.state cells.old).design top spots.now }
     requires room { has_no_room (copies_of (seats top spots.now)) ≡ false }
@@ -50,14 +50,14 @@ pub fn plan_of<C: Cells>(
 {
     let change = split_change(alloc, cells, top, spots)?;
     let copies = count_copies(spots);
-    Ok(Plan {
+    Ok(SplitPlan {
         change,
         copies: copies as u32,
     })
 }
 
 /// Puts a plan in place, or replies that a library has no room.
-pub fn put_plan<C: Cells>(cells: &mut C, planned: Option<Plan>) -> Result<Reply, NoMemory>
+pub fn put_plan<C: Cells>(cells: &mut C, planned: Option<SplitPlan>) -> Result<Reply, NoMemory>
     requires { IfSome planned (λ plan. IsGood (C.state cells.old).design plan.change) }
     ensures { MatchResult result (IsPut (C.state cells.old) (C.state cells.new) planned) (λ _. C.state cells.new ≡ C.state cells.old) }
 {

@@ -18,12 +18,12 @@ use Rattle.uniquify_copies.proofs.SeatLists.{seat_path}
 use Rattle.uniquify_copies.specs.Changes.{AreLast, AreSeats}
 use Rattle.uniquify_copies.specs.Drafts.{IsDraft, Marked, copied_of, kept_of, made_for, occurrences_of}
 use Rattle.uniquify_copies.specs.Seats.{Seat, occurrence_of, seats, split_of}
-use Rattle.uniquify_copies.specs.declared.draft.Draft.{Draft}
+use Rattle.uniquify_copies.specs.declared.draft.CopyDraft.{CopyDraft}
 
 abbrev pub split_for : Design → CellId → List Marked → Split
 split_for d top done = record { kept = root_of top ∷ kept_of done; copies = made_for d done }
 
-pub draft_split : (d : Design) (top : CellId) (done : List Marked) (draft : Draft) → IsDraft d top done draft → split_of (seats top draft.spots.items) ≡ split_for d top done
+pub draft_split : (d : Design) (top : CellId) (done : List Marked) (draft : CopyDraft) → IsDraft d top done draft → split_of (seats top draft.spots.items) ≡ split_for d top done
 draft_split d top done draft is = λ i. record { kept = is.kept i; copies = is.copies i }
 
 seat_paths : (ss : List Seat) → map seat_path ss ≡ map (λ (o : Occurrence). o.path) (map occurrence_of ss)
@@ -38,7 +38,7 @@ pub new_of : (d : Design) (copies before : List Copy) → AreLast d before copie
 new_of d [] before last = tt
 new_of d (copy ∷ copies) before (slot, lib, cell, rest) = (record { slot = slot; lib = lib; cell = cell }, new_of d copies (before ++ copy ∷ []) rest)
 
-pub draft_seats : (d : Design) (top : CellId) (done : List Marked) (draft : Draft) → IsDraft d top done draft
+pub draft_seats : (d : Design) (top : CellId) (done : List Marked) (draft : CopyDraft) → IsDraft d top done draft
     → AreDistinct (map (λ (o : Occurrence). o.path) (root_of top ∷ occurrences_of done)) → ((o : Occurrence) → Member (root_of top ∷ occurrences_of done) o → Reaches d top o.path o.cell)
     → ((o : Occurrence) → Member (copied_of done) o → IsCell d o.cell) → AreSeats d top draft.spots.items
 draft_seats d top done draft is apart reached cells =

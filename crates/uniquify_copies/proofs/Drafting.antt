@@ -19,7 +19,7 @@ use Rattle.uniquify_copies.specs.declared.namer.Twin.{Twin}
 use Rattle.uniquify_copies.proofs.SeatLists.{seat_path, seats_length}
 use Rattle.uniquify_copies.specs.Drafts.{IsDraft, IsMoreDraft, IsNumbered, Marked, NamesEarlier, copied_of, has_no_room, kept_of, made_for, occurrences_of, placed_in}
 use Rattle.uniquify_copies.specs.Seats.{Seat, copies_at, copies_of, kept_at, occurrence_of, path_of, root_seat, seat_of, seats, seats_after}
-use Rattle.uniquify_copies.specs.declared.draft.Draft.{Draft}
+use Rattle.uniquify_copies.specs.declared.draft.CopyDraft.{CopyDraft}
 use Rattle.uniquify_copies.specs.declared.spot.Spot.{Spot}
 
 seats_push : (before : List (List ℕ)) (spots : List Spot) (spot : Spot)
@@ -97,7 +97,7 @@ kept_of-more done at = flat_map-append (λ (m : Marked). cond m.copied [] (m.at 
 kept_of-same : (done : List Marked) (at : Occurrence) → kept_of (done ++ record { at = at; copied = true } ∷ []) ≡ kept_of done
 kept_of-same done at = flat_map-append (λ (m : Marked). cond m.copied [] (m.at ∷ [])) done (record { at = at; copied = true } ∷ []) ∙ append-nil (kept_of done)
 
-pub draft_at_start : (d : Design) (top : CellId) (draft : Draft) → draft.spots.items ≡ [] → AreKnown d [] draft.namer → IsDraft d top [] draft
+pub draft_at_start : (d : Design) (top : CellId) (draft : CopyDraft) → draft.spots.items ≡ [] → AreKnown d [] draft.namer → IsDraft d top [] draft
 draft_at_start d top draft none known = record {
   known = known;
   occurrences = ap (λ spots. map occurrence_of (seats top spots)) none;
@@ -111,7 +111,7 @@ draft_at_start d top draft none known = record {
     not_none [] spot after e = cc
     not_none (x ∷ before) spot after e = cc
 
-pub draft_kept : (d : Design) (top : CellId) (done : List Marked) (up : Occurrence) (old new : Draft) (above place : ℕ) (cell : CellId) → IsDraft d top done old → IsNumbered top done above up
+pub draft_kept : (d : Design) (top : CellId) (done : List Marked) (up : Occurrence) (old new : CopyDraft) (above place : ℕ) (cell : CellId) → IsDraft d top done old → IsNumbered top done above up
     → new.namer ≡ old.namer → new.spots.items ≡ old.spots.items ++ record { above = above; place = place; cell = cell; twin = None } ∷ []
     → IsMoreDraft d top done (placed_in up place cell) false new
 draft_kept d top done up old new above place cell is at same pushed =
@@ -127,7 +127,7 @@ draft_kept d top done up old new above place cell is at same pushed =
       room = ap (λ os. has_no_room (copies_after d [] os)) none ∙ is.room;
     }
 
-pub draft_copied : (d : Design) (top : CellId) (done : List Marked) (up : Occurrence) (old new : Draft) (above place : ℕ) (cell : CellId) (twin : Twin) → IsDraft d top done old → IsNumbered top done above up
+pub draft_copied : (d : Design) (top : CellId) (done : List Marked) (up : Occurrence) (old new : CopyDraft) (above place : ℕ) (cell : CellId) (twin : Twin) → IsDraft d top done old → IsNumbered top done above up
     → IsNextTwin d (made_for d done) cell new.namer twin → new.spots.items ≡ old.spots.items ++ record { above = above; place = place; cell = cell; twin = Some twin } ∷ []
     → IsMoreDraft d top done (placed_in up place cell) true new
 draft_copied d top done up old new above place cell twin is at next pushed =

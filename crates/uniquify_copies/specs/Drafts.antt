@@ -9,7 +9,7 @@ use Rattle.uniquify_spec.specs.Blocks.{root_of}
 use Rattle.uniquify_spec.specs.Copies.{Copy, copies_after, copy_after}
 use Rattle.uniquify_copies.specs.Known.{AreKnown}
 use Rattle.uniquify_copies.specs.Seats.{copies_of, kept_at, occurrence_of, seats}
-use Rattle.uniquify_copies.specs.declared.draft.Draft.{Draft}
+use Rattle.uniquify_copies.specs.declared.draft.CopyDraft.{CopyDraft}
 use Rattle.uniquify_copies.specs.declared.spot.Spot.{Spot}
 
 -- an occurrence, and whether it gets a copy
@@ -39,7 +39,7 @@ abbrev pub NamesEarlier : List Spot → Type 0
 NamesEarlier spots = (before after : List Spot) (spot : Spot) → spots ≡ before ++ spot ∷ after → spot.above ≤ length before
 
 -- a list of spots has these occurrences, with the copies that they get
-pub record IsDraft (d : Design) (top : CellId) (done : List Marked) (draft : Draft) : Type 0 where
+pub record IsDraft (d : Design) (top : CellId) (done : List Marked) (draft : CopyDraft) : Type 0 where
   pub known : AreKnown d (made_for d done) draft.namer
   pub occurrences : map occurrence_of (seats top draft.spots.items) ≡ root_of top ∷ occurrences_of done
   pub copies : copies_of (seats top draft.spots.items) ≡ made_for d done
@@ -52,11 +52,11 @@ abbrev pub placed_in : Occurrence → ℕ → CellId → Occurrence
 placed_in up place cell = record { path = up.path ++ place ∷ []; cell = cell }
 
 -- one occurrence more, that keeps its cell or gets a copy
-abbrev pub IsMoreDraft : Design → CellId → List Marked → Occurrence → Bool → Draft → Type 0
+abbrev pub IsMoreDraft : Design → CellId → List Marked → Occurrence → Bool → CopyDraft → Type 0
 IsMoreDraft d top done at copied draft = IsDraft d top (done ++ record { at = at; copied = copied } ∷ []) draft
 
 -- it got a copy, or there is no room for that
-abbrev pub IsCopied : Design → CellId → List Marked → Occurrence → Draft → Bool → Type 0
+abbrev pub IsCopied : Design → CellId → List Marked → Occurrence → CopyDraft → Bool → Type 0
 IsCopied d top done at draft true = IsMoreDraft d top done at true draft
 IsCopied d top done at draft false = MOST_CELLS ≤ (copy_after d (made_for d done) at).id.slot
 

@@ -1,4 +1,4 @@
-//! `Draft`: spots that are put on a list, each with the copy that it gets.
+//! `CopyDraft`: spots that are put on a list, each with the copy that it gets.
 ghost use Rattle.std.specs.Prelude.{[], IfOk, List, OnOk, false};
 ghost use Rattle.netlist_schema.specs.Design.{Design};
 ghost use Rattle.netlist_schema.specs.Hierarchy.{IsCell};
@@ -14,23 +14,23 @@ use netlist_schema::{CellId, NoMemory};
 use std::alloc::Global;
 
 /// Occurrences of blocks below a top, each put behind the one that holds it, and the names of their copies.
-pub struct Draft {
+pub struct CopyDraft {
     pub spots: Vec<Spot>,
     pub namer: Namer,
 }
 
-impl Drop for Draft {
+impl Drop for CopyDraft {
     fn drop(self) {
-        let Draft { spots: _, namer: _ } = self;
+        let CopyDraft { spots: _, namer: _ } = self;
     }
 }
 
-impl Draft {
+impl CopyDraft {
     /// No occurrence yet. Takes no memory.
-    pub fn new(alloc: Global) -> Draft
+    pub fn new(alloc: Global) -> CopyDraft
         ensures { (d : Design) (top : CellId) → IsDraft d top [] result }
     {
-        Draft {
+        CopyDraft {
             spots: Vec::new(alloc),
             namer: Namer::new(alloc),
         }

@@ -11,6 +11,6 @@ mod spot;
 mod turn;
 
 pub use change::split_change;
-pub use draft::Draft;
+pub use draft::CopyDraft;
 pub use namer::{Namer, Twin};
 pub use spot::{Spot, Step};

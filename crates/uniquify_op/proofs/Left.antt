@@ -14,27 +14,27 @@ use Rattle.uniquify_blocks.proofs.Walking.{prefixed-under}
 use Rattle.uniquify_blocks.specs.Kids.{kids_of}
 use Rattle.uniquify_op.specs.Frames.{row_at}
 use Rattle.uniquify_op.specs.Walks.{IsFrame, all_under, below_path, left_in, left_of, path_at}
-use Rattle.uniquify_op.specs.declared.frame.Frame.{Frame}
+use Rattle.uniquify_op.specs.declared.frame.BlockFrame.{BlockFrame}
 use Rattle.uniquify_op.proofs.BlocksBelow.{blocks_go_down}
 use Rattle.uniquify_op.proofs.Places.{path_at_more, row_at_more}
 
-pub left_push : (d : Design) (os : List Occurrence) (rows : List (List Step)) (frames : List Frame) (frame : Frame) → left_of d os rows (frames ++ frame ∷ []) ≡ left_in d os rows frame ++ left_of d os rows frames
+pub left_push : (d : Design) (os : List Occurrence) (rows : List (List Step)) (frames : List BlockFrame) (frame : BlockFrame) → left_of d os rows (frames ++ frame ∷ []) ≡ left_in d os rows frame ++ left_of d os rows frames
 left_push d os rows [] frame = sym (append-nil (left_in d os rows frame))
 left_push d os rows (f ∷ frames) frame =
     ap (λ l. l ++ left_in d os rows f) (left_push d os rows frames frame) ∙ append_assoc (left_in d os rows frame) (left_of d os rows frames) (left_in d os rows f)
 
 -- more occurrences and more rows change nothing
-in_more : (d : Design) (os more : List Occurrence) (rows others : List (List Step)) (frame : Frame) → IsFrame (length os) (length rows) frame → left_in d (os ++ more) (rows ++ others) frame ≡ left_in d os rows frame
+in_more : (d : Design) (os more : List Occurrence) (rows others : List (List Step)) (frame : BlockFrame) → IsFrame (length os) (length rows) frame → left_in d (os ++ more) (rows ++ others) frame ≡ left_in d os rows frame
 in_more d os more rows others frame is =
     λ t. map (below_path (path_at_more os more frame.number is.number t)) (all_under d (drop frame.taken (row_at_more rows others frame.row is.row t)))
 
-pub left_more : (d : Design) (os more : List Occurrence) (rows others : List (List Step)) (frames : List Frame) → AllByRecursion (IsFrame (length os) (length rows)) frames
+pub left_more : (d : Design) (os more : List Occurrence) (rows others : List (List Step)) (frames : List BlockFrame) → AllByRecursion (IsFrame (length os) (length rows)) frames
     → left_of d (os ++ more) (rows ++ others) frames ≡ left_of d os rows frames
 left_more d os more rows others [] all = refl
 left_more d os more rows others (frame ∷ frames) all = λ t. left_more d os more rows others frames all.1 t ++ in_more d os more rows others frame all.0 t
 
 -- one block is taken
-pub left_taken : (d : Design) (os : List Occurrence) (rows : List (List Step)) (frame : Frame) (step : Step) → slice_get (row_at rows frame.row) frame.taken ≡ Some step
+pub left_taken : (d : Design) (os : List Occurrence) (rows : List (List Step)) (frame : BlockFrame) (step : Step) → slice_get (row_at rows frame.row) frame.taken ≡ Some step
     → (let path = path_at os frame.number ++ step.place ∷ [] in
     left_in d os rows frame ≡ (record { path = path; cell = step.of } ∷ map (below_path path) (blocks_below d step.of)) ++ left_in d os rows (record frame { taken = frame.taken + 1 }))
 left_taken d os rows frame step at =
@@ -48,7 +48,7 @@ left_taken d os rows frame step at =
     ∙ ap (λ p. record { path = p; cell = step.of } ∷ map (below_path (path ++ step.place ∷ [])) (blocks_below d step.of)) (append-nil (path ++ step.place ∷ [])))
 
 -- nothing is left of an occurrence
-pub left_back : (d : Design) (os : List Occurrence) (rows : List (List Step)) (frame : Frame) → slice_get (row_at rows frame.row) frame.taken ≡ None → left_in d os rows frame ≡ []
+pub left_back : (d : Design) (os : List Occurrence) (rows : List (List Step)) (frame : BlockFrame) → slice_get (row_at rows frame.row) frame.taken ≡ None → left_in d os rows frame ≡ []
 left_back d os rows frame none = ap (λ steps. map (below_path (path_at os frame.number)) (all_under d steps)) (drop_past (row_at rows frame.row) frame.taken none)
 
 -- all is left of it

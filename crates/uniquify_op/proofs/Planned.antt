@@ -24,7 +24,7 @@ use Rattle.uniquify_copies.proofs.DraftSeats.{draft_seats, draft_split, split_fo
 use Rattle.uniquify_copies.specs.Changes.{AreSeats}
 use Rattle.uniquify_copies.specs.Drafts.{IsDraft, has_no_room, made_for, occurrences_of}
 use Rattle.uniquify_copies.specs.Seats.{copies_of, seats, split_of}
-use Rattle.uniquify_copies.specs.declared.draft.Draft.{Draft}
+use Rattle.uniquify_copies.specs.declared.draft.CopyDraft.{CopyDraft}
 use Rattle.uniquify_op.specs.Marks.{marked}
 use Rattle.uniquify_op.proofs.Marking.{marked_copied, marked_kept, marks_occurrences}
 
@@ -52,7 +52,7 @@ module _ (d : Design) (top : CellId) (valid : IsValid d) where
   split_is : split_for d top (marked d top) ≡ each_block d top
   split_is = λ i. record { kept = root_of top ∷ marked_kept d top valid i; copies = copies_after d [] (marked_copied d top valid i) }
 
-  module _ (draft : Draft) (is : IsDraft d top (marked d top) draft) where
+  module _ (draft : CopyDraft) (is : IsDraft d top (marked d top) draft) where
     pub block_seats : AreSeats d top draft.spots.items
     block_seats = draft_seats d top (marked d top) draft is
         (subst (λ l. AreDistinct (map (λ (o : Occurrence). o.path) (root_of top ∷ l))) (sym occurrences_are)

@@ -23,7 +23,7 @@ use Rattle.eco_reads.specs.Done.{IsDone, IsDoneOrFails}
 use Rattle.eco_reads.specs.Plan.{IsGood}
 use Rattle.eco_reads.proofs.Reading.{done_made, done_read, read_nothing, read_some}
 use Rattle.uniquify_blocks.specs.Plans.{IsPlan, IsPlanned, IsPut}
-use Rattle.uniquify_blocks.specs.declared.plan.Plan.{Plan}
+use Rattle.uniquify_blocks.specs.declared.plan.SplitPlan.{SplitPlan}
 use Rattle.uniquify_blocks.proofs.PathDone.{top_of}
 use Rattle.uniquify_blocks.specs.Below.{IsForAllBelow}
 
@@ -89,10 +89,10 @@ module _ (s u : State) (head : TopHead) (is_top : s.design.top ≡ Some head) (r
       done_read s u Uniquify (TooMany 65536) (IsForAllBelow d head.cell) read (below_needs d head is_top)
       (row_here ∙ ap (λ (o : Option Reply). unless (option_or o None) (Copies (length the_split.copies)) (split_edits d the_split)) full)
 
-  plan_comes : (plan : Plan) → IsPlan d the_split plan → outcome d Uniquify ≡ record { reply = Copies plan.copies; edits = edits_of d plan.change }
+  plan_comes : (plan : SplitPlan) → IsPlan d the_split plan → outcome d Uniquify ≡ record { reply = Copies plan.copies; edits = edits_of d plan.change }
   plan_comes plan is = made_here is.room ∙ (λ i. record { reply = Copies (sym is.count i); edits = sym is.edits i })
 
-  blocks_can : IsValid d → (planned : Option Plan) → IsPlanned d the_split planned → IfSome planned (λ plan. IsGood u.design plan.change)
+  blocks_can : IsValid d → (planned : Option SplitPlan) → IsPlanned d the_split planned → IfSome planned (λ plan. IsGood u.design plan.change)
   blocks_can valid None is = tt
   blocks_can valid (Some plan) is =
       subst (λ e. IsGood e plan.change) (sym read.design)
@@ -101,14 +101,14 @@ module _ (s u : State) (head : TopHead) (is_top : s.design.top ≡ Some head) (r
         valid = subst (λ (out : Outcome). IsValid (edited d out.edits)) (plan_comes plan is) (step_is_valid d Uniquify tt valid);
       })
 
-  blocks_put : (v : State) (planned : Option Plan) (reply : Reply) → IsPlanned d the_split planned → IsPut u v planned reply → IsDone s v Uniquify reply
+  blocks_put : (v : State) (planned : Option SplitPlan) (reply : Reply) → IsPlanned d the_split planned → IsPut u v planned reply → IsDone s v Uniquify reply
   blocks_put v None reply is (says, same) = subst (λ t. IsDone s t Uniquify reply) (sym same) (subst (IsDone s u Uniquify) (sym says) (too_many_done is))
   blocks_put v (Some plan) reply is (says, made) =
       subst (IsDone s v Uniquify) (sym says)
       (done_made s u v Uniquify (Copies plan.copies) (edits_of d plan.change) (IsForAllBelow d head.cell) read (below_needs d head is_top) (plan_comes plan is)
       (subst (λ e. HasMade u v (edits_of e plan.change)) read.design made))
 
-  blocks_result : {E : Type 0} (v : State) (planned : Option Plan) (result : Result Reply E) → IsPlanned d the_split planned → MatchResult result (IsPut u v planned) (λ _. v ≡ u) → IsDoneOrFails result s v Uniquify
+  blocks_result : {E : Type 0} (v : State) (planned : Option SplitPlan) (result : Result Reply E) → IsPlanned d the_split planned → MatchResult result (IsPut u v planned) (λ _. v ≡ u) → IsDoneOrFails result s v Uniquify
   blocks_result v planned (Ok reply) is put = blocks_put v planned reply is put
   blocks_result v planned (Err err) is same = subst (λ t. HasReadSome s t) (sym same) (read_some s u (IsForAllBelow d head.cell) read)
 
@@ -121,7 +121,7 @@ module _ (s u : State) (top : CellId) (found : Some top ≡ option_map (λ (t : 
   read_head : HasRead s u (IsForAllBelow s.design head.0.cell)
   read_head = subst (λ c. HasRead s u (IsForAllBelow s.design c)) (sym head.2) read
 
-  module _ (w : State) (same : w ≡ u) (planned : Option Plan) (is : IsPlanned u.design (each_block u.design top) planned) where
+  module _ (w : State) (same : w ≡ u) (planned : Option SplitPlan) (is : IsPlanned u.design (each_block u.design top) planned) where
     planned_here : IsPlanned s.design (each_block s.design head.0.cell) planned
     planned_here = subst (λ c. IsPlanned s.design (each_block s.design c) planned) (sym head.2) (subst (λ d. IsPlanned d (each_block d top) planned) read.design is)
 

@@ -22,7 +22,7 @@ use Rattle.uniquify_spec.proofs.ForCode.{copies_go_on}
 use Rattle.uniquify_spec.proofs.SplitEdits.{block_is_cell}
 use Rattle.uniquify_copies.specs.Drafts.{IsCopied, IsDraft, IsMoreDraft, Marked, copied_of, has_no_room, made_for, occurrences_of, placed_in}
 use Rattle.uniquify_copies.specs.Seats.{occurrence_of, seats}
-use Rattle.uniquify_copies.specs.declared.draft.Draft.{Draft}
+use Rattle.uniquify_copies.specs.declared.draft.CopyDraft.{CopyDraft}
 use Rattle.uniquify_copies.specs.declared.spot.Step.{Step}
 use Rattle.uniquify_copies.proofs.SeatLists.{seats_length}
 use Rattle.uniquify_blocks.proofs.Walking.{prefixed-nil}
@@ -31,12 +31,12 @@ use Rattle.uniquify_op.specs.Frames.{IsTaken, row_at}
 use Rattle.uniquify_op.specs.Marks.{came_before, marks_after}
 use Rattle.uniquify_op.specs.Visited.{AreMet, IsPut, IsPutAt, IsVisited}
 use Rattle.uniquify_op.specs.Walks.{IsFrame, IsSomeWalk, IsTurned, IsWaiting, IsWalk, below_path, left_in, left_of, path_at}
-use Rattle.uniquify_op.specs.declared.walk.Turn.{Turn}
-use Rattle.uniquify_op.specs.declared.frame.Frame.{Frame}
+use Rattle.uniquify_op.specs.declared.walk.BlockTurn.{BlockTurn}
+use Rattle.uniquify_op.specs.declared.frame.BlockFrame.{BlockFrame}
 use Rattle.uniquify_op.specs.declared.frame.Next.TheVariants.{End, Back, Block}
 use Rattle.uniquify_op.specs.declared.met.Met.{Met}
 use Rattle.uniquify_op.specs.declared.visits.Visits.{Visits}
-use Rattle.uniquify_op.specs.declared.walk.Walk.{Walk}
+use Rattle.uniquify_op.specs.declared.walk.BlockWalk.{BlockWalk}
 use Rattle.uniquify_op.proofs.Places.{path_at_is}
 use Rattle.uniquify_op.proofs.Marking.{marks_append, marks_occurrences, marks_push}
 use Rattle.uniquify_op.proofs.Meeting.{first_kids, first_within, met_again, met_first, met_none}
@@ -94,7 +94,7 @@ put_none d top seen up step old new place found copied visited = (came_known d s
 -- ---- the walk
 
 -- it begins
-pub walk_starts : (d : Design) → IsValid d → (top : CellId) (walk : Walk) (kids : List Step) → kids ≡ kids_of d top → IsDraft d top [] walk.visits.draft → walk.visits.met.rows.items ≡ kids ∷ []
+pub walk_starts : (d : Design) → IsValid d → (top : CellId) (walk : BlockWalk) (kids : List Step) → kids ≡ kids_of d top → IsDraft d top [] walk.visits.draft → walk.visits.met.rows.items ≡ kids ∷ []
     → ((id : CellId) → get cell_cmp walk.visits.met.places id ≡ None) → walk.stack.items ≡ record { number = 0; row = 0; taken = 0 } ∷ [] → IsWalk d top (blocks_below d top) [] walk
 walk_starts d valid top walk kids kids_are draft rows none stack =
     let rows_here : List (List Step) = walk.visits.met.rows.items in
@@ -108,7 +108,7 @@ walk_starts d valid top walk kids kids_are draft rows none stack =
     }
 
 -- a block is taken
-pub walk_taken : (d : Design) (top : CellId) (os seen : List Occurrence) (old new : Walk) (above : ℕ) (step : Step) → new.visits ≡ old.visits → IsWalk d top os seen old
+pub walk_taken : (d : Design) (top : CellId) (os seen : List Occurrence) (old new : BlockWalk) (above : ℕ) (step : Step) → new.visits ≡ old.visits → IsWalk d top os seen old
     → IsTaken old.visits.met.rows.items old.stack.items new.stack.items (Block above step) → IsWaiting d top os seen new above step
 walk_taken d top os seen old new above step same walk (frame, rest, was, is, number, at) = record {
   visited = subst (IsVisited d top seen) (sym same) walk.visited;
@@ -128,7 +128,7 @@ walk_taken d top os seen old new above step same walk (frame, rest, was, is, num
     count : ℕ
     count = length all
 
-    next : Frame
+    next : BlockFrame
     next = record frame { taken = frame.taken + 1 }
 
     framed : AllByRecursion (IsFrame count (length rows)) (rest ++ frame ∷ [])
@@ -158,12 +158,12 @@ walk_taken d top os seen old new above step same walk (frame, rest, was, is, num
         ∙ ap (λ l. (record { path = path; cell = step.of } ∷ map (below_path path) (blocks_below d step.of)) ++ l) (sym (left_push d all rows rest next))
 
 -- the cell of a block that is taken
-pub taken_is_cell : (d : Design) (top : CellId) (os seen : List Occurrence) (walk : Walk) (new : List Frame) (above : ℕ) (step : Step) → IsWalk d top os seen walk
+pub taken_is_cell : (d : Design) (top : CellId) (os seen : List Occurrence) (walk : BlockWalk) (new : List BlockFrame) (above : ℕ) (step : Step) → IsWalk d top os seen walk
     → IsTaken walk.visits.met.rows.items walk.stack.items new (Block above step) → IsCell d step.of
 taken_is_cell d top os seen walk new above step is (frame, rest, was, now, number, at) = block_is_cell d step.of (is.visited.met.blocks frame.row frame.taken step at)
 
 -- an occurrence is put aside
-pub walk_back : (d : Design) (top : CellId) (os seen : List Occurrence) (old new : Walk) → new.visits ≡ old.visits → IsWalk d top os seen old → IsTaken old.visits.met.rows.items old.stack.items new.stack.items Back → IsWalk d top os seen new
+pub walk_back : (d : Design) (top : CellId) (os seen : List Occurrence) (old new : BlockWalk) → new.visits ≡ old.visits → IsWalk d top os seen old → IsTaken old.visits.met.rows.items old.stack.items new.stack.items Back → IsWalk d top os seen new
 walk_back d top os seen old new same walk (frame, was, none) =
     let rows : List (List Step) = old.visits.met.rows.items in
     let all : List Occurrence = root_of top ∷ seen in
@@ -177,7 +177,7 @@ walk_back d top os seen old new same walk (frame, was, none) =
     }
 
 -- all was come to
-pub walk_over : (d : Design) (top : CellId) (os seen : List Occurrence) (old new : Walk) → new.visits ≡ old.visits → IsWalk d top os seen old → IsTaken old.visits.met.rows.items old.stack.items new.stack.items End
+pub walk_over : (d : Design) (top : CellId) (os seen : List Occurrence) (old new : BlockWalk) → new.visits ≡ old.visits → IsWalk d top os seen old → IsTaken old.visits.met.rows.items old.stack.items new.stack.items End
     → IsDraft d top (marks_after [] os) new.visits.draft
 walk_over d top os seen old new same walk none =
     let all : seen ≡ os = sym (walk.left ∙ ap (λ l. seen ++ left_of d (root_of top ∷ seen) old.visits.met.rows.items l) none ∙ append-nil seen) in
@@ -185,21 +185,21 @@ walk_over d top os seen old new same walk none =
 
 -- ---- a block is come to
 
-spots_long : (d : Design) (top : CellId) (done : List Marked) (draft : Draft) → IsDraft d top done draft → length draft.spots.items ≡ length (occurrences_of done)
+spots_long : (d : Design) (top : CellId) (done : List Marked) (draft : CopyDraft) → IsDraft d top done draft → length draft.spots.items ≡ length (occurrences_of done)
 spots_long d top done draft is =
     let all = ap (λ (os : List Occurrence). length os) is.occurrences in
     let left = length-map (seats top draft.spots.items) occurrence_of in
     let seated = seats_length ([] ∷ []) draft.spots.items in
     omega (arith, all, left, seated)
 
-wider : (m n p q : ℕ) (frames : List Frame) → m ≤ n → p ≤ q → AllByRecursion (IsFrame m p) frames → AllByRecursion (IsFrame n q) frames
+wider : (m n p q : ℕ) (frames : List BlockFrame) → m ≤ n → p ≤ q → AllByRecursion (IsFrame m p) frames → AllByRecursion (IsFrame n q) frames
 wider m n p q [] first second all = tt
 wider m n p q (frame ∷ frames) first second all =
     let number = all.0.number in
     let row = all.0.row in
     (record { number = omega (arith, number, first); row = omega (arith, row, second) }, wider m n p q frames first second all.1)
 
-pub walk_goes_on : (d : Design) → IsValid d → (top : CellId) (os seen : List Occurrence) (old new : Walk) (above : ℕ) (step : Step) (row number : ℕ) → (waiting : IsWaiting d top os seen old above step)
+pub walk_goes_on : (d : Design) → IsValid d → (top : CellId) (os seen : List Occurrence) (old new : BlockWalk) (above : ℕ) (step : Step) (row number : ℕ) → (waiting : IsWaiting d top os seen old above step)
     → IsPutAt d top seen (placed_in waiting.up step.place step.of) old.visits new.visits row → number ≡ length new.visits.draft.spots.items
     → new.stack.items ≡ old.stack.items ++ record { number = number; row = row; taken = 0 } ∷ [] → IsWalk d top os (seen ++ placed_in waiting.up step.place step.of ∷ []) new
 walk_goes_on d valid top os seen old new above step row number waiting put number_is stack = record {
@@ -231,7 +231,7 @@ walk_goes_on d valid top os seen old new above step row number waiting put numbe
     after : List Occurrence
     after = root_of top ∷ (seen ++ at ∷ [])
 
-    next : Frame
+    next : BlockFrame
     next = record { number = number; row = row; taken = 0 }
 
     under_it : List Occurrence
@@ -260,7 +260,7 @@ walk_goes_on d valid top os seen old new above step row number waiting put numbe
     stays = ap (λ l. left_of d after l old.stack.items) put.rows ∙ left_more d before (at ∷ []) rows put.more old.stack.items waiting.frames
 
 -- there is no room for a copy
-pub walk_full : (d : Design) (top : CellId) (os seen : List Occurrence) (old : Walk) (new : Visits) (above : ℕ) (step : Step) → (waiting : IsWaiting d top os seen old above step)
+pub walk_full : (d : Design) (top : CellId) (os seen : List Occurrence) (old : BlockWalk) (new : Visits) (above : ℕ) (step : Step) → (waiting : IsWaiting d top os seen old above step)
     → IsPut d top seen (placed_in waiting.up step.place step.of) old.visits new None → has_no_room (made_for d (marks_after [] os)) ≡ true
 walk_full d top os seen old new above step waiting (came, full) =
     ap (λ l. has_no_room (made_for d (marks_after [] l))) waiting.left
@@ -286,7 +286,7 @@ walk_full d top os seen old new above step waiting (came, full) =
     one m = cond m.copied (m.at ∷ []) []
 
 -- what a visit comes to is what the turn comes to
-pub turned_by : {E : Type 0} (d : Design) (old next new : Walk) (above : ℕ) (step : Step) (result : Result Turn E)
+pub turned_by : {E : Type 0} (d : Design) (old next new : BlockWalk) (above : ℕ) (step : Step) (result : Result BlockTurn E)
     → IfOk result (λ turn. (top : CellId) (os seen : List Occurrence) → IsWaiting d top os seen next above step → IsTurned d top os new turn)
     → ((top : CellId) (os seen : List Occurrence) → IsWalk d top os seen old → IsWaiting d top os seen next above step)
     → IfOk result (λ turn. (top : CellId) (os seen : List Occurrence) → IsWalk d top os seen old → IsTurned d top os new turn)
@@ -295,13 +295,13 @@ turned_by d old next new above step (Err refused) visited waits = tt
 
 -- ---- in the design with which the walk began
 
-abbrev pub IsUnderWay : Design → CellId → Walk → Type 0
+abbrev pub IsUnderWay : Design → CellId → BlockWalk → Type 0
 IsUnderWay d top walk = (seen : List Occurrence) × IsWalk d top (blocks_below d top) seen walk
 
-pub some_walk : (d e : Design) → e ≡ d → (top : CellId) (walk : Walk) → IsUnderWay d top walk → IsSomeWalk e walk
+pub some_walk : (d e : Design) → e ≡ d → (top : CellId) (walk : BlockWalk) → IsUnderWay d top walk → IsSomeWalk e walk
 some_walk d e same top walk way = (top, blocks_below d top, way.0, subst (λ x. IsWalk x top (blocks_below d top) way.0 walk) (sym same) way.1)
 
-pub turned_here : (d e : Design) → e ≡ d → (top : CellId) (old new : Walk) (turn : Turn) → IsUnderWay d top old
+pub turned_here : (d e : Design) → e ≡ d → (top : CellId) (old new : BlockWalk) (turn : BlockTurn) → IsUnderWay d top old
     → ((t : CellId) (os seen : List Occurrence) → IsWalk e t os seen old → IsTurned e t os new turn) → IsTurned d top (blocks_below d top) new turn
 turned_here d e same top old new turn way turned =
     subst (λ x. IsTurned x top (blocks_below d top) new turn) same (turned top (blocks_below d top) way.0 (subst (λ x. IsWalk x top (blocks_below d top) way.0 old) (sym same) way.1))

@@ -1,7 +1,7 @@
 -- Occurrences whose blocks are gone through.
 use Rattle.std.specs.Prelude.{◌≡◌, ◌+◌, ◌++◌, ℕ, List, [], ◌∷◌, Some, None, slice_get, unwrap_or}
 use Rattle.uniquify_copies.specs.declared.spot.Step.{Step}
-use Rattle.uniquify_op.specs.declared.frame.Frame.{Frame}
+use Rattle.uniquify_op.specs.declared.frame.BlockFrame.{BlockFrame}
 use Rattle.uniquify_op.specs.declared.frame.Next.{Next}
 use Rattle.uniquify_op.specs.declared.frame.Next.TheVariants.{End, Back, Block}
 
@@ -11,8 +11,8 @@ row_at rows place = unwrap_or (slice_get rows place) []
 
 -- the next block of the last occurrence was taken; or there was none, and the occurrence was put aside; or there was no
 -- occurrence
-abbrev pub IsTaken : List (List Step) → List Frame → List Frame → Next → Type 0
+abbrev pub IsTaken : List (List Step) → List BlockFrame → List BlockFrame → Next → Type 0
 IsTaken rows old new End = old ≡ []
-IsTaken rows old new Back = (frame : Frame) × (old ≡ new ++ frame ∷ []) × (slice_get (row_at rows frame.row) frame.taken ≡ None)
-IsTaken rows old new (Block above step) = (frame : Frame) × (rest : List Frame) × (old ≡ rest ++ frame ∷ []) × (new ≡ rest ++ record frame { taken = frame.taken + 1 } ∷ [])
+IsTaken rows old new Back = (frame : BlockFrame) × (old ≡ new ++ frame ∷ []) × (slice_get (row_at rows frame.row) frame.taken ≡ None)
+IsTaken rows old new (Block above step) = (frame : BlockFrame) × (rest : List BlockFrame) × (old ≡ rest ++ frame ∷ []) × (new ≡ rest ++ record frame { taken = frame.taken + 1 } ∷ [])
     × (above ≡ frame.number) × (slice_get (row_at rows frame.row) frame.taken ≡ Some step)

@@ -7,7 +7,7 @@ use Rattle.edit_rules_spec.specs.Paths.{same_cell}
 use Rattle.flat_spec.specs.Occurrences.{Occurrence}
 use Rattle.uniquify_spec.specs.Blocks.{blocks_below}
 use Rattle.uniquify_copies.specs.Drafts.{IsDraft, Marked, has_no_room, made_for}
-use Rattle.uniquify_copies.specs.declared.draft.Draft.{Draft}
+use Rattle.uniquify_copies.specs.declared.draft.CopyDraft.{CopyDraft}
 
 -- one of these occurrences is of the cell
 abbrev pub came_before : List Occurrence → CellId → Bool
@@ -23,6 +23,6 @@ abbrev pub marked : Design → CellId → List Marked
 marked d top = marks_after [] (blocks_below d top)
 
 -- all of them are on a draft; or none, where a library has no room for a copy
-abbrev pub AreBlocksDrafted : Design → CellId → Option Draft → Type 0
+abbrev pub AreBlocksDrafted : Design → CellId → Option CopyDraft → Type 0
 AreBlocksDrafted d top (Some draft) = IsDraft d top (marked d top) draft
 AreBlocksDrafted d top None = has_no_room (made_for d (marked d top)) ≡ true

@@ -5,17 +5,17 @@ ghost use Rattle.edit_cells.specs.State.{HasReadSome};
 ghost use Rattle.uniquify_op.specs.Marks.{AreBlocksDrafted};
 
 use crate::visits::Visits;
-use crate::walk::{Turn, Walk};
+use crate::walk::{BlockTurn, BlockWalk};
 use edit_cells::Cells;
 use netlist_schema::{CellId, NoMemory};
 use std::alloc::Global;
-use uniquify_copies::Draft;
+use uniquify_copies::CopyDraft;
 
 /// The draft of a walk.
-fn draft_of(walk: Walk) -> Draft
+fn draft_of(walk: BlockWalk) -> CopyDraft
     ensures { result ≡ walk.visits.draft }
 {
-    let Walk { visits, stack: _ } = walk;
+    let BlockWalk { visits, stack: _ } = walk;
     let Visits { draft, met: _ } = visits;
     draft
 }
@@ -28,17 +28,17 @@ pub(crate) fn draft_blocks<C: Cells>(
     alloc: Global,
     cells: &mut C,
     top: CellId,
-) -> Result<Option<Draft>, NoMemory>
+) -> Result<Option<CopyDraft>, NoMemory>
     requires { IsValid (C.state cells.old).design }
     ensures drafted { IfOk result (AreBlocksDrafted (C.state cells.old).design top) }
     ensures some { HasReadSome (C.state cells.old) (C.state cells.new) }
 {
-    let mut walk = Walk::start(alloc, cells, top)?;
+    let mut walk = BlockWalk::start(alloc, cells, top)?;
     for _ in 0..u64::MAX {
         match walk.turn(alloc, cells) {
-            Ok(Turn::Over) => return Ok(Some(draft_of(walk))),
-            Ok(Turn::Full) => return Ok(None),
-            Ok(Turn::More) => {}
+            Ok(BlockTurn::Over) => return Ok(Some(draft_of(walk))),
+            Ok(BlockTurn::Full) => return Ok(None),
+            Ok(BlockTurn::More) => {}
             Err(refused) => return Err(refused),
         }
     }

@@ -1,4 +1,4 @@
-//! `Frame`: an occurrence whose blocks are gone through.
+//! `BlockFrame`: an occurrence whose blocks are gone through.
 ghost use Rattle.std.specs.Prelude.{◌≡◌, ◌+◌, ◌<◌, ◌^◌, IfOk, IfSome, slice_get};
 ghost use Rattle.uniquify_op.specs.Frames.{IsTaken, row_at};
 
@@ -7,7 +7,7 @@ use uniquify_copies::Step;
 
 /// An occurrence whose blocks are gone through, in order.
 #[derive(Clone, Copy)]
-pub struct Frame {
+pub struct BlockFrame {
     /// Its number: 0 is the top's, and k that of the k-th occurrence on the list.
     pub number: usize,
     /// The place of the row of its blocks.
@@ -42,7 +42,7 @@ fn block_at(rows: &[Row<Step>], row: usize, place: usize) -> Option<Step>
 }
 
 /// Takes the next block of the last occurrence, or puts that aside where all of its blocks were taken.
-pub(crate) fn take_next(rows: &[Row<Step>], stack: &mut Vec<Frame>) -> Result<Next, NoMemory>
+pub(crate) fn take_next(rows: &[Row<Step>], stack: &mut Vec<BlockFrame>) -> Result<Next, NoMemory>
     ensures { IfOk result (IsTaken rows.now stack.old.items stack.new.items) }
 {
     let Some(frame) = stack.pop() else {
@@ -51,7 +51,7 @@ pub(crate) fn take_next(rows: &[Row<Step>], stack: &mut Vec<Frame>) -> Result<Ne
     let Some(step) = block_at(rows, frame.row, frame.taken) else {
         return Ok(Next::Back);
     };
-    stack.push(Frame {
+    stack.push(BlockFrame {
         number: frame.number,
         row: frame.row,
         taken: frame.taken + 1,

@@ -11,10 +11,10 @@ use edit_cells::Cells;
 use edit_spec::{Op, Reply};
 use netlist_schema::{CellId, NoMemory};
 use std::alloc::Global;
-use uniquify_blocks::{Plan, plan_of, put_plan, read_below};
+use uniquify_blocks::{SplitPlan, plan_of, put_plan, read_below};
 
 /// The plan for the blocks below a top, or none where a library has no room. It may read.
-fn try_plan<C: Cells>(alloc: Global, cells: &mut C, top: CellId) -> Result<Option<Plan>, NoMemory>
+fn try_plan<C: Cells>(alloc: Global, cells: &mut C, top: CellId) -> Result<Option<SplitPlan>, NoMemory>
     requires { IsValid (C.state cells.old).design }
     ensures planned { IfOk result (IsPlanned (C.state cells.old).design (each_block (C.state cells.old).design top)) }
     ensures some { HasReadSome (C.state cells.old) (C.state cells.new) }
@@ -31,7 +31,7 @@ fn plan_blocks<C: Cells>(
     alloc: Global,
     cells: &mut C,
     top: CellId,
-) -> Result<Option<Plan>, NoMemory>
+) -> Result<Option<SplitPlan>, NoMemory>
     requires { IsValid (C.state cells.old).design }
     ensures planned { IfOk result (IsPlanned (C.state cells.old).design (each_block (C.state cells.old).design top)) }
     ensures reads { MatchResult result (λ _. C.state cells.new ≡ C.state cells.old) (λ _. HasReadSome (C.state cells.old) (C.state cells.new)) }

@@ -15,12 +15,12 @@ use edit_cells::Cells;
 use netlist_schema::NoMemory;
 use std::alloc::Global;
 use uniquify_blocks::block_kids;
-use uniquify_copies::{Draft, Step};
+use uniquify_copies::{CopyDraft, Step};
 
 /// Occurrences of blocks on a list, with the copies that they get, and the cells that were met among them.
 #[derive(Drop)]
 pub struct Visits {
-    pub draft: Draft,
+    pub draft: CopyDraft,
     pub met: Met,
 }
 

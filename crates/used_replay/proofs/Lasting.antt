@@ -63,5 +63,5 @@ last_from (event ∷ events) s =
     ap (λ (d : Design). replayed d events) (sym (last_changed s event.caller event.call event.answer))
     ∙ last_from events (after s event)
 
-pub replayed_is_last : (d : Design) (history : List Event) → replayed d history ≡ version_at d history (head (state_after d history))
-replayed_is_last d history = last_from history (opening d)
+pub replayed_is_head : (d : Design) (history : List Event) → replayed d history ≡ version_at d history (head (state_after d history))
+replayed_is_head d history = last_from history (opening d)

@@ -26,8 +26,8 @@ replayed d [] = d
 replayed d (event ∷ events) = replayed (redone d event.call event.answer) events
 
 -- so the opening design comes to that of the last version
-abbrev pub ReplayedIsLast : Type 0
-ReplayedIsLast = (d : Design) (history : List Event) → replayed d history ≡ version_at d history (head (state_after d history))
+abbrev pub ReplayedIsHead : Type 0
+ReplayedIsHead = (d : Design) (history : List Event) → replayed d history ≡ version_at d history (head (state_after d history))
 
 -- the operations of all accepted commits, in order
 abbrev pub accepted : List Event → List Op

@@ -5,4 +5,4 @@ mod again;
 mod laws;
 
 pub use again::replay;
-pub use laws::{replayed_is_last, replayed_runs};
+pub use laws::{replayed_is_head, replayed_runs};

@@ -1,6 +1,6 @@
 pub mod ExampleUsed
 pub mod Kept
-pub mod LastUses
+pub mod HeadUses
 pub mod Laws
 pub mod Lines
 pub mod Named

@@ -134,7 +134,7 @@ fn make_anew(alloc: Global, pair: &mut Pair, change: Change) -> Result<(), NoMem
 
 /// An instance of a cell that is put at a place, and the cell of the one that stands there, where there is one.
 #[derive(Clone, Copy)]
-struct Turn {
+struct PutInst {
     at: UsedAt,
     of: CellId,
     old: Option<CellId>,
@@ -151,7 +151,7 @@ fn cell_placed(design: &Design, id: CellId, place: u32) -> Option<CellId>
 }
 
 /// What a change puts, where it is one instance and nothing else.
-fn turn_of(design: &Design, change: &Change) -> Option<Turn>
+fn turn_of(design: &Design, change: &Change) -> Option<PutInst>
     ensures { IfSome result (λ turn. IsTurn design.now change.now turn.at turn.of turn.old) }
 {
     let cells = change.cells.as_slice();
@@ -162,7 +162,7 @@ fn turn_of(design: &Design, change: &Change) -> Option<Turn>
         return None;
     }
     match &cells[0] {
-        CellChange::Inst { id, place, inst } => Some(Turn {
+        CellChange::Inst { id, place, inst } => Some(PutInst {
             at: UsedAt {
                 cell: *id,
                 inst: *place,
@@ -185,7 +185,7 @@ fn take_out(alloc: Global, used: &mut Used, old: Option<CellId>, at: UsedAt)
 
 /// Puts one instance into a design, and changes the lists of its cell and of the cell of the one that stood there. All memory is taken
 /// before anything else is changed.
-fn make_turn(alloc: Global, pair: &mut Pair, change: Change, turn: Turn) -> Result<(), NoMemory>
+fn make_turn(alloc: Global, pair: &mut Pair, change: Change, turn: PutInst) -> Result<(), NoMemory>
     requires index { pair.old.used ≡ uses pair.old.design }
     requires can { CanAllBeMade pair.old.design change.cells }
     requires valid { IsValid (edited pair.old.design (edits_of pair.old.design change)) }

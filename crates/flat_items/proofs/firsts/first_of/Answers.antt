@@ -2,7 +2,7 @@ use Rattle.std.proofs.Common.{◌≡◌, refl, sym, ap, subst, ◌∙◌, Option
 use Rattle.std.specs.Prelude.{IsSome}
 use Rattle.std.proofs.lemmas.Option.{same_Some}
 use Rattle.net_names.specs.Names.{net_named}
-use Rattle.net_names.specs.declared.names.Name.{Name}
+use Rattle.net_names.specs.declared.names.NetName.{NetName}
 use Rattle.flat_items.proofs.NetLemmas.{net_is_named}
 use Rattle.flat_items.proofs.firsts.first_of.Goals as goal
 
@@ -10,7 +10,7 @@ pub name_at-name-requires : goal.name_at-name-requires
 name_at-name-requires g c =
     let named = net_is_named (g.S.Shown.design c.args.ground.now.design) c.args.ground.now.classes c.args.ground.now.notes c.requires.ground c.args.path.now c.args.frame.now c.requires.frame
     c.args.net c.requires.net c.as_slice.result.now c.firsts-firsts.result.now c.as_slice.ensures.value c.firsts-firsts.ensures in
-    subst (λ (o : Option Name). IsSome o) (sym named.found) refl
+    subst (λ (o : Option NetName). IsSome o) (sym named.found) refl
 
 pub returns : goal.returns
 returns g c =

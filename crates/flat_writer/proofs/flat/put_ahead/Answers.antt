@@ -6,5 +6,5 @@ use Rattle.flat_writer.proofs.flat.put_ahead.Goals as goal
 pub returns-clause-gives : goal.returns-clause-gives
 returns-clause-gives g c =
     given_ahead (Writes g.K.Sink.written g.K.Sink.faults c.args.out.now c.args.page.now c.put_item-has_room.new.out c.put_item-has_room.new.page)
-    c.args.texts.now c.args.room c.args.walk.now.left c.pass.new.self.left (item_of c.in-Some.item) c.put_item-has_room.result
-    c.in-Some.ensures.1 (c.pass.ensures.passed c.requires) (rw c.keep_path.ensures at c.put_item-has_room.ensures)
+    c.args.texts.now c.args.room c.args.walk.now.left c.skip.new.self.left (item_of c.in-Some.item) c.put_item-has_room.result
+    c.in-Some.ensures.1 (c.skip.ensures.passed c.requires) (rw c.keep_path.ensures at c.put_item-has_room.ensures)

@@ -6,5 +6,5 @@ use Rattle.flat_writer.proofs.table.put_ahead.Goals as goal
 pub returns-clause-gives : goal.returns-clause-gives
 returns-clause-gives g c =
     given_ahead (Writes g.K.Sink.written g.K.Sink.faults c.args.out.now c.args.page.now c.put_item.new.out c.put_item.new.rows)
-    c.args.texts.now c.args.walk.now.left c.pass.new.self.left (item_of c.in-Some.item)
-    c.in-Some.ensures.1 (c.pass.ensures.passed c.requires) (rw c.keep_pin.ensures at c.put_item.ensures)
+    c.args.texts.now c.args.walk.now.left c.skip.new.self.left (item_of c.in-Some.item)
+    c.in-Some.ensures.1 (c.skip.ensures.passed c.requires) (rw c.keep_pin.ensures at c.put_item.ensures)

@@ -1,6 +1,6 @@
 use Rattle.std.proofs.Common.{Bor, List, ℕ, length, refl, ap, ◌∙◌}
 use Rattle.db_core.specs.Calls.{event_of}
-use Rattle.script_spec.specs.Report.{last_design}
+use Rattle.script_spec.specs.Report.{head_design}
 use Rattle.script_run_spec.specs.Scripts.{all_steps}
 use Rattle.history_check.proofs.Replaying.{behind_one}
 use Rattle.history_check.proofs.Seating.{behind_none, behind_some, called_so, heads_none, none_of, none_so, only_of, only_so, other_so, rest_so, shorter_behind, stopped_so}
@@ -46,5 +46,5 @@ events-preserved c =
 pub events-smaller : goal.events-smaller
 events-smaller c =
     let called = called_so c.events.core c.call.new.core (all_steps c.args.scripts.now) c.in-Some.next c.args.most c.events.seats.items c.call.new.seats.items c.in_ok-call.field-0 c.if-not-branch.false c.in_ok-call.ensures in
-    shorter_behind (last_design c.call.new.core.opening c.call.new.core.events) (length c.events.core.events) (event_of c.in-Some.next.caller called.call called.answer) c.events.rest.now c.in-Some-2.more.now
+    shorter_behind (head_design c.call.new.core.opening c.call.new.core.events) (length c.events.core.events) (event_of c.in-Some.next.caller called.call called.answer) c.events.rest.now c.in-Some-2.more.now
     (behind_some (λ (m : Bor (List ℕ)). m.now) c.events.core c.call.new.core (all_steps c.args.scripts.now) c.in-Some.next c.call.new.seats.items called c.events.rest.now c.in_ok-more.field-0 c.in-Some-2.more (λ before event is. c.in_ok-more.ensures before event is) c.in-Some-2.is)

@@ -8,7 +8,7 @@ returns-in-Whole-clause-gives g c =
     let read = c.in-Whole.ensures.ends in
     let bytes = read.0 in
     let same : c.of.result ≡ bytes = c.of.ensures ∙ read.3 [] c.new.ensures.items in
-    let G : List ℕ → Type 0 = λ v. (length v ≤ c.args.limit) × IfSome (g.F.Files.told c.read_pieces.new.files) (λ shelf. IsReadWhole shelf c.args.name.now v) in
+    let G : List ℕ → Type 0 = λ v. (length v ≤ c.args.limit) × IfSome (g.F.Files.told c.read_pieces.new.files) (λ folder. IsReadWhole folder c.args.name.now v) in
     subst G (sym same) (read.1, read.2)
 
 pub returns-in-Whole-clause-visited : goal.returns-in-Whole-clause-visited

@@ -6,7 +6,7 @@ use Rattle.flat_spec.specs.Paths.{nets_at}
 use Rattle.net_classes.specs.Joints.{IsNotBehind}
 use Rattle.net_classes.specs.declared.joints.Joint.{Joint}
 use Rattle.net_names.specs.Names.{AreHanded, first_of, name_in}
-use Rattle.net_names.specs.declared.names.Name.{Name}
+use Rattle.net_names.specs.declared.names.NetName.{NetName}
 use Rattle.flat_items.specs.Stand.{top_of}
 use Rattle.flat_items.specs.declared.place.Frame.{Frame}
 use Rattle.occ_walk.proofs.BelowLemmas.{firsts_in, frame_is_below, joints_are_named, joints_in_order, next_is_small, path_is_short}
@@ -42,7 +42,7 @@ names_below-requires g c =
     let here : Frame = c.args.here.now in
     let are = subst (λ js. (j : Joint) → Contains on j ↔ (Contains js j × (j.inst ≡ c.args.step))) c.joints.ensures c.joints_on-run.ensures in
     let named = joints_are_named d facts c.args.ground.now.notes c.requires.ground c.args.path.now here c.requires.frame c.args.step on are in
-    let with_names = subst (λ (v : List Name). All (λ (j : Joint). IsSome (name_in v (firsts_in facts here.cell) j.net)) on) (sym c.as_slice.ensures.value) named in
+    let with_names = subst (λ (v : List NetName). All (λ (j : Joint). IsSome (name_in v (firsts_in facts here.cell) j.net)) on) (sym c.as_slice.ensures.value) named in
     subst (λ v. All (λ (j : Joint). IsSome (name_in c.as_slice.result.now v j.net)) on) (sym c.firsts.ensures) with_names
 
 pub returns-clause-frame : goal.returns-clause-frame
@@ -53,9 +53,9 @@ returns-clause-frame g c =
     let here : Frame = c.args.here.now in
     let inst = c.requires.inst in
     let are = subst (λ js. (j : Joint) → Contains on j ↔ (Contains js j × (j.inst ≡ c.args.step))) c.joints.ensures c.joints_on-run.ensures in
-    let names : List Name = c.in_ok-names.names.items in
+    let names : List NetName = c.in_ok-names.names.items in
     let deep : ℕ = length c.args.path.now + 1 in
-    let with_names = subst (λ (v : List Name). AreHanded (first_of facts c.args.of) (name_in v c.firsts.result.now) deep on (length (nets_at d c.args.of)) names) c.as_slice.ensures.value c.in_ok-names.ensures in
+    let with_names = subst (λ (v : List NetName). AreHanded (first_of facts c.args.of) (name_in v c.firsts.result.now) deep on (length (nets_at d c.args.of)) names) c.as_slice.ensures.value c.in_ok-names.ensures in
     let with_firsts = subst (λ v. AreHanded (first_of facts c.args.of) (name_in here.names.items v) deep on (length (nets_at d c.args.of)) names) c.firsts.ensures with_names in
     let of_inst = subst (λ (v : CellId). AreHanded (first_of facts v) (name_in here.names.items (firsts_in facts here.cell)) deep on (length (nets_at d v)) names) (sym inst.2) with_firsts in
     frame_is_below d facts c.args.ground.now.notes c.requires.ground c.args.path.now here c.requires.frame inst.0 c.args.step inst.1 on are deep

@@ -5,10 +5,10 @@ use Rattle.par_parts.proofs.passing.pass_own.Goals as goal
 
 pub own-init : goal.own-init
 own-init g c = record {
-  stands = c.pass.ensures.stands;
+  stands = c.skip.ensures.stands;
   less = omega arith;
-  same = own_passed c.args.ground.now c.args.count c.args.count (stand_of c.args.place.now) (stand_of c.args.place.now) (stand_of c.pass.new.place)
-      c.requires.some c.requires.one c.pass.ensures.passed refl;
+  same = own_passed c.args.ground.now c.args.count c.args.count (stand_of c.args.place.now) (stand_of c.args.place.now) (stand_of c.skip.new.place)
+      c.requires.some c.requires.one c.skip.ensures.passed refl;
 }
 
 pub own-preserved : goal.own-preserved
@@ -16,6 +16,6 @@ own-preserved g c = record {
   stands = c.pass_nets-more.ensures.stands;
   less = let fewer = c.pass_nets-more.ensures.less in let some = c.own-test.true in let before = c.own.invariant.less in omega (arith, fewer, some, before);
   same = c.pass_nets-more.ensures.left
-      ∙ own_passed c.args.ground.now c.args.count c.own.more (stand_of c.args.place.now) (stand_of c.own.place) (stand_of c.pass-in-own.new.place)
-      c.own-test.true (sym c.is_over.ensures ∙ c.if-is_over.false) c.pass-in-own.ensures.passed c.own.invariant.same;
+      ∙ own_passed c.args.ground.now c.args.count c.own.more (stand_of c.args.place.now) (stand_of c.own.place) (stand_of c.skip-in-own.new.place)
+      c.own-test.true (sym c.is_over.ensures ∙ c.if-is_over.false) c.skip-in-own.ensures.passed c.own.invariant.same;
 }

@@ -9,7 +9,7 @@ use Rattle.report_parts.proofs.rests.is_rest.Goals as goal
 pub returns-in-Some : goal.returns-in-Some
 returns-in-Some g c =
     let wanted = line (codes "design" ∷ []) ++ canonical_text (g.S.Shown.design c.args.last.now) in
-    if_ok_on c.is_last.result _ _ (λ r iff. same_behind c.args.text.now (numbered_texts 0 c.args.texts.now) c.in-Some.rest.now wanted r c.in-Some.ensures iff) c.is_last.ensures
+    if_ok_on c.is_head.result _ _ (λ r iff. same_behind c.args.text.now (numbered_texts 0 c.args.texts.now) c.in-Some.rest.now wanted r c.in-Some.ensures iff) c.is_head.ensures
 
 pub returns-in-None : goal.returns-in-None
 returns-in-None g c =

@@ -9,4 +9,4 @@ release-requires-clause-pin g c = subst (λ (p : PinFacts). HasPin c.args.db.now
 
 pub returns-clause-comes : goal.returns-clause-comes
 returns-clause-comes g c =
-    rw c.told.ensures (abandon_told c.args.db.now c.args.pass.now c.release.new.pass c.args.out.now.items c.say_abandoned.new.out.items c.say_abandoned.result c.args.block c.abandon.result c.abandon.ensures c.requires c.release.ensures.answer c.say_abandoned.ensures.ok)
+    rw c.held_after.ensures (abandon_told c.args.db.now c.args.pass.now c.release.new.pass c.args.out.now.items c.say_abandoned.new.out.items c.say_abandoned.result c.args.block c.abandon.result c.abandon.ensures c.requires c.release.ensures.answer c.say_abandoned.ensures.ok)

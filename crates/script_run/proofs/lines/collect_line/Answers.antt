@@ -3,7 +3,7 @@ use Rattle.script_run.proofs.lines.collect_line.Goals as goal
 
 pub returns-in-Ok-clause-comes : goal.returns-in-Ok-clause-comes
 returns-in-Ok-clause-comes g c =
-    rw c.told.ensures (collect_told c.args.db.now c.args.pass.now c.collect.new.pass c.args.out.now.items c.say_collected.new.out.items c.args.held c.requires.no_block c.requires.stands c.say_collected.result c.in-Ok.count c.in-Ok.ensures.answer c.say_collected.ensures.ok)
+    rw c.held_after.ensures (collect_told c.args.db.now c.args.pass.now c.collect.new.pass c.args.out.now.items c.say_collected.new.out.items c.args.held c.requires.no_block c.requires.stands c.say_collected.result c.in-Ok.count c.in-Ok.ensures.answer c.say_collected.ensures.ok)
 
 pub returns-in-Err-LogFull-clause-comes : goal.returns-in-Err-LogFull-clause-comes
 returns-in-Err-LogFull-clause-comes g c =

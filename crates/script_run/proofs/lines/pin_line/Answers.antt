@@ -3,7 +3,7 @@ use Rattle.script_run.proofs.lines.pin_line.Goals as goal
 
 pub returns-in-Ok-clause-comes : goal.returns-in-Ok-clause-comes
 returns-in-Ok-clause-comes g c =
-    rw c.told.ensures (pin_told c.args.db.now c.args.pass.now c.pin.new.pass c.args.out.now.items c.say_pin-said.new.out.items c.requires c.say_pin-said.result c.in-Ok.pin c.version.result c.version.ensures c.in-Ok.ensures.answer c.say_pin-said.ensures.ok)
+    rw c.held_after.ensures (pin_told c.args.db.now c.args.pass.now c.pin.new.pass c.args.out.now.items c.say_pin-said.new.out.items c.requires c.say_pin-said.result c.in-Ok.pin c.version.result c.version.ensures c.in-Ok.ensures.answer c.say_pin-said.ensures.ok)
 
 pub returns-in-Err-LogFull-clause-comes : goal.returns-in-Err-LogFull-clause-comes
 returns-in-Err-LogFull-clause-comes g c =

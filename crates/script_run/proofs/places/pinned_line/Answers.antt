@@ -7,4 +7,4 @@ show-said-requires g c = can_walk c.args.along.now.db.now c.args.pass.now c.args
 
 pub returns-in-Walk-clause-comes : goal.returns-in-Walk-clause-comes
 returns-in-Walk-clause-comes g c =
-    rw (c.told.ensures, c.in-Walk.is) (walk_told c.args.along.now.db.now c.args.pass.now c.args.out.now.items c.show-said.new.out.items c.show-said.result c.args.pin c.in-Walk.limit c.requires.stands c.show-said.ensures)
+    rw (c.held_after.ensures, c.in-Walk.is) (walk_told c.args.along.now.db.now c.args.pass.now c.args.out.now.items c.show-said.new.out.items c.show-said.result c.args.pin c.in-Walk.limit c.requires.stands c.show-said.ensures)

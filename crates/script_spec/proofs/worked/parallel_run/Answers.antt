@@ -1,8 +1,8 @@
 use Rattle.edif_spec.specs.Arranged.{canonical_text}
 use Rattle.script_spec.proofs.Parallel as lemma
 use Rattle.script_spec.specs.Example.{board}
-use Rattle.script_spec.specs.ExampleParallel.{parallel_history, stories}
-use Rattle.script_spec.specs.Report.{last_design}
+use Rattle.script_spec.specs.ExampleParallel.{parallel_history, results}
+use Rattle.script_spec.specs.Report.{head_design}
 use Rattle.script_spec.proofs.worked.parallel_run.Goals as goal
 
 pub returns : goal.returns
@@ -10,10 +10,10 @@ returns c = record {
   prints = record {
     legal = lemma.legal;
     callers = lemma.callers;
-    stories = stories;
+    results = results;
     fit = lemma.fit;
     filled = lemma.filled;
-    printed = lemma.printed (canonical_text (last_design board parallel_history));
+    printed = lemma.printed (canonical_text (head_design board parallel_history));
   };
   said = lemma.said;
 }

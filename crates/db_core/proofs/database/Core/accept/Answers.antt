@@ -32,24 +32,24 @@ use Rattle.db_core.proofs.database.Core.accept.Goals.{After-push_reserved-2}
 
 -- ---- over the fields
 
-grown_is : (i : Inside) (pin : PinFacts) → IsCore i → IsPinOf (story_of i) pin → Grown pin.design i.newest.design
+grown_is : (i : Inside) (pin : PinFacts) → IsCore i → IsPinOf (story_of i) pin → Grown pin.design i.head.design
 grown_is i pin core is =
     let h = core.stands in
-    subst (λ (d : Design). Grown d i.newest.design) (sym is.design)
-    (subst (λ (x : Shot). Grown (design (state_of i) pin.version) x.design) (sym h.newest) (grown_head i.opening.design i.log.items pin.version (pinned_there (story_of i) pin core.history.legal is)))
+    subst (λ (d : Design). Grown d i.head.design) (sym is.design)
+    (subst (λ (x : Shot). Grown (design (state_of i) pin.version) x.design) (sym h.head_is) (grown_head i.opening.design i.log.items pin.version (pinned_there (story_of i) pin core.history.legal is)))
 
-agree_is : (i : Inside) (pin : PinFacts) (ops : List Op) → IsCore i → IsPinOf (story_of i) pin → HasNoConflict (state_of i) pin.version ops → AgreesOn pin.design i.newest.design (Reads pin.design ops)
+agree_is : (i : Inside) (pin : PinFacts) (ops : List Op) → IsCore i → IsPinOf (story_of i) pin → HasNoConflict (state_of i) pin.version ops → AgreesOn pin.design i.head.design (Reads pin.design ops)
 agree_is i pin ops core is free =
     let h = core.stands in
-    subst (λ (d : Design). AgreesOn d i.newest.design (Reads d ops)) (sym is.design)
-    (subst (λ (x : Shot). AgreesOn (design (state_of i) pin.version) x.design (Reads (design (state_of i) pin.version) ops)) (sym h.newest)
+    subst (λ (d : Design). AgreesOn d i.head.design (Reads d ops)) (sym is.design)
+    (subst (λ (x : Shot). AgreesOn (design (state_of i) pin.version) x.design (Reads (design (state_of i) pin.version) ops)) (sym h.head_is)
     (agrees_head i.opening.design i.log.items pin.version ops (valid_is_closed i.opening.design core.history.valid) (pinned_there (story_of i) pin core.history.legal is) free))
 
 -- a pin of the last version has its design
-same_is : (i : Inside) (pin : PinFacts) → IsCore i → IsPinOf (story_of i) pin → pin.version ≡ i.newest.version → pin.design ≡ i.newest.design
+same_is : (i : Inside) (pin : PinFacts) → IsCore i → IsPinOf (story_of i) pin → pin.version ≡ i.head.version → pin.design ≡ i.head.design
 same_is i pin core is at =
     is.design
-    ∙ (ap (λ (v : ℕ). design (state_of i) v) (at ∙ ap (λ (x : Shot). x.version) core.stands.newest) ∙ sym (ap (λ (x : Shot). x.design) core.stands.newest))
+    ∙ (ap (λ (v : ℕ). design (state_of i) v) (at ∙ ap (λ (x : Shot). x.version) core.stands.head_is) ∙ sym (ap (λ (x : Shot). x.design) core.stands.head_is))
 
 replayed_is : (i : Inside) (pin : PinFacts) (ops : List Op) → IsCore i → IsPinOf (story_of i) pin → HasNoConflict (state_of i) pin.version ops → IsReplayed pin.design (design (state_of i) (head (state_of i))) ops
 replayed_is i pin ops core is free =
@@ -71,7 +71,7 @@ overflow_add-version c =
     let up = kept_up_after c.self.inside.opening.design c.self.inside.log.items c.self.invariant.history.legal in
     let within = up.within in
     let versions = up.versions in
-    let newest = ap (λ (x : Shot). x.version) h.newest in
+    let at_head = ap (λ (x : Shot). x.version) h.head_is in
     omega (arith, c.version-version.ensures)
 
 pub next_version-requires-clause-grown : goal.next_version-requires-clause-grown
@@ -106,7 +106,7 @@ module _ (c : After-push_reserved-2) where
   has_room = subst (λ (st : Story). HasPlaces (state st) 1) (sym c.self.view_is) c.requires.places
 
   is_next : c.version-version.result + 1 ≡ head s + 1
-  is_next = let newest : i.newest.version ≡ head s = ap (λ (x : Shot). x.version) c.self.invariant.stands.newest in omega (arith, c.version-version.ensures)
+  is_next = let at_head : i.head.version ≡ head s = ap (λ (x : Shot). x.version) c.self.invariant.stands.head_is in omega (arith, c.version-version.ensures)
 
   abbrev event : Event
   event = commit_event c.args.tx (Committed (c.version-version.result + 1) c.args.tx.replies)
@@ -140,7 +140,7 @@ invariant_of-self-2 c =
     let live : length i.pins.live ≡ length s.pins = ap length h.live ∙ few_held s.pins in
     let places : length c.push_reserved-2.new.self.items + length s.pins ≤ vec_capacity c.push_reserved-2.new.self = omega (arith, c.in-Ok-make_room-2.ensures.room, c.live.ensures, c.push_reserved-2.ensures.capacity) in
     let next : c.in-Ok.next ≡ record { version = head s + 1; design = (run (design s (head s)) tx.ops).design } =
-    c.in-Ok.ensures ∙ λ k. record { version = is_next c k; design = (run ((ap (λ (x : Shot). x.design) h.newest) k) tx.ops).design } in
+    c.in-Ok.ensures ∙ λ k. record { version = is_next c k; design = (run ((ap (λ (x : Shot). x.design) h.head_is) k) tx.ops).design } in
     let versions : c.push_reserved.new.self.items ≡ i.versions.items ++ c.in-Ok.next ∷ [] =
     c.push_reserved.ensures.items ∙ (ap (λ (xs : List Shot). xs ++ c.in-Ok-share.kept ∷ []) c.make_room.ensures.items ∙ ap (λ (x : Shot). i.versions.items ++ x ∷ []) c.in-Ok-share.ensures) in
     let fine = (kept_up_after i.opening.design i.log.items c.self.invariant.history.legal).fine in

@@ -31,16 +31,16 @@ overflow_cast-dropped c =
 
 -- the versions that are left are those that stay
 left : (c : After-push_reserved) (new : List Shot)
-    → new ≡ filter (λ (kept : Shot). (kept.version == c.self.inside.newest.version) || list_any (λ (pin : HeldPin). pin.version == kept.version) c.self.inside.pins.live) c.self.inside.versions.items
+    → new ≡ filter (λ (kept : Shot). (kept.version == c.self.inside.head.version) || list_any (λ (pin : HeldPin). pin.version == kept.version) c.self.inside.pins.live) c.self.inside.versions.items
     → new ≡ filter (λ (k : Shot). stays (state_of c.self.inside) k.version) c.self.inside.versions.items
 left c new is =
     let s : State = state_of c.self.inside in
     let h = c.self.invariant.stands in
-    is ∙ (ap (λ (n : ℕ). filter (λ (k : Shot). (k.version == n) || list_any (λ (pin : HeldPin). pin.version == k.version) c.self.inside.pins.live) c.self.inside.versions.items) (ap (λ (x : Shot). x.version) h.newest)
+    is ∙ (ap (λ (n : ℕ). filter (λ (k : Shot). (k.version == n) || list_any (λ (pin : HeldPin). pin.version == k.version) c.self.inside.pins.live) c.self.inside.versions.items) (ap (λ (x : Shot). x.version) h.head_is)
     ∙ (ap (λ (ps : List HeldPin). filter (λ (k : Shot). (k.version == head s) || list_any (λ (pin : HeldPin). pin.version == k.version) ps) c.self.inside.versions.items) h.live
     ∙ λ i. filter (λ (k : Shot). (k.version == head s) || any_held k.version s.pins i) c.self.inside.versions.items))
 
-kept_is : (c : After-push_reserved) (head : ℕ) (new : List Shot) → head ≡ c.self.inside.newest.version
+kept_is : (c : After-push_reserved) (head : ℕ) (new : List Shot) → head ≡ c.self.inside.head.version
     → new ≡ filter (λ (kept : Shot). (kept.version == head) || list_any (λ (pin : HeldPin). pin.version == kept.version) c.self.inside.pins.live) c.self.inside.versions.items
     → new ≡ filter (λ (k : Shot). stays (state_of c.self.inside) k.version) c.self.inside.versions.items
 kept_is c head new same is = left c new (is ∙ ap (λ (n : ℕ). filter (λ (k : Shot). (k.version == n) || list_any (λ (pin : HeldPin). pin.version == k.version) c.self.inside.pins.live) c.self.inside.versions.items) same)

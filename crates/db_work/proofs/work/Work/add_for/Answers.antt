@@ -1,7 +1,7 @@
 use Rattle.std.proofs.Common.{◌≡◌, sym, subst, ◌∙◌}
 use Rattle.netlist_schema.specs.Types.{LibId}
 use Rattle.netlist_schema.specs.declared.ids.Object.TheVariants.{Directory}
-use Rattle.db_work.specs.Becomes.{IsFull}
+use Rattle.db_work.specs.Becomes.{HasTargetNames}
 use Rattle.db_work.proofs.Becoming.{fuller_none}
 use Rattle.db_draft.proofs.Drafting.{on_ok}
 use Rattle.db_work.proofs.work.Work.add_for.Goals as goal
@@ -15,7 +15,7 @@ returns-in-Directory c =
       λ lib is.
           let both : Directory c.in-Directory.lib ≡ Directory lib = sym c.in-Directory.is ∙ is in
           let same : c.in-Directory.lib ≡ lib = cc in
-          subst (λ (l : LibId). IsFull target c.add_behind.new.moved.design l) same after.1,
+          subst (λ (l : LibId). HasTargetNames target c.add_behind.new.moved.design l) same after.1,
     ))
     c.add_behind.ensures
 

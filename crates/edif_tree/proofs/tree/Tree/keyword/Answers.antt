@@ -1,7 +1,7 @@
 use Rattle.std.proofs.Common.{◌≡◌, ap, subst, length, Some, arith}
 use Rattle.std.specs.Prelude.{option_map, slice_get}
 use Rattle.edif_tree.specs.Keywords.{seen_keyword}
-use Rattle.edif_tree.specs.Nodes.{Row, Table}
+use Rattle.edif_tree.specs.Nodes.{NodeRow, Table}
 use Rattle.edif_tree.proofs.tree.Tree.keyword.Goals as goal
 
 pub keyword-requires : goal.keyword-requires
@@ -9,5 +9,5 @@ keyword-requires c = (let same = ap (λ t. length t.rows) c.self.view_is in omeg
 
 pub returns : goal.returns
 returns c =
-    let P : Table → Type 0 = λ v. option_map (λ (r : Row). seen_keyword r.shape) (slice_get v.rows c.args.id.0) ≡ Some c.keyword.result in
+    let P : Table → Type 0 = λ v. option_map (λ (r : NodeRow). seen_keyword r.shape) (slice_get v.rows c.args.id.0) ≡ Some c.keyword.result in
     subst P c.self.view_is c.keyword.ensures

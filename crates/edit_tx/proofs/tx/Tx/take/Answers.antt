@@ -26,7 +26,7 @@ pub invariant_of-self-in-Ok-apply_last : goal.invariant_of-self-in-Ok-apply_last
 invariant_of-self-in-Ok-apply_last c =
     let old : TxFacts = facts_of c.self.inside in
     record {
-      tried = is_tried old c.self.inside.work c.apply_last.new.work c.args.op c.in-Ok-apply_last.reply (done_is c) c.self.invariant.design refl refl c.push.new.self c.set.new.self c.self.invariant.tried c.told.ensures c.in_ok-push.ensures.ok (replies_are c);
+      tried = is_tried old c.self.inside.work c.apply_last.new.work c.args.op c.in-Ok-apply_last.reply (done_is c) c.self.invariant.design refl refl c.push.new.self c.set.new.self c.self.invariant.tried c.op_is_typed.ensures c.in_ok-push.ensures.ok (replies_are c);
       design = design_is old c.self.inside.work c.apply_last.new.work c.args.op c.in-Ok-apply_last.reply (done_is c) c.self.invariant.design refl refl c.push.new.self c.in_ok-push.ensures.ok;
     }
 
