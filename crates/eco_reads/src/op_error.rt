@@ -4,6 +4,7 @@ ghost use Rattle.eco_reads.specs.declared.op_error.OpError.TheVariants.{NoMemory
 
 use edit_spec::Reply;
 use netlist_schema::NoMemory;
+use std::alloc::{AllocError, AllocFailed};
 
 /// Why an operation was not done.
 #[derive(Debug, Drop)]
@@ -18,6 +19,22 @@ impl From<NoMemory> for OpError {
     ghost from_gives = { λ _ error. error ≡ NoMemory };
 
     fn from(_error: NoMemory) -> OpError {
+        OpError::NoMemory
+    }
+}
+
+impl From<AllocError> for OpError {
+    ghost from_gives = { λ _ error. error ≡ NoMemory };
+
+    fn from(_error: AllocError) -> OpError {
+        OpError::NoMemory
+    }
+}
+
+impl<T: Drop> From<AllocFailed<T>> for OpError {
+    ghost from_gives = { λ _ error. error ≡ NoMemory };
+
+    fn from(_error: AllocFailed<T>) -> OpError {
         OpError::NoMemory
     }
 }
