@@ -6,9 +6,10 @@ use Rattle.edif_spelling_spec.specs.Tree.{Bare, word}
 use Rattle.edif_spec.specs.Canonical.{head_of, large_forms, layout, make, new_line, name_text, name_tree, perhaps, text_tree, property_tree, bit_tree, bits_tree, inst_tree, cell_ref_tree, port_name_tree, ports_of_end, end_tree, net_tree, contents_tree, note_tree, design_tree}
 use Rattle.edif_spec.specs.Design as design
 use Rattle.edif_spec.specs.Keyword.{spelling_of}
-use Rattle.edif_spec.specs.Nets.{NetForm, Stretch, net_forms}
+use Rattle.edif_spec.specs.Nets.{NetForm, Stretch, bit_of, net_forms, whole_of}
 use Rattle.edif_spec.specs.declared.keyword.Keyword.{Keyword}
 use Rattle.edif_spec.specs.declared.keyword.Keyword.TheVariants as keywords
+use Rattle.edif_writer.specs.Joined.{stretch_of}
 use Rattle.edif_writer.specs.Lines.{spaced, lined, enclosed, instance_ref_tree}
 use Rattle.edif_writer.proofs.FormTexts.{small_form, large_form, spaced-append, lined-append}
 use Rattle.edif_writer.proofs.ListTexts.{designator_text}
@@ -80,12 +81,18 @@ end_parts : (a r e : List ℕ) → codes " " ++ (a ++ (r ++ e)) ≡ ((32 ∷ a) 
 end_parts a r e = simp append_assoc
 
 -- what a net with or without an array joins of a port
-pub end_text : (level : ℕ) (libs : List design.Lib) (own : List design.Port) (insts : List design.Inst) (array : Option ℕ) (s : Stretch)
+end_text : (level : ℕ) (libs : List design.Lib) (own : List design.Port) (insts : List design.Inst) (array : Option ℕ) (s : Stretch)
     → codes "(portRef " ++ (layout (suc level) (bits_tree array (slice_get (ports_of_end libs own insts s.inst) s.port) s.first) ++ (spaced level (perhaps (instance_ref_tree insts) s.inst) ++ codes ")")) ≡ layout level (end_tree libs own insts array s)
 end_text level libs own insts array s =
     let port = bits_tree array (slice_get (ports_of_end libs own insts s.inst) s.port) s.first in
     let inst = perhaps (instance_ref_tree insts) s.inst in
     ap (λ v. codes "(portRef" ++ v) (end_parts (layout (suc level) port) (spaced level inst) (codes ")")) ∙ sym (small_form level keywords.PortRef (port ∷ inst) refl)
+
+-- what a net with an array of some width, or with none, joins at an end
+pub joined_text : (level : ℕ) (libs : List design.Lib) (own : List design.Port) (insts : List design.Inst) (array : Option ℕ) (e : design.End)
+    → codes "(portRef " ++ (layout (suc level) (bits_tree array (slice_get (ports_of_end libs own insts e.inst) e.port) e.bit) ++ (spaced level (perhaps (instance_ref_tree insts) e.inst) ++ codes ")")) ≡ layout level (end_tree libs own insts array (stretch_of array e))
+joined_text level libs own insts None e = end_text level libs own insts None (bit_of e)
+joined_text level libs own insts (Some width) e = end_text level libs own insts (Some width) (whole_of width e)
 
 joined_parts : (s e : List ℕ) → codes " (joined" ++ (s ++ (codes ")" ++ e)) ≡ codes " " ++ ((codes "(joined" ++ (s ++ codes ")")) ++ e)
 joined_parts s e = simp append_assoc

@@ -1,12 +1,13 @@
 //! Contents: instances, and nets with their ends.
 ghost use Rattle.std.specs.Prelude.{◌≡◌, ◌<◌, ◌≤◌, ℕ, List, [], All, IsSome, IfSome, None, Some, length, map, slice_get, unwrap_or};
 ghost use Rattle.std.specs.Option.{option_copied};
-ghost use Rattle.edif_spec.specs.Canonical.{layout, name_text, perhaps, inst_tree, bit_tree, port_ref_tree, name_tree, port_name_tree, whole_port_tree, ports_of_end, end_tree, net_tree, contents_tree};
+ghost use Rattle.edif_spec.specs.Canonical.{layout, name_text, perhaps, inst_tree, bit_tree, bits_tree, name_tree, port_name_tree, ports_of_end, end_tree, net_tree, contents_tree};
 ghost use Rattle.edif_spec.specs.Design as design;
-ghost use Rattle.edif_spec.specs.Nets.{bit_of, form_of, net_forms, run_form, single_form, whole_of};
+ghost use Rattle.edif_spec.specs.Nets.{form_of, net_forms, run_form, single_form};
 ghost use Rattle.netlist_bus_spec.specs.Runs.{array_name, run_width, stem};
 ghost use Rattle.netlist_schema.specs.Hierarchy.{IsCell};
 ghost use Rattle.edif_writer.specs.Lines.{spaced, lined, instance_ref_tree};
+ghost use Rattle.edif_writer.specs.Joined.{stretch_of};
 ghost use Rattle.edif_writer.specs.Placed.{HasInstAt, IsAt, IsPlaced};
 ghost use Rattle.netdb_outside.specs.Buffered.{Writes};
 
@@ -23,6 +24,14 @@ const CONTENTS_LEVEL: usize = 5;
 
 /// The least width of a run.
 const LEAST_RUN: u32 = 2;
+
+/// What goes along while the nets of a cell are written: the design, the cell's own ports and its instances.
+#[derive(Clone, Copy)]
+struct Around<'a, S> {
+    design: &'a S,
+    own: &'a Row<Port>,
+    insts: &'a Row<Shared<Inst>>,
+}
 
 /// Writes an instance.
 fn write_inst<S: Shown, K: Sink>(
@@ -65,22 +74,17 @@ fn write_inst_lines<S: Shown, K: Sink>(
 }
 
 /// The port of an end: among those of the cell itself, or of an instance's cell.
-fn port_of_end<'a, S: Shown>(
-    design: &'a S,
-    own: &'a Row<Port>,
-    insts: &Row<Shared<Inst>>,
-    end: &End,
-) -> Option<&'a Port>
-    ensures { option_copied result ≡ slice_get (ports_of_end (S.design design.now).libs own.now insts.now end.now.inst) end.now.port }
+fn port_of_end<'a, S: Shown>(around: &Around<'a, S>, end: &End) -> Option<&'a Port>
+    ensures { option_copied result ≡ slice_get (ports_of_end (S.design around.now.design.now).libs around.now.own.now around.now.insts.now end.now.inst) end.now.port }
 {
     let port = end.port as usize;
     match end.inst {
-        None => own.as_slice().get(port),
+        None => around.own.as_slice().get(port),
         Some(place) => {
-            let Some(inst) = insts.as_slice().get(place as usize) else {
+            let Some(inst) = around.insts.as_slice().get(place as usize) else {
                 return None;
             };
-            let Some(of) = design.cell(inst.of) else {
+            let Some(of) = around.design.cell(inst.of) else {
                 return None;
             };
             of.ports.as_slice().get(port)
@@ -104,22 +108,38 @@ fn write_bit<K: Sink>(alloc: Global, port: &Port, bit: u32, page: &mut BufferedS
     }
 }
 
-/// Writes the bit of an end.
-fn write_end_bit<S: Shown, K: Sink>(
+/// Writes what a net joins of a port: all of it, by its name, where the net has an array, and a bit where it has none.
+fn write_bits<K: Sink>(
     alloc: Global,
-    design: &S,
-    own: &Row<Port>,
-    insts: &Row<Shared<Inst>>,
+    port: &Port,
+    array: Option<u32>,
+    bit: u32,
+    page: &mut BufferedSink,
+    out: &mut K,
+)
+    ensures { (level : ℕ) → Writes K.written K.faults out.old page.old out.new page.new (layout level (bits_tree array (Some port.now) bit)) }
+{
+    match array {
+        None => write_bit(alloc, port, bit, page, out),
+        Some(_) => put_ident(alloc, &port.name.id, page, out),
+    }
+}
+
+/// Writes what a net joins of the port of an end: all of it where the net has an array, and the bit of the end where it has none.
+fn write_port_of_end<S: Shown, K: Sink>(
+    alloc: Global,
+    around: &Around<'_, S>,
+    array: Option<u32>,
     end: &End,
     page: &mut BufferedSink,
     out: &mut K,
 )
-    requires { IsAt (S.design design.now) own.now insts.now end.now }
+    requires { IsAt (S.design around.now.design.now) around.now.own.now around.now.insts.now end.now }
     ensures { (level : ℕ) → Writes K.written K.faults out.old page.old out.new page.new
-        (layout level (port_ref_tree (slice_get (ports_of_end (S.design design.now).libs own.now insts.now end.now.inst) end.now.port) end.now.bit)) }
+        (layout level (bits_tree array (slice_get (ports_of_end (S.design around.now.design.now).libs around.now.own.now around.now.insts.now end.now.inst) end.now.port) end.now.bit)) }
 {
-    if let Some(port) = port_of_end(design, own, insts, end) {
-        write_bit(alloc, port, end.bit, page, out);
+    if let Some(port) = port_of_end(around, end) {
+        write_bits(alloc, port, array, end.bit, page, out);
     }
 }
 
@@ -158,120 +178,59 @@ fn write_end_inst<K: Sink>(
     }
 }
 
-/// Writes the name of the port of an end.
-fn write_port_of_end<S: Shown, K: Sink>(
-    alloc: Global,
-    design: &S,
-    own: &Row<Port>,
-    insts: &Row<Shared<Inst>>,
-    end: &End,
-    page: &mut BufferedSink,
-    out: &mut K,
-)
-    requires { IsAt (S.design design.now) own.now insts.now end.now }
-    ensures { (level : ℕ) → Writes K.written K.faults out.old page.old out.new page.new
-        (layout level (whole_port_tree (slice_get (ports_of_end (S.design design.now).libs own.now insts.now end.now.inst) end.now.port))) }
-{
-    if let Some(port) = port_of_end(design, own, insts, end) {
-        put_ident(alloc, &port.name.id, page, out);
-    }
-}
-
-/// Writes the whole port of an end of a net with an array.
-fn write_whole_end<S: Shown, K: Sink>(
-    alloc: Global,
-    design: &S,
-    own: &Row<Port>,
-    insts: &Row<Shared<Inst>>,
-    end: &End,
-    page: &mut BufferedSink,
-    out: &mut K,
-)
-    requires { IsAt (S.design design.now) own.now insts.now end.now }
-    ensures { (level width : ℕ) → Writes K.written K.faults out.old page.old out.new page.new
-        (layout level (end_tree (S.design design.now).libs own.now insts.now (Some width) (whole_of width end.now))) }
-{
-    page.put(b"(portRef ", out);
-    write_port_of_end(alloc, design, own, insts, end, page, out);
-    write_end_inst(alloc, insts, end.inst, page, out);
-    page.put(b")", out);
-}
-
-/// Writes the whole ports of the ends of a net on its line.
-fn write_whole_ends<S: Shown, K: Sink>(
-    alloc: Global,
-    design: &S,
-    own: &Row<Port>,
-    insts: &Row<Shared<Inst>>,
-    ends: &Row<End>,
-    page: &mut BufferedSink,
-    out: &mut K,
-)
-    requires { All (IsAt (S.design design.now) own.now insts.now) ends.now }
-    ensures { (level width : ℕ) → Writes K.written K.faults out.old page.old out.new page.new
-        (spaced level (map (end_tree (S.design design.now).libs own.now insts.now (Some width)) (map (whole_of width) ends.now))) }
-{
-    for end in ends.as_slice() {
-        page.put(b" ", out);
-        write_whole_end(alloc, design, own, insts, end, page, out);
-    }
-}
-
-/// Writes an end.
+/// Writes an end of a net with an array of this width, or with none.
 fn write_end<S: Shown, K: Sink>(
     alloc: Global,
-    design: &S,
-    own: &Row<Port>,
-    insts: &Row<Shared<Inst>>,
+    around: &Around<'_, S>,
+    array: Option<u32>,
     end: &End,
     page: &mut BufferedSink,
     out: &mut K,
 )
-    requires { IsAt (S.design design.now) own.now insts.now end.now }
-    ensures { (level : ℕ) → Writes K.written K.faults out.old page.old out.new page.new (layout level (end_tree (S.design design.now).libs own.now insts.now None (bit_of end.now))) }
+    requires { IsAt (S.design around.now.design.now) around.now.own.now around.now.insts.now end.now }
+    ensures { (level : ℕ) → Writes K.written K.faults out.old page.old out.new page.new
+        (layout level (end_tree (S.design around.now.design.now).libs around.now.own.now around.now.insts.now array (stretch_of array end.now))) }
 {
     page.put(b"(portRef ", out);
-    write_end_bit(alloc, design, own, insts, end, page, out);
-    write_end_inst(alloc, insts, end.inst, page, out);
+    write_port_of_end(alloc, around, array, end, page, out);
+    write_end_inst(alloc, around.insts, end.inst, page, out);
     page.put(b")", out);
 }
 
-/// Writes the ends of a net on its line.
+/// Writes the ends of a net with an array of this width, or with none, on its line.
 fn write_ends<S: Shown, K: Sink>(
     alloc: Global,
-    design: &S,
-    own: &Row<Port>,
-    insts: &Row<Shared<Inst>>,
+    around: &Around<'_, S>,
+    array: Option<u32>,
     ends: &Row<End>,
     page: &mut BufferedSink,
     out: &mut K,
 )
-    requires { All (IsAt (S.design design.now) own.now insts.now) ends.now }
-    ensures { (level : ℕ) → Writes K.written K.faults out.old page.old out.new page.new (spaced level (map (end_tree (S.design design.now).libs own.now insts.now None) (map bit_of ends.now))) }
+    requires { All (IsAt (S.design around.now.design.now) around.now.own.now around.now.insts.now) ends.now }
+    ensures { (level : ℕ) → Writes K.written K.faults out.old page.old out.new page.new
+        (spaced level (map (end_tree (S.design around.now.design.now).libs around.now.own.now around.now.insts.now array) (map (stretch_of array) ends.now))) }
 {
     for end in ends.as_slice() {
         page.put(b" ", out);
-        write_end(alloc, design, own, insts, end, page, out);
+        write_end(alloc, around, array, end, page, out);
     }
 }
 
 /// Writes a net by itself.
 fn write_net<S: Shown, K: Sink>(
     alloc: Global,
-    design: &S,
-    own: &Row<Port>,
-    insts: &Row<Shared<Inst>>,
+    around: &Around<'_, S>,
     net: &Net,
     page: &mut BufferedSink,
     out: &mut K,
 )
-    requires { All (IsAt (S.design design.now) own.now insts.now) net.now.ends }
-    ensures { (level : ℕ) → Writes K.written K.faults out.old page.old out.new page.new (layout level (net_tree (S.design design.now).libs own.now insts.now (single_form net.now))) }
+    requires { All (IsAt (S.design around.now.design.now) around.now.own.now around.now.insts.now) net.now.ends }
+    ensures { (level : ℕ) → Writes K.written K.faults out.old page.old out.new page.new (layout level (net_tree (S.design around.now.design.now).libs around.now.own.now around.now.insts.now (single_form net.now))) }
 {
     page.put(b"(net ", out);
     write_name(alloc, &net.name, page, out);
     page.put(b" (joined", out);
-    write_ends(alloc, design, own, insts, &net.ends, page, out);
+    write_ends(alloc, around, None, &net.ends, page, out);
     page.put(b")", out);
     write_properties(alloc, net.properties.as_slice(), page, out);
     page.put(b")", out);
@@ -335,21 +294,19 @@ fn write_array<K: Sink>(
 /// Writes a run of this width, by its first net.
 fn write_run<S: Shown, K: Sink>(
     alloc: Global,
-    design: &S,
-    own: &Row<Port>,
-    insts: &Row<Shared<Inst>>,
+    around: &Around<'_, S>,
     net: &Net,
     width: u32,
     page: &mut BufferedSink,
     out: &mut K,
 )
-    requires { All (IsAt (S.design design.now) own.now insts.now) net.now.ends }
-    ensures { (level : ℕ) → Writes K.written K.faults out.old page.old out.new page.new (layout level (net_tree (S.design design.now).libs own.now insts.now (run_form width net.now))) }
+    requires { All (IsAt (S.design around.now.design.now) around.now.own.now around.now.insts.now) net.now.ends }
+    ensures { (level : ℕ) → Writes K.written K.faults out.old page.old out.new page.new (layout level (net_tree (S.design around.now.design.now).libs around.now.own.now around.now.insts.now (run_form width net.now))) }
 {
     page.put(b"(net ", out);
     write_array(alloc, &net.name, width, page, out);
     page.put(b" (joined", out);
-    write_whole_ends(alloc, design, own, insts, &net.ends, page, out);
+    write_ends(alloc, around, Some(width), &net.ends, page, out);
     page.put(b")", out);
     write_properties(alloc, net.properties.as_slice(), page, out);
     page.put(b")", out);
@@ -358,37 +315,35 @@ fn write_run<S: Shown, K: Sink>(
 /// Writes the form of a net at which the greatest run has this width: the run, or the net by itself.
 fn write_form<S: Shown, K: Sink>(
     alloc: Global,
-    design: &S,
-    own: &Row<Port>,
-    insts: &Row<Shared<Inst>>,
+    around: &Around<'_, S>,
     net: &Net,
     width: u32,
     page: &mut BufferedSink,
     out: &mut K,
 )
-    requires { All (IsAt (S.design design.now) own.now insts.now) net.now.ends }
-    ensures { (level : ℕ) → Writes K.written K.faults out.old page.old out.new page.new (layout level (net_tree (S.design design.now).libs own.now insts.now (form_of width net.now))) }
+    requires { All (IsAt (S.design around.now.design.now) around.now.own.now around.now.insts.now) net.now.ends }
+    ensures { (level : ℕ) → Writes K.written K.faults out.old page.old out.new page.new (layout level (net_tree (S.design around.now.design.now).libs around.now.own.now around.now.insts.now (form_of width net.now))) }
 {
     if width < LEAST_RUN {
-        write_net(alloc, design, own, insts, net, page, out);
+        write_net(alloc, around, net, page, out);
     } else {
-        write_run(alloc, design, own, insts, net, width, page, out);
+        write_run(alloc, around, net, width, page, out);
     }
 }
 
 /// The width of the greatest run that begins with the first of these nets: 1 where none does.
-fn width_from<S: Shown>(
-    design: &S,
-    own: &Row<Port>,
-    insts: &Row<Shared<Inst>>,
-    nets: &[Shared<Net>],
-) -> u32
+fn width_from<S: Shown>(around: &Around<'_, S>, nets: &[Shared<Net>]) -> u32
     requires { 0 < length nets.now }
-    ensures width { result ≡ run_width (ports_of_end (S.design design.now).libs own.now insts.now) nets.now }
+    ensures width { result ≡ run_width (ports_of_end (S.design around.now.design.now).libs around.now.own.now around.now.insts.now) nets.now }
     ensures least { 1 ≤ result }
     ensures most { result ≤ length nets.now }
 {
-    run_from(design, own.as_slice(), insts.as_slice(), nets)
+    run_from(
+        around.design,
+        around.own.as_slice(),
+        around.insts.as_slice(),
+        nets,
+    )
 }
 
 /// Writes nets on lines of their own, each greatest run as one net with an array.
@@ -404,11 +359,16 @@ fn write_net_lines<S: Shown, K: Sink>(
     ensures { Writes K.written K.faults out.old page.old out.new page.new
         (lined 5 (map (net_tree (S.design design.now).libs own.now contents.now.insts) (net_forms (ports_of_end (S.design design.now).libs own.now contents.now.insts) contents.now.nets))) }
 {
+    let around = Around {
+        design,
+        own,
+        insts: &contents.insts,
+    };
     let mut left = contents.nets.as_slice();
     while let Some(net) = left.first() {
-        let width = width_from(design, own, &contents.insts, left);
+        let width = width_from(&around, left);
         put_line(CONTENTS_LEVEL, page, out);
-        write_form(alloc, design, own, &contents.insts, net, width, page, out);
+        write_form(alloc, &around, net, width, page, out);
         left = &left[width as usize..];
     }
 }

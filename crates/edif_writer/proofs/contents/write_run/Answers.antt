@@ -5,6 +5,6 @@ use Rattle.netdb_outside.proofs.BufferedLemmas.{writes_then, writes_same}
 use Rattle.edif_writer.proofs.contents.write_run.Goals as goal
 
 pub returns : goal.returns
-returns g c level = writes_same (net_text level (g.S.Shown.design c.args.design.now).libs c.args.own.now c.args.insts.now (run_form c.args.width c.args.net.now))
-    (writes_then c.put.ensures (writes_then (c.write_array.ensures (suc level)) (writes_then c.put-2.ensures (writes_then (c.write_whole_ends.ensures (suc level) c.args.width)
+returns g c level = writes_same (net_text level (g.S.Shown.design c.args.around.now.design.now).libs c.args.around.now.own.now c.args.around.now.insts.now (run_form c.args.width c.args.net.now))
+    (writes_then c.put.ensures (writes_then (c.write_array.ensures (suc level)) (writes_then c.put-2.ensures (writes_then (c.write_ends.ensures (suc level))
     (writes_then c.put-3.ensures (writes_then (c.write_properties.ensures level) c.put-4.ensures))))))
