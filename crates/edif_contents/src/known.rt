@@ -184,20 +184,7 @@ fn push_new<T: Drop>(items: &mut Vec<T>, item: T, earlier: Option<u64>)
     ensures some { IfSome earlier (λ _. items.new.items ≡ items.old.items) }
 {
     if earlier.is_none() {
-        push_within(items, item);
-    }
-}
-
-/// Adds an item where there is room for it. Takes no memory.
-fn push_within<T: Drop>(items: &mut Vec<T>, item: T)
-    requires { vec_len items.old < vec_capacity items.old }
-    ensures { items.new.items ≡ items.old.items ++ item ∷ [] }
-{
-    match items.push(item) {
-        Ok(()) => {}
-        Err(_) => {
-            prove!(false);
-        }
+        items.push_reserved(item);
     }
 }
 
