@@ -20,4 +20,4 @@ pub use marks::Marks;
 pub use parts::{contents_object, face_object};
 pub use patch::patched;
 pub use plain::PlainCells;
-pub use seek::{cell_in, is_free, lib_named};
+pub use seek::{cell_in, is_free, is_same, lib_named};

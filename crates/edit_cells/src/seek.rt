@@ -67,7 +67,8 @@ pub fn cell_in(design: &Design, lib: LibId, name: &Ident) -> Option<CellId>
     }
 }
 
-fn is_same(a: &Ident, b: &Ident) -> bool
+/// Whether two identifiers are the same when case is ignored.
+pub fn is_same(a: &Ident, b: &Ident) -> bool
     ensures { result ≡ is_same a.now b.now }
 {
     a.same(b)
