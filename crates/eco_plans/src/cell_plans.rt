@@ -10,7 +10,8 @@ ghost use Rattle.edit_spec.specs.Typed.{IsTypedOp};
 ghost use Rattle.eco_reads.specs.Done.{IsDoneOrFails};
 ghost use Rattle.eco_reads.specs.Outcome.{UnlessNoMemory};
 ghost use Rattle.eco_plans.specs.Add.{IsCellPlanned};
-use eco_reads::{OpError, is_same};
+use eco_reads::OpError;
+use edit_cells::is_same;
 use edit_spec::{PortDecl, Reply};
 use netlist_schema::{
     CellBody, CellKind, Contents, Copied, Ident, MOST_BITS, MOST_CELLS, MOST_PORTS, Name, NoMemory,

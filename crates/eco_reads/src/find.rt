@@ -3,14 +3,8 @@ ghost use Rattle.std.specs.Prelude.{◌≡◌, ◌≤◌, length, position, IfSo
 ghost use Rattle.std.specs.List.{list_any};
 ghost use Rattle.edit_rules_spec.specs.Find.{inst_place, is_name, is_same, net_place, port_place, property_place};
 
+use edit_cells::is_same;
 use netlist_schema::{Ident, Inst, Net, Port, Property, Row, Shared};
-
-/// Whether two identifiers are the same when case is ignored.
-pub fn is_same(a: &Ident, b: &Ident) -> bool
-    ensures { result ≡ is_same a.now b.now }
-{
-    a.same(b)
-}
 
 fn net_position(nets: &Row<Shared<Net>>, name: &Ident) -> Option<usize>
     ensures { result ≡ position (λ net. is_name net.name.id name.now) nets.now }

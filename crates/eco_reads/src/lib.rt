@@ -10,9 +10,7 @@ mod read;
 mod walk;
 mod write;
 
-pub use find::{
-    inst_place, is_inst_taken, is_net_taken, is_same, net_place, port_place, property_place,
-};
+pub use find::{inst_place, is_inst_taken, is_net_taken, net_place, port_place, property_place};
 pub use named::NamedInsts;
 pub use op_error::OpError;
 pub use places::places_by_name;
