@@ -20,7 +20,9 @@ ghost use Rattle.eco_reads.specs.Named.{AreNamed};
 ghost use Rattle.eco_ops.specs.Insts.{is_other, more_insts};
 ghost use Rattle.eco_reads.specs.Plan.{IsPlanned};
 use crate::inst_plans::{plan_inst, without_inst};
-use eco_reads::{NamedInsts, OpError, find_named, goes_through, put_plan, reaches, read_named};
+use eco_reads::{
+    Crossed, NamedInsts, OpError, find_named, goes_through, put_plan, reaches, read_named,
+};
 use edit_cells::Cells;
 use edit_spec::{CellName, Op, Reply};
 use netlist_schema::{CellId, Copied, Ident, NoMemory, Note, Row};
@@ -77,18 +79,16 @@ fn tell_other<C: Cells>(
     alloc: Global,
     cells: &mut C,
     named: &mut NamedInsts,
-    id: CellId,
-    inst: &Ident,
-    top: CellId,
+    crossed: &Crossed<'_>,
     path: &Row<Ident>,
     others: &mut Vec<bool>,
 ) -> Result<(), NoMemory>
     requires { AreNamed (C.state cells.old).design named.old }
     ensures named { AreNamed (C.state cells.old).design named.new }
-    ensures told { OnOk result (others.new.items ≡ others.old.items ++ not (goes_through (C.state cells.old).design id inst.now top path.now) ∷ []) }
-    ensures reads { MatchResult result (λ _. HasRead (C.state cells.old) (C.state cells.new) (IsReached (C.state cells.old).design top path.now)) (λ _. HasReadSome (C.state cells.old) (C.state cells.new)) }
+    ensures told { OnOk result (others.new.items ≡ others.old.items ++ not (goes_through (C.state cells.old).design crossed.now.cell crossed.now.inst.now crossed.now.top path.now) ∷ []) }
+    ensures reads { MatchResult result (λ _. HasRead (C.state cells.old) (C.state cells.new) (IsReached (C.state cells.old).design crossed.now.top path.now)) (λ _. HasReadSome (C.state cells.old) (C.state cells.new)) }
 {
-    let gone = goes_through(alloc, cells, named, id, inst, top, path)?;
+    let gone = goes_through(alloc, cells, named, crossed, path)?;
     others.push(!gone)?;
     Ok(())
 }
@@ -108,8 +108,13 @@ fn list_others<C: Cells>(
 {
     let mut others = Vec::new(alloc);
     let mut named = NamedInsts::new(alloc);
+    let crossed = Crossed {
+        top,
+        cell: id,
+        inst,
+    };
     for path in paths {
-        let Ok(()) = tell_other(alloc, cells, &mut named, id, inst, top, path, &mut others) else {
+        let Ok(()) = tell_other(alloc, cells, &mut named, &crossed, path, &mut others) else {
             return Err(NoMemory);
         };
     }

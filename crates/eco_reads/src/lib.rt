@@ -16,5 +16,5 @@ pub use op_error::OpError;
 pub use places::places_by_name;
 pub use plan::Plan;
 pub use read::{find_named, read_named};
-pub use walk::{add_inside, goes_through, leads, reaches};
+pub use walk::{Crossed, add_inside, goes_through, leads, reaches};
 pub use write::{put_notes, put_plan, write_one};

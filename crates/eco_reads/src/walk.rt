@@ -160,6 +160,14 @@ pub fn leads<C: Cells>(cells: &mut C, top: CellId, path: &Row<Ident>) -> Result<
     Ok(true)
 }
 
+/// An instance of a cell, by its name, that is looked for on paths from a top.
+#[derive(Clone, Copy)]
+pub struct Crossed<'a> {
+    pub top: CellId,
+    pub cell: CellId,
+    pub inst: &'a Ident,
+}
+
 /// Whether a path goes through an instance of a cell, so far or at this step.
 fn passes(found: bool, at: CellId, cell: CellId, step: &Ident, inst: &Ident) -> bool
     ensures { result ≡ (found || (same_cell at cell && is_name step.now inst.now)) }
@@ -174,21 +182,19 @@ pub fn goes_through<C: Cells>(
     alloc: Global,
     cells: &mut C,
     named: &mut NamedInsts,
-    cell: CellId,
-    inst: &Ident,
-    top: CellId,
+    crossed: &Crossed<'_>,
     path: &Row<Ident>,
 ) -> Result<bool, NoMemory>
     requires { AreNamed (C.state cells.old).design named.old }
     ensures named { AreNamed (C.state cells.old).design named.new }
-    ensures found { IfOk result (λ found. found ≡ goes_through (C.state cells.old).design cell inst.now top path.now) }
-    ensures reads { MatchResult result (λ _. HasRead (C.state cells.old) (C.state cells.new) (IsReached (C.state cells.old).design top path.now)) (λ _. HasReadSome (C.state cells.old) (C.state cells.new)) }
+    ensures found { IfOk result (λ found. found ≡ goes_through (C.state cells.old).design crossed.now.cell crossed.now.inst.now crossed.now.top path.now) }
+    ensures reads { MatchResult result (λ _. HasRead (C.state cells.old) (C.state cells.new) (IsReached (C.state cells.old).design crossed.now.top path.now)) (λ _. HasReadSome (C.state cells.old) (C.state cells.new)) }
 {
-    let mut at = top;
+    let mut at = crossed.top;
     let mut found = false;
-    let _top = cells.contents(top)?;
+    let _top = cells.contents(crossed.top)?;
     for step in path.as_slice() {
-        found = passes(found, at, cell, step, inst);
+        found = passes(found, at, crossed.cell, step, crossed.inst);
         let Some(of) = named.next_cell(alloc, cells, at, step)? else {
             return Ok(found);
         };

@@ -7,7 +7,7 @@ use Rattle.eco_reads.proofs.walk.goes_through.Given as goal
 -- the steps so far lead to this cell, and it is known whether they go through the instance
 abbrev pub invariant-loop-step : goal.invariant-loop-step
 invariant-loop-step g l = record {
-  gone : HasGone (g.C.Cells.state l.fn.cells) (g.C.Cells.state l.cells) l.fn.top l.at (take l.step-index l.step-items);
+  gone : HasGone (g.C.Cells.state l.fn.cells) (g.C.Cells.state l.cells) l.crossed.top l.at (take l.step-index l.step-items);
   named : AreNamed (g.C.Cells.state l.fn.cells).design l.named;
-  found : l.found ≡ goes_through (g.C.Cells.state l.fn.cells).design l.cell l.inst l.fn.top (take l.step-index l.step-items);
+  found : l.found ≡ goes_through (g.C.Cells.state l.fn.cells).design l.crossed.cell l.crossed.inst.now l.crossed.top (take l.step-index l.step-items);
 }
