@@ -10,7 +10,7 @@ ghost use Rattle.eco_reads.specs.Named.{AreNamed};
 ghost use Rattle.ungroup_op.specs.Crossing.{crossing, crossings, first_place, is_inst};
 ghost use Rattle.ungroup_op.specs.Read.{AreRead};
 
-use eco_reads::{NamedInsts, inst_place};
+use eco_reads::{Crossed, NamedInsts, inst_place};
 use edit_cells::Cells;
 use netlist_schema::{CellId, Contents, Copied, Ident, NoMemory, Note, Row};
 use std::alloc::Global;
@@ -54,21 +54,19 @@ fn crossing<C: Cells>(
     alloc: Global,
     cells: &mut C,
     named: &mut NamedInsts,
-    cell: CellId,
-    inst: &Ident,
-    top: CellId,
+    crossed: &Crossed<'_>,
     path: &Row<Ident>,
 ) -> Result<Option<usize>, NoMemory>
     requires { AreNamed (C.state cells.old).design named.old }
     ensures named { AreNamed (C.state cells.old).design named.new }
-    ensures found { IfOk result (λ found. found ≡ crossing (C.state cells.old).design cell inst.now top path.now) }
-    ensures reads { MatchResult result (λ _. HasRead (C.state cells.old) (C.state cells.new) (IsReached (C.state cells.old).design top path.now)) (λ _. HasReadSome (C.state cells.old) (C.state cells.new)) }
+    ensures found { IfOk result (λ found. found ≡ crossing (C.state cells.old).design crossed.now.cell crossed.now.inst.now crossed.now.top path.now) }
+    ensures reads { MatchResult result (λ _. HasRead (C.state cells.old) (C.state cells.new) (IsReached (C.state cells.old).design crossed.now.top path.now)) (λ _. HasReadSome (C.state cells.old) (C.state cells.new)) }
 {
-    let mut at = top;
+    let mut at = crossed.top;
     let mut found = None;
-    let _top = cells.contents(top)?;
+    let _top = cells.contents(crossed.top)?;
     for (place, step) in path.as_slice().iter().enumerate() {
-        found = first_place(found, is_inst(cell, inst, at, step), place);
+        found = first_place(found, is_inst(crossed.cell, crossed.inst, at, step), place);
         let Some(of) = named.next_cell(alloc, cells, at, step)? else {
             return Ok(found);
         };
@@ -83,18 +81,16 @@ fn add_crossing<C: Cells>(
     alloc: Global,
     cells: &mut C,
     named: &mut NamedInsts,
-    cell: CellId,
-    inst: &Ident,
-    top: CellId,
+    crossed: &Crossed<'_>,
     note: &Note,
     places: &mut Vec<Option<usize>>,
 ) -> Result<(), NoMemory>
     requires { AreNamed (C.state cells.old).design named.old }
     ensures named { AreNamed (C.state cells.old).design named.new }
-    ensures places { OnOk result (places.new.items ≡ places.old.items ++ crossings (C.state cells.old).design cell inst.now top (note.now ∷ [])) }
-    ensures reads { MatchResult result (λ _. HasRead (C.state cells.old) (C.state cells.new) (IsReached (C.state cells.old).design top note.now.path)) (λ _. HasReadSome (C.state cells.old) (C.state cells.new)) }
+    ensures places { OnOk result (places.new.items ≡ places.old.items ++ crossings (C.state cells.old).design crossed.now.cell crossed.now.inst.now crossed.now.top (note.now ∷ [])) }
+    ensures reads { MatchResult result (λ _. HasRead (C.state cells.old) (C.state cells.new) (IsReached (C.state cells.old).design crossed.now.top note.now.path)) (λ _. HasReadSome (C.state cells.old) (C.state cells.new)) }
 {
-    let found = crossing(alloc, cells, named, cell, inst, top, &note.path)?;
+    let found = crossing(alloc, cells, named, crossed, &note.path)?;
     places.push(found)?;
     Ok(())
 }
@@ -113,9 +109,9 @@ fn list_crossings<C: Cells>(
 {
     let mut places = Vec::new(alloc);
     let mut named = NamedInsts::new(alloc);
+    let crossed = Crossed { top, cell, inst };
     for note in notes.as_slice() {
-        let Ok(()) = add_crossing(alloc, cells, &mut named, cell, inst, top, note, &mut places)
-        else {
+        let Ok(()) = add_crossing(alloc, cells, &mut named, &crossed, note, &mut places) else {
             return Err(NoMemory);
         };
     }

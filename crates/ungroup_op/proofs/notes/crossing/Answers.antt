@@ -13,8 +13,8 @@ returns-in_default-clause-reads g c =
     let items = c.as_slice-step-items.result.now in
     let k = c.loop-place.place in
     let step = c.step-item.result in
-    let stop = gone_no_further (g.C.Cells.state c.args.cells.now) (g.C.Cells.state c.loop-place.cells) (g.C.Cells.state c.next_cell.new.cells) c.args.top c.loop-place.at (take k items) (drop (k + 1) items) step (contents_at (g.C.Cells.state c.loop-place.cells).design c.loop-place.at) c.loop-place.invariant.gone c.in_ok-of.ensures.reads refl (sym c.in_default.is ∙ c.in_ok-of.ensures.found) in
-    subst (λ (path : List (List ℕ)). HasRead (g.C.Cells.state c.args.cells.now) (g.C.Cells.state c.next_cell.new.cells) (IsReached (g.C.Cells.state c.args.cells.now).design c.args.top path)) (split_here items k step c.loop-place-test.true c.step-item.is ∙ c.as_slice-step-items.ensures) stop.0
+    let stop = gone_no_further (g.C.Cells.state c.args.cells.now) (g.C.Cells.state c.loop-place.cells) (g.C.Cells.state c.next_cell.new.cells) c.args.crossed.now.top c.loop-place.at (take k items) (drop (k + 1) items) step (contents_at (g.C.Cells.state c.loop-place.cells).design c.loop-place.at) c.loop-place.invariant.gone c.in_ok-of.ensures.reads refl (sym c.in_default.is ∙ c.in_ok-of.ensures.found) in
+    subst (λ (path : List (List ℕ)). HasRead (g.C.Cells.state c.args.cells.now) (g.C.Cells.state c.next_cell.new.cells) (IsReached (g.C.Cells.state c.args.cells.now).design c.args.crossed.now.top path)) (split_here items k step c.loop-place-test.true c.step-item.is ∙ c.as_slice-step-items.ensures) stop.0
 
 pub returns-in_default-clause-found : goal.returns-in_default-clause-found
 returns-in_default-clause-found g c =
@@ -22,11 +22,11 @@ returns-in_default-clause-found g c =
     let k = c.loop-place.place in
     let step = c.step-item.result in
     let d = (g.C.Cells.state c.args.cells.now).design in
-    let stop = gone_no_further (g.C.Cells.state c.args.cells.now) (g.C.Cells.state c.loop-place.cells) (g.C.Cells.state c.next_cell.new.cells) c.args.top c.loop-place.at (take k items) (drop (k + 1) items) step (contents_at (g.C.Cells.state c.loop-place.cells).design c.loop-place.at) c.loop-place.invariant.gone c.in_ok-of.ensures.reads refl (sym c.in_default.is ∙ c.in_ok-of.ensures.found) in
-    place_here c.first_place-found.result c.loop-place.found (crossing d c.args.cell c.args.inst.now c.args.top (take k items)) c.is_inst.result (is_inst c.args.cell c.args.inst.now c.loop-place.at step) k items c.loop-place-test.true
+    let stop = gone_no_further (g.C.Cells.state c.args.cells.now) (g.C.Cells.state c.loop-place.cells) (g.C.Cells.state c.next_cell.new.cells) c.args.crossed.now.top c.loop-place.at (take k items) (drop (k + 1) items) step (contents_at (g.C.Cells.state c.loop-place.cells).design c.loop-place.at) c.loop-place.invariant.gone c.in_ok-of.ensures.reads refl (sym c.in_default.is ∙ c.in_ok-of.ensures.found) in
+    place_here c.first_place-found.result c.loop-place.found (crossing d c.args.crossed.now.cell c.args.crossed.now.inst.now c.args.crossed.now.top (take k items)) c.is_inst.result (is_inst c.args.crossed.now.cell c.args.crossed.now.inst.now c.loop-place.at step) k items c.loop-place-test.true
     c.first_place-found.ensures c.loop-place.invariant.found c.is_inst.ensures
-    ∙ sym (crossing_stop d c.args.cell c.args.inst.now c.args.top c.loop-place.at (take k items) (drop (k + 1) items) step c.loop-place.invariant.gone.end stop.1)
-    ∙ ap (crossing d c.args.cell c.args.inst.now c.args.top) (split_here items k step c.loop-place-test.true c.step-item.is ∙ c.as_slice-step-items.ensures)
+    ∙ sym (crossing_stop d c.args.crossed.now.cell c.args.crossed.now.inst.now c.args.crossed.now.top c.loop-place.at (take k items) (drop (k + 1) items) step c.loop-place.invariant.gone.end stop.1)
+    ∙ ap (crossing d c.args.crossed.now.cell c.args.crossed.now.inst.now c.args.crossed.now.top) (split_here items k step c.loop-place-test.true c.step-item.is ∙ c.as_slice-step-items.ensures)
 
 pub loop-place-preserved : goal.loop-place-preserved
 loop-place-preserved g c =
@@ -36,12 +36,12 @@ loop-place-preserved g c =
     let d = (g.C.Cells.state c.args.cells.now).design in
     let further = one_further items k step c.loop-place-test.true c.step-item.is in
     record {
-      gone = subst (λ (path : List (List ℕ)). HasGone (g.C.Cells.state c.args.cells.now) (g.C.Cells.state c.contents-in-loop-place.follows.lender-at-none) c.args.top c.in-Some.of path) (sym further)
-          (gone_more (g.C.Cells.state c.args.cells.now) (g.C.Cells.state c.loop-place.cells) (g.C.Cells.state c.next_cell.new.cells) (g.C.Cells.state c.contents-in-loop-place.follows.lender-at-none) c.args.top c.loop-place.at c.in-Some.of (take k items) step (contents_at (g.C.Cells.state c.loop-place.cells).design c.loop-place.at) c.loop-place.invariant.gone c.in_ok-of.ensures.reads refl (sym c.in-Some.is ∙ c.in_ok-of.ensures.found) (rw c.in_ok-_next.was at c.contents-in-loop-place.follows.holds-at-none));
+      gone = subst (λ (path : List (List ℕ)). HasGone (g.C.Cells.state c.args.cells.now) (g.C.Cells.state c.contents-in-loop-place.follows.lender-at-none) c.args.crossed.now.top c.in-Some.of path) (sym further)
+          (gone_more (g.C.Cells.state c.args.cells.now) (g.C.Cells.state c.loop-place.cells) (g.C.Cells.state c.next_cell.new.cells) (g.C.Cells.state c.contents-in-loop-place.follows.lender-at-none) c.args.crossed.now.top c.loop-place.at c.in-Some.of (take k items) step (contents_at (g.C.Cells.state c.loop-place.cells).design c.loop-place.at) c.loop-place.invariant.gone c.in_ok-of.ensures.reads refl (sym c.in-Some.is ∙ c.in_ok-of.ensures.found) (rw c.in_ok-_next.was at c.contents-in-loop-place.follows.holds-at-none));
       named = still_named (g.C.Cells.state c.loop-place.cells).design d c.next_cell.new.self c.loop-place.invariant.gone.read.design c.next_cell.ensures.named;
       found =
-          place_here c.first_place-found.result c.loop-place.found (crossing d c.args.cell c.args.inst.now c.args.top (take k items)) c.is_inst.result (is_inst c.args.cell c.args.inst.now c.loop-place.at step) k items c.loop-place-test.true
+          place_here c.first_place-found.result c.loop-place.found (crossing d c.args.crossed.now.cell c.args.crossed.now.inst.now c.args.crossed.now.top (take k items)) c.is_inst.result (is_inst c.args.crossed.now.cell c.args.crossed.now.inst.now c.loop-place.at step) k items c.loop-place-test.true
           c.first_place-found.ensures c.loop-place.invariant.found c.is_inst.ensures
-          ∙ sym (crossing_more d c.args.cell c.args.inst.now c.args.top c.loop-place.at (take k items) step c.loop-place.invariant.gone.end)
-          ∙ ap (crossing d c.args.cell c.args.inst.now c.args.top) (sym further);
+          ∙ sym (crossing_more d c.args.crossed.now.cell c.args.crossed.now.inst.now c.args.crossed.now.top c.loop-place.at (take k items) step c.loop-place.invariant.gone.end)
+          ∙ ap (crossing d c.args.crossed.now.cell c.args.crossed.now.inst.now c.args.crossed.now.top) (sym further);
     }
