@@ -108,23 +108,23 @@ fn made_or_old<C: Cells>(
     }
 }
 
-/// Turns an instance in the own cell of an occurrence: in the contents that were made for it, or else in those of its cell.
+/// Turns the instance of a spot to a cell, in the own cell of the occurrence above: in the contents that were made for it, or else in
+/// those of its cell.
 fn turn<C: Cells>(
     alloc: Global,
     cells: &mut C,
     made: &mut Row<Option<Contents>>,
-    number: usize,
     cell: CellId,
-    place: u32,
+    spot: &Spot,
     id: CellId,
 ) -> Result<(), NoMemory>
-    requires { number < length made.old }
-    ensures turned { OnOk result ((was : Option Contents) → slice_get made.old number ≡ Some was → made.new ≡ turned_in (C.state cells.old).design made.old number cell place id was) }
+    requires { spot.now.above < length made.old }
+    ensures turned { OnOk result ((was : Option Contents) → slice_get made.old spot.now.above ≡ Some was → made.new ≡ turned_in (C.state cells.old).design made.old spot.now.above cell spot.now.place id was) }
     ensures some { HasReadSome (C.state cells.old) (C.state cells.new) }
 {
-    let was = made.replace(number, None);
+    let was = made.replace(spot.above, None);
     let contents = made_or_old(alloc, cells, was, cell)?;
-    made.set(number, turned(alloc, contents, place, id)?);
+    made.set(spot.above, turned(alloc, contents, spot.place, id)?);
     Ok(())
 }
 
@@ -144,7 +144,7 @@ fn turn_for<C: Cells>(
 {
     if let Some(twin) = &spot.twin {
         let cell = cell_of(top, spots, spot.above);
-        turn(alloc, cells, made, spot.above, cell, spot.place, twin.id)?;
+        turn(alloc, cells, made, cell, spot, twin.id)?;
     }
     Ok(())
 }

@@ -12,6 +12,6 @@ pub returns-clause-turned : goal.returns-clause-turned
 returns-clause-turned g c = λ was at.
     let d = (g.C.Cells.state c.args.cells.now).design in
     let same = some_same c.replace-was.result was (sym c.replace-was.ensures.was ∙ at) in
-    c.set.ensures ∙ ap (λ l. slice_set l c.args.number c.in_ok-turned.field-0) c.replace-was.ensures.put ∙ set_again c.args.made.now c.args.number _ c.in_ok-turned.field-0
-    ∙ ap (slice_set c.args.made.now c.args.number)
-    (c.in_ok-turned.ensures ∙ ap (option_map (turned_to c.args.place c.args.id)) (c.in_ok-contents.ensures.value ∙ ap (λ (o : Option Contents). option_or o (contents_at d c.args.cell)) same))
+    c.set.ensures ∙ ap (λ l. slice_set l c.args.spot.now.above c.in_ok-turned.field-0) c.replace-was.ensures.put ∙ set_again c.args.made.now c.args.spot.now.above _ c.in_ok-turned.field-0
+    ∙ ap (slice_set c.args.made.now c.args.spot.now.above)
+    (c.in_ok-turned.ensures ∙ ap (option_map (turned_to c.args.spot.now.place c.args.id)) (c.in_ok-contents.ensures.value ∙ ap (λ (o : Option Contents). option_or o (contents_at d c.args.cell)) same))
