@@ -117,22 +117,28 @@ fn pin_item<S: Shown>(
     })
 }
 
+/// The bits of a port.
+#[derive(Clone, Copy)]
+struct PortBits {
+    port: u32,
+    count: u32,
+}
+
 /// Adds the pins of one port, bit by bit.
 fn add_port<S: Shown>(
     alloc: Global,
     design: &S,
     nets: &TreeNets,
     path: &Path,
-    port: u32,
-    bits: u32,
+    bits: PortBits,
     items: &mut Vec<Item>,
 ) -> Result<(), NoMemory>
     requires valid { IsValid (S.design design.now) }
     requires nets { AreTreeNets (S.design design.now) nets.now }
-    ensures { OnOk result (items.new.items ≡ items.old.items ++ map (pin_item (S.design design.now) nets.now.root path.now) (map (bit_at port) (range_with_len 0 bits))) }
+    ensures { OnOk result (items.new.items ≡ items.old.items ++ map (pin_item (S.design design.now) nets.now.root path.now) (map (bit_at bits.port) (range_with_len 0 bits.count))) }
 {
-    for bit in 0..bits {
-        let item = pin_item(alloc, design, nets, path, port, bit)?;
+    for bit in 0..bits.count {
+        let item = pin_item(alloc, design, nets, path, bits.port, bit)?;
         items.push(item)?;
     }
     Ok(())
@@ -153,7 +159,11 @@ fn add_pins<S: Shown>(
     ensures { OnOk result (items.new.items ≡ items.old.items ++ map (pin_item (S.design design.now) nets.now.root path.now) (bits_from 0 ports.now)) }
 {
     for (place, port) in ports.iter().enumerate() {
-        add_port(alloc, design, nets, path, place as u32, width(port), items)?;
+        let bits = PortBits {
+            port: place as u32,
+            count: width(port),
+        };
+        add_port(alloc, design, nets, path, bits, items)?;
     }
     Ok(())
 }

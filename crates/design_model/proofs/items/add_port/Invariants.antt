@@ -6,5 +6,5 @@ use Rattle.design_model.proofs.items.add_port.Given as goal
 
 abbrev pub invariant-loop-bit : goal.invariant-loop-bit
 invariant-loop-bit g l =
-    l.items.items ++ map (pin_item (g.S.Shown.design l.design) l.nets.root l.path) (map (bit_at l.fn.port) (range_with_len l.bit (l.fn.bits - l.bit)))
-    ≡ l.fn.items.items ++ map (pin_item (g.S.Shown.design l.design) l.nets.root l.path) (map (bit_at l.fn.port) (range_with_len 0 l.fn.bits))
+    l.items.items ++ map (pin_item (g.S.Shown.design l.design) l.nets.root l.path) (map (bit_at l.fn.bits.port) (range_with_len l.bit (l.fn.bits.count - l.bit)))
+    ≡ l.fn.items.items ++ map (pin_item (g.S.Shown.design l.design) l.nets.root l.path) (map (bit_at l.fn.bits.port) (range_with_len 0 l.fn.bits.count))
