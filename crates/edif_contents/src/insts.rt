@@ -145,7 +145,7 @@ pub(crate) fn read_insts(
 ) -> Result<Insts, EdifError>
     ensures { Answers (ReadInsts libs.now.libs own (all inner.entry)) (InstsFault libs.now.libs own (those_of Instance (all inner.entry))) result }
 {
-    let mut names = Names::new(alloc);
+    let mut names = Names::for_forms(alloc, inner, Keyword::Instance)?;
     let list = take_insts(alloc, inner, libs, own, &mut names)?;
     Ok(Insts { list, names })
 }

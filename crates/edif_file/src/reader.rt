@@ -23,6 +23,9 @@ use std::marker::Model;
 /// How many bytes go to the lexer at once.
 const PART: usize = 4_096;
 
+/// For how many tokens of a part there is room at once. Mostly a part has fewer.
+const TOKENS: usize = 1_024;
+
 /// Reads a design file whose bytes come in pieces. It keeps neither the bytes nor their tokens, but the tree that they make.
 #[derive(Drop)]
 pub struct DesignReader {
@@ -72,7 +75,7 @@ impl DesignReader {
     fn feed_part(&mut self, piece: &[u8]) -> Result<(), NoMemory>
         ensures { OnOk result ((fed : List ℕ) → WasFed self.old fed → WasFed self.new (fed ++ piece.now)) }
     {
-        let mut tokens = Vec::new(self.alloc);
+        let mut tokens = Vec::with_capacity(self.alloc, TOKENS)?;
         match self.lexer.feed(piece, &mut tokens) {
             Ok(()) => pass_on(&mut self.maker, tokens),
             Err(LexError::At { .. }) => Ok(()),

@@ -1,4 +1,5 @@
 pub mod Answering
+pub mod FewLemmas
 pub mod NameForms
 pub mod NameLists
 pub mod NameTables

@@ -1,5 +1,7 @@
 pub mod Adding
+pub mod FewNames
 pub mod Interfaces
+pub mod Kept
 pub mod Names
 pub mod Ports
 pub mod Reading

@@ -98,7 +98,7 @@ fn add_ports(alloc: Global, inner: Nodes<'_>, names: &mut Names) -> Result<Row<P
 fn read_ports(alloc: Global, inner: Nodes<'_>) -> Result<Ports, EdifError>
     ensures { Answers (ReadPorts (all inner.entry)) (PortsFault (those_of PortWord (all inner.entry))) result }
 {
-    let mut names = Names::new(alloc);
+    let mut names = Names::for_forms(alloc, inner, Keyword::Port)?;
     let ports = add_ports(alloc, inner, &mut names)?;
     Ok(Ports { ports, names })
 }

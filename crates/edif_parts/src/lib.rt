@@ -2,7 +2,9 @@
 #![tactic(auto)]
 
 mod error;
+mod few_names;
 mod interface;
+mod name_table;
 mod names;
 mod own_names;
 mod parts;

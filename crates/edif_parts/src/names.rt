@@ -1,5 +1,5 @@
 //! Names, and the names of a list of forms.
-ghost use Rattle.std.specs.Prelude.{◌≡◌, [], Some, IfErr, IfOk, OnErr, OnOk, IsTrue, true};
+ghost use Rattle.std.specs.Prelude.{◌≡◌, ◌∷◌, [], Some, IfErr, IfOk, OnErr, OnOk, IsTrue, true};
 ghost use Rattle.edif_spelling_spec.specs.Tree.{bare};
 ghost use Rattle.netlist_schema.specs.Typed.{IsTypedName};
 ghost use Rattle.edif_spec.specs.Faults.{RowFault, name_of};
@@ -13,10 +13,12 @@ ghost use Rattle.edif_parts.specs.Names.{DefinesName, IsAgain, Tells, ids};
 ghost use Rattle.edif_parts.specs.Reading.{Answers, Names as FailsBy};
 
 use crate::error::{EdifError, clash};
-use crate::parts::{read_parts, string_at, word_at};
-use edif_names::{Defined, Meant, Scope};
+use crate::parts::{read_parts, room_wanted, string_at, word_at};
+use crate::few_names::FewNames;
+use crate::name_table::NameTable;
+use edif_names::Meant;
 use edif_spec::{ClashKind, Keyword};
-use edif_tree::{Node, Shape};
+use edif_tree::{Node, Nodes, Shape};
 use netlist_schema::{Copied, Ident, Name, NoMemory};
 use std::alloc::Global;
 use std::marker::Model;
@@ -63,28 +65,38 @@ fn read_rename(alloc: Global, node: Node<'_>) -> Result<NameAt, EdifError>
     Ok(NameAt { name, place })
 }
 
+/// For how many names there is no table.
+const FEW: usize = 8;
+
+/// Names, as they are kept.
+#[derive(Drop)]
+pub enum Kept {
+    /// None yet; the first one makes a table.
+    Unopened(Global),
+    /// A few.
+    Few(FewNames),
+    /// Any number.
+    Many(Box<NameTable>),
+}
+
 /// The names that a list of forms defines, no two equal byte for byte. Contracts see them in order, each with its place.
 pub struct Names {
-    scope: Scope,
-    count: u64,
+    kept: Kept,
 }
 
 impl Drop for Names {
     fn drop(self) {
-        let Names { scope: _, count: _ } = self;
+        let Names { kept: _ } = self;
     }
 }
 
 impl Model for Names {
-    ghost use Rattle.std.specs.Prelude.{◌≡◌, List, ℕ, length, map};
-    ghost use Rattle.edif_names.specs.Scope.{Definition};
-    ghost use Rattle.edif_parts.specs.Names.{AreNumbered};
+    ghost use Rattle.std.specs.Prelude.{List, ℕ};
+    ghost use Rattle.edif_parts.specs.Kept.{kept_names};
 
     ghost Value = { List (List ℕ × ℕ) };
 
-    ghost view = { λ s. map (λ (d : Definition). (d.name, d.place)) s.scope };
-
-    ghost invariant = { λ s. AreNumbered 0 s.scope × (length s.scope ≡ s.count) };
+    ghost view = { λ s. kept_names s.kept };
 }
 
 impl Names {
@@ -93,9 +105,26 @@ impl Names {
         ensures { result ≡ [] }
     {
         Names {
-            scope: Scope::new(alloc),
-            count: 0,
+            kept: Kept::Unopened(alloc),
         }
+    }
+
+    /// No names, where each form of this keyword is to define one. A few take no more memory than their list.
+    pub fn for_forms(
+        alloc: Global,
+        nodes: Nodes<'_>,
+        keyword: Keyword,
+    ) -> Result<Names, NoMemory>
+        ensures { IfOk result (λ names. names ≡ []) }
+    {
+        let count = room_wanted(nodes, keyword);
+        if count > FEW {
+            return Ok(Names::new(alloc));
+        }
+        let few = FewNames::with_room(alloc, count)?;
+        Ok(Names {
+            kept: Kept::Few(few),
+        })
     }
 
     /// Defines a name. Where an equal one is there, the answer is its place, and nothing changes; after `NoMemory` nothing has
@@ -104,15 +133,14 @@ impl Names {
         ensures ok { IfOk result (λ earlier. DefinesName self.old name.now place self.new earlier) }
         ensures err { OnErr result (self.new ≡ self.old) }
     {
-        let Ok(id) = u32::try_from(self.count) else {
-            return Err(NoMemory);
-        };
-        match self.scope.define(name, id, place)? {
-            Defined::Added => {
-                self.count += 1;
+        match &mut self.kept {
+            Kept::Few(few) => few.define(name, place),
+            Kept::Many(table) => table.define(name, place),
+            Kept::Unopened(alloc) => {
+                let table = first_of(*alloc, name, place)?;
+                self.kept = Kept::Many(table);
                 Ok(None)
             }
-            Defined::Earlier(earlier) => Ok(Some(earlier)),
         }
     }
 
@@ -132,6 +160,19 @@ impl Names {
     pub fn meant(&self, name: &Ident) -> Meant
         ensures { Tells (meant (ids self.now) name.now) result }
     {
-        self.scope.meant(name)
+        match &self.kept {
+            Kept::Few(few) => few.meant(name),
+            Kept::Many(table) => table.meant(name),
+            Kept::Unopened(_) => Meant::Absent,
+        }
     }
+}
+
+/// A table of this one name.
+fn first_of(alloc: Global, name: &Ident, place: u64) -> Result<Box<NameTable>, NoMemory>
+    ensures { IfOk result (λ table. table.value ≡ (name.now, place) ∷ []) }
+{
+    let mut table = NameTable::new(alloc);
+    table.define(name, place)?;
+    Ok(Box::new(alloc, table)?)
 }

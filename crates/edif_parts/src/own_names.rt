@@ -121,7 +121,7 @@ impl Keys {
 }
 
 /// The place of the equal one of a few names. Takes no memory.
-fn place_among(few: &[(Ident, u64)], name: &Ident) -> Option<u64>
+pub(crate) fn place_among(few: &[(Ident, u64)], name: &Ident) -> Option<u64>
     ensures { result ≡ lookup (pointwise nat_eq name.now) few.now }
 {
     for entry in few {

@@ -38,17 +38,22 @@ pub fn read_parts<'a>(
     }
 }
 
-/// An empty list with room for a value of each form of this keyword.
-pub fn room_for<T>(alloc: Global, nodes: Nodes<'_>, keyword: Keyword) -> Result<Vec<T>, NoMemory>
-    ensures { IfOk result (λ list. list.items ≡ []) }
-{
+/// For how many forms of this keyword there is to be room. Takes no memory.
+pub(crate) fn room_wanted(nodes: Nodes<'_>, keyword: Keyword) -> usize {
     let mut count: usize = 0;
     for node in nodes.iter() {
         if is_form_of(node, keyword) {
             count = count.saturating_add(1);
         }
     }
-    Ok(Vec::with_capacity(alloc, count)?)
+    count
+}
+
+/// An empty list with room for a value of each form of this keyword.
+pub fn room_for<T>(alloc: Global, nodes: Nodes<'_>, keyword: Keyword) -> Result<Vec<T>, NoMemory>
+    ensures { IfOk result (λ list. list.items ≡ []) }
+{
+    Ok(Vec::with_capacity(alloc, room_wanted(nodes, keyword))?)
 }
 
 /// The word at a node where a word stands. Takes no memory.

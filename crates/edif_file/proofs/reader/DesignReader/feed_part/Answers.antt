@@ -9,7 +9,7 @@ returns-in-Ok c =
     let old : Reader = record { lexer = c.self.inside.lexer; maker = c.self.inside.maker } in
     let new : Reader = record { lexer = c.feed.new.self; maker = c.pass_on.new.maker } in
     let gained = c.in-Ok.ensures.read.0 in
-    let same : c.feed.new.out.items ≡ gained = c.in-Ok.ensures.read.1 ∙ ap (λ (v : List Token). v ++ gained) c.new-tokens.ensures.items in
+    let same : c.feed.new.out.items ≡ gained = c.in-Ok.ensures.read.1 ∙ ap (λ (v : List Token). v ++ gained) c.in_ok-tokens.ensures.items in
     on_ok c.pass_on.result _ _
     (λ handed fed was.
     fed_on old new fed c.args.piece.now gained c.in-Ok.ensures.read.2

@@ -2,7 +2,7 @@ use Rattle.std.proofs.Common.{ℕ, List, subst}
 use Rattle.edif_spec.specs.Means.{meant}
 use Rattle.edif_parts.specs.Names.{Tells, ids}
 use Rattle.edif_parts.proofs.NameTables.{tells}
-use Rattle.edif_parts.proofs.names.Names.meant.Goals as goal
+use Rattle.edif_parts.proofs.name_table.NameTable.meant.Goals as goal
 
 pub returns : goal.returns
 returns c =

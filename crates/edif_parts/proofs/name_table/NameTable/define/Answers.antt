@@ -3,7 +3,7 @@ use Rattle.edif_names.specs.Scope.{Defines}
 use Rattle.edif_names.specs.declared.scope.Defined.{Defined}
 use Rattle.edif_parts.specs.Names.{DefinesName}
 use Rattle.edif_parts.proofs.NameTables.{placed, added, was_there, numbered_after}
-use Rattle.edif_parts.proofs.names.Names.define.Goals as goal
+use Rattle.edif_parts.proofs.name_table.NameTable.define.Goals as goal
 
 pub invariant_of-self-in-Added : goal.invariant_of-self-in-Added
 invariant_of-self-in-Added c =
