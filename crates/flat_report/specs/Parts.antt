@@ -1,5 +1,5 @@
 -- What a line is made of: words behind blanks, identifiers behind `/`, and what stands at a place of the design.
-use Rattle.std.specs.Prelude.{ℕ, List, ◌++◌, codes, Option, slice_get, option_and_then}
+use Rattle.std.specs.Prelude.{◌≡◌, ℕ, Bool, true, false, List, ◌++◌, codes, Option, slice_get, option_and_then}
 use Rattle.std.specs.List.{flat_map}
 use Rattle.netlist_schema.specs.Design.{Design}
 use Rattle.netlist_schema.specs.Types.{CellId, Net}
@@ -16,3 +16,8 @@ behind_slashes names = flat_map (λ name. codes "/" ++ name) names
 -- a net of a cell, where there is the cell and it has one of that number
 abbrev pub net_in : Design → Option CellId → ℕ → Option Net
 net_in d cell net = option_and_then (λ id. slice_get (nets_at d id) net) cell
+
+-- a text was appended; or the bytes are as before
+abbrev pub IsWhole : List ℕ → List ℕ → List ℕ → Bool → Type 0
+IsWhole old new text true = new ≡ old ++ text
+IsWhole old new text false = new ≡ old

@@ -10,6 +10,7 @@ ghost use Rattle.flat_items.specs.Lent.{item_of, net_of, properties_of};
 
 use crate::names::{cell_name, lib_name, port_name};
 use crate::paths::{push_first, push_net_words, push_place};
+use crate::whole::push_whole;
 use crate::words::{push_number, push_properties, push_word};
 use flat_items::{ItemRef, NetRef, PropertiesRef};
 use flat_spec::Item;
@@ -47,6 +48,7 @@ pub fn lent_text<S: Shown>(
 }
 
 /// The same of a lent item, with the text of the path that was kept.
+#[inline(always)]
 pub fn kept_text<S: Shown>(
     alloc: Global,
     texts: &PathTexts<'_, S>,
@@ -66,6 +68,7 @@ pub fn kept_text<S: Shown>(
 }
 
 /// Appends the line of an item. After `NoMemory` some bytes may stand behind those before.
+#[inline(always)]
 fn push_line<S: Shown>(
     alloc: Global,
     design: &S,
@@ -77,6 +80,9 @@ fn push_line<S: Shown>(
     ensures ok { OnOk result (out.new.items ≡ out.old.items ++ item_line (S.design design.now) (item_of item.entry)) }
     ensures grows { Grows out.old.items out.new.items }
 {
+    if push_whole(alloc, design, texts, item, out)? {
+        return Ok(());
+    }
     push_item(alloc, design, texts, item, out)?;
     out.push(b'\n')?;
     Ok(())

@@ -4,6 +4,7 @@
 mod items;
 mod names;
 mod paths;
+mod whole;
 mod words;
 
 pub use items::{item_text, kept_text, lent_text};

@@ -32,6 +32,7 @@ fn net_in<S: Shown>(design: &S, cell: Option<CellId>, place: u32) -> Option<&Net
 }
 
 /// The identifier of the library of a cell; nothing where there is no such library.
+#[inline(always)]
 pub(crate) fn lib_name<S: Shown>(design: &S, id: CellId) -> &[u8]
     ensures { result.now ≡ lib_text (S.design design.now) id }
 {
@@ -42,6 +43,7 @@ pub(crate) fn lib_name<S: Shown>(design: &S, id: CellId) -> &[u8]
 }
 
 /// The identifier of a cell; nothing where there is no such cell.
+#[inline(always)]
 pub(crate) fn cell_name<S: Shown>(design: &S, id: CellId) -> &[u8]
     ensures { result.now ≡ cell_text (S.design design.now) id }
 {

@@ -82,6 +82,7 @@ fn put_left<S: Shown, W: Shown + Drop, K: Sink>(
 }
 
 /// The room behind an item.
+#[inline(always)]
 fn one_less(room: Option<u64>) -> Option<u64>
     ensures { result ≡ option_map (λ n. n - 1) room }
 {
@@ -89,6 +90,7 @@ fn one_less(room: Option<u64>) -> Option<u64>
 }
 
 /// Whether there is no room for an item.
+#[inline(always)]
 fn is_full(room: Option<u64>) -> bool
     ensures { IsTrue result ↔ (room ≡ Some 0) }
 {
@@ -99,6 +101,7 @@ fn is_full(room: Option<u64>) -> bool
 }
 
 /// Writes the next line of what is left to a walk, with room for so many items where there is a limit: whether lines are left.
+#[inline(always)]
 fn put_next<S: Shown, W: Shown + Drop, K: Sink>(
     alloc: Global,
     texts: &mut PathTexts<'_, S>,
@@ -127,6 +130,7 @@ fn put_next<S: Shown, W: Shown + Drop, K: Sink>(
 }
 
 /// The same, where the walk has gone on to its next item.
+#[inline(always)]
 fn put_ahead<S: Shown, W: Shown + Drop, K: Sink>(
     alloc: Global,
     texts: &mut PathTexts<'_, S>,
@@ -149,6 +153,7 @@ fn put_ahead<S: Shown, W: Shown + Drop, K: Sink>(
 }
 
 /// Writes the line of an item, or where there is no room for it the line that tells that items are left: whether there was room.
+#[inline(always)]
 fn put_item<S: Shown, K: Sink>(
     alloc: Global,
     texts: &PathTexts<'_, S>,

@@ -8,4 +8,5 @@ mod table;
 
 pub use error::{FlatError, outcome};
 pub use flat::write_flat;
+pub use shown::keep_path;
 pub use table::write_pin_table;

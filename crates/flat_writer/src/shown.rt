@@ -20,32 +20,34 @@ pub struct Line<'a, 'd, S: Shown> {
 impl<'a, 'd, S: Shown> Appended for Line<'a, 'd, S> {
     ghost text = { λ line. item_line line.texts.now (item_of line.item) };
 
+    #[inline(always)]
     fn append_to(&self, alloc: Global, bytes: &mut Vec<u8>) -> Result<(), NoMemory> {
         kept_text(alloc, self.texts, self.item, bytes)
     }
 }
 
-/// Keeps the text of the path of an item.
-pub(crate) fn keep_path<S: Shown>(texts: &mut PathTexts<'_, S>, item: ItemRef<'_>)
+/// Keeps the text of the path of an item with which an occurrence begins; at other items that of the path before stays kept.
+#[inline(always)]
+pub fn keep_path<S: Shown>(texts: &mut PathTexts<'_, S>, item: ItemRef<'_>)
     ensures { texts.new ≡ texts.old }
 {
-    texts.keep(path_of(item));
-}
-
-/// Keeps the text of the path of an item that has a row.
-pub(crate) fn keep_pin<S: Shown>(texts: &mut PathTexts<'_, S>, item: ItemRef<'_>)
-    ensures { texts.new ≡ texts.old }
-{
-    if let ItemRef::Pin { path, .. } = item {
+    if let ItemRef::Enter { path, .. } = item {
         texts.keep(path);
     }
 }
 
-/// The path of the occurrence to which an item belongs.
-fn path_of(item: ItemRef<'_>) -> &[u32] {
-    match item {
-        ItemRef::Enter { path, .. } => path,
-        ItemRef::Net { path, .. } => path,
-        ItemRef::Pin { path, .. } => path,
+/// Keeps the text of the path of an item with which the pins of an occurrence begin.
+#[inline(always)]
+pub(crate) fn keep_pin<S: Shown>(texts: &mut PathTexts<'_, S>, item: ItemRef<'_>)
+    ensures { texts.new ≡ texts.old }
+{
+    if let ItemRef::Pin {
+        path,
+        port: 0,
+        bit: 0,
+        ..
+    } = item
+    {
+        texts.keep(path);
     }
 }

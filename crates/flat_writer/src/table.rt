@@ -85,6 +85,7 @@ fn put_left<S: Shown, W: Shown + Drop, K: Sink>(
 }
 
 /// Writes the row of the next item that is left to a walk: whether there was one, and nothing failed before.
+#[inline(always)]
 fn put_next<S: Shown, W: Shown + Drop, K: Sink>(
     alloc: Global,
     texts: &mut PathTexts<'_, S>,
@@ -109,6 +110,7 @@ fn put_next<S: Shown, W: Shown + Drop, K: Sink>(
 }
 
 /// The same, where the walk has gone on to its next item.
+#[inline(always)]
 fn put_ahead<S: Shown, W: Shown + Drop, K: Sink>(
     alloc: Global,
     texts: &mut PathTexts<'_, S>,

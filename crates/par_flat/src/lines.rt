@@ -9,20 +9,12 @@ ghost use Rattle.par_flat.specs.Desks.{IsSeat};
 ghost use Rattle.par_flat.specs.Lines.{GivesLine, IsPart};
 
 use crate::desks::{Desk, Most, Seat, place_at};
-use flat_items::{ItemRef, Place};
+use flat_items::Place;
 use flat_report::kept_text;
+use flat_writer::keep_path;
 use netlist_schema::{NoMemory, Shown};
 use par_parts::CountedGround;
 use path_texts::PathTexts;
-
-/// The path of the occurrence to which an item belongs.
-fn path_of(item: ItemRef<'_>) -> &[u32] {
-    match item {
-        ItemRef::Enter { path, .. } => path,
-        ItemRef::Net { path, .. } => path,
-        ItemRef::Pin { path, .. } => path,
-    }
-}
 
 /// Adds the line of the next item, where the place has gone on to one.
 fn add_ahead<S: Shown + Drop>(
@@ -42,7 +34,7 @@ fn add_ahead<S: Shown + Drop>(
     let Some(item) = ground.current(place) else {
         return Ok(false);
     };
-    texts.keep(path_of(item));
+    keep_path(texts, item);
     kept_text(ground.alloc(), texts, item, text)?;
     ground.skip(place);
     Ok(true)
@@ -110,6 +102,7 @@ pub fn make_lines<S: Shown + Drop>(
     desk.text.clear();
     let mut place = place_at(ground, desk.seat.take(), first)?;
     let mut texts = PathTexts::new(ground.alloc(), ground.design());
+    texts.keep(place.path.steps.as_slice());
     let count = add_lines(ground, &mut texts, &mut place, most, &mut desk.text)?;
     desk.seat = Some(Seat {
         before: first + count,
