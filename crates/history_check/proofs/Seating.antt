@@ -25,7 +25,7 @@ use Rattle.script_run_spec.specs.Written.{written_report}
 use Rattle.history_check_spec.proofs.Heads.{event_head}
 use Rattle.history_check.specs.Follow.{AllEnd, AllStand, CallComes, Ends, EndsNever, IsCalled, IsRestOf, IsStopped, IsTooLong, IsBehind, Reached, SomeNever, said_by}
 use Rattle.history_turns.specs.Moves.{IsHalted, IsStuck, SaysTooMuch, Turned}
-use Rattle.history_turns.specs.Seats.{HasPlace, HasTop, IsAt, IsOpen, Stands, phase_of}
+use Rattle.history_turns.specs.Seats.{HasPlace, HasPinnedTop, IsAt, IsOpen, Stands, phase_of}
 use Rattle.report_parts.specs.Parts.{Heads, HeadsNone}
 use Rattle.history_check_spec.specs.Printed.{CannotWalk, PrintsNone, PrintsOnly, PrintsSome}
 use Rattle.report_parts.specs.declared.heads.Next.{Next}
@@ -63,7 +63,7 @@ walk_here (steps ∷ scripts) (suc k) less walk = inr (walk_here scripts k (omeg
 
 -- a pin can be walked where its script walks
 pub top_here : (story : Story) (scripts : List (List Step)) (k : ℕ) (steps : List Step) (seat : Seat) → Legal story.opening story.events → CanWalk story.opening scripts → k < length scripts
-    → slice_index_or scripts k [] ≡ steps → IsAt story k seat.at → HasWalk steps → HasTop seat.at
+    → slice_index_or scripts k [] ≡ steps → IsAt story k seat.at → HasWalk steps → HasPinnedTop seat.at
 top_here story scripts k steps seat legal can less is mine walk =
     has_top story k seat.at legal (can (walk_here scripts k less (subst (λ (z : List Step). HasWalk z) (sym is) walk))) mine
 

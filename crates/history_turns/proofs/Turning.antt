@@ -24,7 +24,7 @@ use Rattle.history_check_spec.specs.Left.{AreLoud, Between, IsLoud, Leads, Phase
 use Rattle.history_check_spec.proofs.Leading.{leads_nowhere, leads_on}
 use Rattle.history_check_spec.proofs.Meeting.{others_next, own_next}
 use Rattle.history_turns.specs.Moves.{Called, Comes, ComesThere, HasPassed, IsStuck, Moves, Owed, Passes, Turned, left_by, line_behind}
-use Rattle.history_turns.specs.Seats.{HasTop, IsAt, IsOpen, Stands, phase_of}
+use Rattle.history_turns.specs.Seats.{HasPinnedTop, IsAt, IsOpen, Stands, phase_of}
 use Rattle.history_turns.specs.declared.seats.At.{At}
 use Rattle.history_turns.specs.declared.seats.At.TheVariants as at
 use Rattle.history_turns.specs.declared.seats.Seat.{Seat}
@@ -143,7 +143,7 @@ pinned_top story pin legal mine =
     let first : state.first ≡ story.opening = (goes_on_from (opening story.opening) story.events).first in
     ap (λ (e : Design). e.top) mine.design ∙ sym grown.top ∙ ap (λ (e : Design). e.top) first
 
-pub has_top : (story : Story) (caller : ℕ) (a : At) → Legal story.opening story.events → (story.opening.top ≡ None → ⊥) → IsAt story caller a → HasTop a
+pub has_top : (story : Story) (caller : ℕ) (a : At) → Legal story.opening story.events → (story.opening.top ≡ None → ⊥) → IsAt story caller a → HasPinnedTop a
 has_top story caller at.Free legal top mine = tt
 has_top story caller (at.OnPin pin) legal top mine = λ none. top (sym (pinned_top story pin legal mine.is_pin) ∙ none)
 has_top story caller at.OffPin legal top mine = tt

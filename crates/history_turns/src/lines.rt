@@ -140,7 +140,7 @@ pub(crate) fn abandon_line(
 }
 
 /// Ends a script whose call was refused since the log was full, and releases the pin that was held.
-pub(crate) fn give_up(core: &mut Core, pin: Pin, said: &mut Vec<u8>) -> Result<At, NoMemory>
+pub(crate) fn cut_off(core: &mut Core, pin: Pin, said: &mut Vec<u8>) -> Result<At, NoMemory>
     requires { IsPinOf core.old pin }
     ensures { IfOk result (IsCutOff core.old core.new pin said.old.items said.new.items) }
 {
