@@ -1,15 +1,12 @@
 -- What the ends of all scripts tell of the report.
-use Rattle.std.proofs.Common.{◌≡◌, ◌∙◌, ℕ, zero, suc, ◌+◌, ◌≤◌, ◌<◌, List, [], ◌∷◌, length, refl, ap, sym, subst, arith}
-use Rattle.std.specs.Prelude.{slice_index_or}
+use Rattle.std.proofs.Common.{◌≡◌, ◌∙◌, ℕ, ◌+◌, ◌≤◌, ◌<◌, List, [], ◌∷◌, length, refl, ap, sym, subst}
 use Rattle.std.specs.List.{All, AllByRecursion}
 use Rattle.std.proofs.lemmas.List.Elements.{All-from_recursion}
-use Rattle.netlist_schema.specs.Design.{Design}
 use Rattle.db_spec.specs.History.{Legal}
 use Rattle.db_spec.specs.declared.event.Event.{Event}
 use Rattle.db_core.specs.Story.{Story}
 use Rattle.script_spec.specs.Laws.{OneReport}
 use Rattle.script_spec.specs.Report.{HasFilled, Prints, Sessions, SessionResult, head_design}
-use Rattle.script_spec.specs.Session.{Session}
 use Rattle.script_spec.specs.declared.script.Step.{Step}
 use Rattle.script_run_spec.specs.Written.{written_report}
 use Rattle.script_run_spec.proofs.Texts.{report_is, transcripts}

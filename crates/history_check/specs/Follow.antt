@@ -1,8 +1,7 @@
 -- How far a replay has come, and what a report that is printed so goes on with.
-use Rattle.std.specs.Prelude.{◌≡◌, ◌<◌, ◌≤◌, ◌⊎◌, ◌+◌, ◌-◌, ℕ, Bool, true, false, Some, List, [], ◌∷◌, ◌++◌, codes, decimal, drop, length, set, slice_index_or}
+use Rattle.std.specs.Prelude.{◌≡◌, ◌<◌, ◌≤◌, ◌⊎◌, ◌+◌, ◌-◌, ℕ, Bool, true, false, Some, List, [], ◌∷◌, ◌++◌, codes, drop, length, set, slice_index_or}
 use Rattle.std.specs.List.{All}
 use Rattle.netlist_schema.specs.Design.{Design}
-use Rattle.edif_spec.specs.Arranged.{canonical_text}
 use Rattle.db_spec.specs.History.{version_at}
 use Rattle.db_spec.specs.declared.event.Answer.{Answer}
 use Rattle.db_spec.specs.declared.event.Call.{Call}
@@ -12,9 +11,8 @@ use Rattle.db_core.specs.Story.{Story}
 use Rattle.script_spec.specs.Report.{HasFilled, Prints, SessionResult, head_design, transcript}
 use Rattle.script_spec.specs.Session.{Ending, Full, LogFull, Nothing, Session, Whole, Word, exchanges}
 use Rattle.script_spec.specs.Texts.{event_texts, line}
-use Rattle.script_run_spec.specs.Written.{numbered_texts}
 use Rattle.script_spec.specs.declared.script.Step.{Step}
-use Rattle.history_check_spec.specs.Heads.{begins_with_r, behind_events, head_text}
+use Rattle.history_check_spec.specs.Heads.{behind_events}
 use Rattle.history_check_spec.specs.Left.{Between, EndsBy, Leads, NoEnd, Phase, next_call}
 use Rattle.history_turns.specs.Moves.{IsStuck, SaysTooMuch}
 use Rattle.history_turns.specs.Seats.{Stands, phase_of}

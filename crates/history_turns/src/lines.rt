@@ -1,11 +1,11 @@
 //! The calls of lines that pin, release and collect. Each function makes the next call of a caller, and says what its line says.
-ghost use Rattle.std.specs.Prelude.{◌≡◌, Bool, IfOk, false, true};
+ghost use Rattle.std.specs.Prelude.{◌≡◌, Bool, IfOk, false};
 ghost use Rattle.db_core.specs.Story.{IsPinOf};
 ghost use Rattle.edit_tx.specs.Facts.{started};
 ghost use Rattle.script_spec.specs.Session.{Nothing, OnPin};
 ghost use Rattle.history_check_spec.specs.Left.{Between};
 ghost use Rattle.history_turns.specs.Moves.{Called, Comes, IsCutOff};
-ghost use Rattle.history_turns.specs.Seats.{IsAt, IsFree, IsPinBy, phase_of};
+ghost use Rattle.history_turns.specs.Seats.{IsAt, IsFree, phase_of};
 
 use crate::seats::{At, Block};
 use db_core::{CollectError, Core, Pin, PinAtError, PinError, Tx};

@@ -1,5 +1,5 @@
 -- What a sink that compares tells.
-use Rattle.std.proofs.Common.{◌≡◌, ◌∙◌, ℕ, zero, suc, ◌+◌, ◌-◌, ◌<◌, ◌≤◌, ◌^◌, Bool, true, false, List, [], ◌∷◌, ◌++◌, inl, inr, length, map, take, drop, get_or, refl, ap, sym, subst, arith, length-append, length-drop, append_assoc, append-nil}
+use Rattle.std.proofs.Common.{◌≡◌, ◌∙◌, ℕ, zero, suc, ◌+◌, ◌-◌, ◌<◌, ◌≤◌, Bool, true, false, List, [], ◌∷◌, ◌++◌, inl, inr, length, map, take, drop, get_or, refl, ap, sym, subst, arith, length-append, length-drop, append_assoc, append-nil}
 use Rattle.std.specs.Prelude.{◌↔◌, Option, Some, None, IsTrue, is_some, not}
 use Rattle.std.proofs.Math.Seq.{take-add, take-append_seam, take-length, take-suc}
 use Rattle.std.proofs.lemmas.List.{append_cancel_left, length-take-le, take-append-drop}

@@ -1,5 +1,5 @@
 //! `SameSink`: a sink that compares.
-ghost use Rattle.std.specs.Prelude.{◌≡◌, ◌<◌, ◌≤◌, ◌++◌, ◌↔◌, [], IsTrue, List, ℕ, Some, length, take};
+ghost use Rattle.std.specs.Prelude.{◌≡◌, ◌<◌, ◌≤◌, ◌↔◌, [], IsTrue, Some, length};
 ghost use Rattle.netdb_outside.specs.Outside.{Appends, AppendsFront, Rose};
 ghost use Rattle.report_parts.specs.Same.{Compares, IsCommon, PartsFrom, text_then_bytes};
 

@@ -1,4 +1,4 @@
-use Rattle.std.proofs.Common.{arith, Bor, List, ℕ, refl, subst, sym, ◌∙◌}
+use Rattle.std.proofs.Common.{arith, Bor, List, ℕ, subst, sym, ◌∙◌}
 use Rattle.script_run_spec.specs.Scripts.{all_steps}
 use Rattle.script_spec.specs.Headline.{CanWalk}
 use Rattle.report_parts.proofs.Comparing.{if_ok_on}
