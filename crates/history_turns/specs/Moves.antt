@@ -76,11 +76,6 @@ abbrev pub ComesThere : Story → Story → ℕ → Bool → Phase → List Step
 ComesThere old new caller r phase lines before text (Some next) = Owed old new caller r phase lines before text next
 ComesThere old new caller r phase lines before text None = IsStuck old r phase lines
 
--- the place of the next line behind such a call
-abbrev pub line_behind : At → ℕ → ℕ
-line_behind (at.OwesAgain block) line = line
-line_behind other line = line + 1
-
 -- the caller of a seat made its next call, and has a seat behind it
 pub record Turned (old new : Story) (caller : ℕ) (r : Bool) (steps : List Step) (seat next : Seat) : Type 0 where
   pub moves : Moves old new caller r (phase_of seat.at) (drop seat.line steps) seat.said.items next.said.items (phase_of next.at) (drop next.line steps)

@@ -1,8 +1,8 @@
 -- Where a caller stands, in the code and in its session.
-use Rattle.std.specs.Prelude.{◌≡◌, ℕ, zero, suc, List, [], ◌++◌, ◌≤◌, None, drop, length}
+use Rattle.std.specs.Prelude.{◌≡◌, ℕ, List, [], ◌++◌, ◌≤◌, None, drop, length}
 use Rattle.db_spec.specs.History.{Legal, version_at}
 use Rattle.db_spec.specs.declared.event.Event.{Event}
-use Rattle.edit_tx.specs.Facts.{PinFacts, TxFacts}
+use Rattle.edit_tx.specs.Facts.{PinFacts}
 use Rattle.db_core.specs.Story.{Story, IsPinOf}
 use Rattle.script_spec.specs.Headline.{HasWalk}
 use Rattle.script_spec.specs.Report.{transcript}
@@ -60,11 +60,6 @@ IsOwed (at.OwesAgain block) = Unit {0}
 IsOwed (at.Again ops retries) = Unit {0}
 IsOwed (at.Over places) = Unit {0}
 IsOwed other = ⊥
-
--- where a conflict leads, by the retries that are left
-abbrev pub behind_conflict : TxFacts → ℕ → At
-behind_conflict tx zero = at.Owes tx.pin
-behind_conflict tx (suc retries) = at.OwesAgain (record { tx = tx; retries = retries })
 
 -- what can be walked there has a top
 abbrev pub HasPinnedTop : At → Type 0

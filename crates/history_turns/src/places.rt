@@ -1,11 +1,11 @@
 //! The next call of a caller, by where it stands.
-ghost use Rattle.std.specs.Prelude.{◌≡◌, ◌≤◌, ◌<◌, ◌^◌, [], Bool, IfOk, List, ℕ, MatchBool, MatchOption, drop, length};
+ghost use Rattle.std.specs.Prelude.{◌≡◌, ◌+◌, ◌≤◌, ◌<◌, ◌^◌, ◌∷◌, [], Bool, IfOk, List, ℕ, MatchBool, MatchOption, drop, length};
 ghost use Rattle.script_spec.specs.Headline.{HasWalk};
 ghost use Rattle.script_spec.specs.ScriptText.{steps_of};
 ghost use Rattle.script_spec.specs.Session.{Nothing, OffPin, OnPin};
 ghost use Rattle.script_spec.specs.declared.script.Step.{Step as SessionStep};
 ghost use Rattle.history_check_spec.specs.Left.{Between, IsLoud};
-ghost use Rattle.history_turns.specs.Moves.{Comes, ComesThere, IsHalted, Turned, line_behind};
+ghost use Rattle.history_turns.specs.Moves.{Comes, ComesThere, IsHalted, Turned, left_by};
 ghost use Rattle.history_turns.specs.Seats.{HasPinnedTop, IsAt, IsBetween, IsOwed, IsPinBy, phase_of};
 
 use crate::blocks::{begin_again, commit_line};
@@ -197,7 +197,8 @@ fn is_between(at: &At) -> bool
 /// The place of the next line behind a call of this one: a transaction that is run again stays at its commit.
 fn behind(at: &At, line: usize) -> usize
     requires { line < 2 ^ 63 }
-    ensures { result ≡ line_behind at.now line }
+    ensures left { (steps : List SessionStep) (step : SessionStep) → drop line steps ≡ step ∷ drop (line + 1) steps → drop result steps ≡ left_by at.now step (drop (line + 1) steps) }
+    ensures within { (count : ℕ) → line < count → result ≤ count }
 {
     match at {
         At::OwesAgain(_) => line,

@@ -82,4 +82,5 @@ returns c =
     let passed = rw c.in-Some.is at c.in_ok-at.ensures in
     let less = here_less c.args.lines.now c.in-Some.line c.if-line-lines.false passed.within in
     turned_line c.args.core.now c.args.caller (steps_of c.args.lines.now) c.args.seat c.history_is_legal.ensures.history.legal c.requires.at c.pass_quiet.new.said.items c.in-Some.at c.in-Some.line passed c.args.release _ (less_steps c.args.lines.now c.in-Some.line less) (line_at c.args.lines.now c.in-Some.line c.index-lines-line.result less)
-    c.step_call.new.core _ c.behind-line.ensures (rw c.in-Some-3.is at c.in_ok-at-3.ensures)
+    c.step_call.new.core _ (c.behind-line.ensures.left (steps_of c.args.lines.now) _ (line_at c.args.lines.now c.in-Some.line c.index-lines-line.result less)) (c.behind-line.ensures.within (length (steps_of c.args.lines.now)) (less_steps c.args.lines.now c.in-Some.line less))
+    (rw c.in-Some-3.is at c.in_ok-at-3.ensures)
