@@ -31,9 +31,8 @@ impl<'a, S: Shown> Appended for Line<'a, S> {
 /// Writes the lines of all that an electrical check finds in a design, and behind them `end`. Nothing is written before all is found:
 /// memory is wanted as the check wants it, and for a piece of some kilobytes.
 ///
-/// `FlatError` is the one error of all calls that write what the items of a design come to: its lines, its pin table, and this. `NoTop` comes
-/// exactly where the design has no top, and then the sink is as it was. After another error a front of that text was written. `WriteFault`
-/// comes only where the sink had a fault.
+/// `NoTop` comes exactly where the design has no top, and then the sink is as it was. After another error a front of that text was written.
+/// `WriteFault` comes only where the sink had a fault.
 pub fn write_findings<S: Shown, K: Sink>(
     alloc: Global,
     design: &S,

@@ -1,11 +1,12 @@
-//! Why a flattening was not written to its end.
+//! Why what a flattening comes to was not written to its end.
 ghost use Rattle.std.specs.Prelude.{◌≡◌};
 ghost use Rattle.flat_writer.specs.Outcome.{outcome_of};
 
 use netdb_outside::WriteError;
 use thiserror::Error;
 
-/// Why a flattening was not written to its end.
+/// Why what the items of a design come to was not written to its end: their lines, made by one worker or by many, the pin table, or the
+/// findings of an electrical check. All calls that write one of these have this error.
 #[derive(Clone, Copy, Debug, PartialEq, Eq, Error)]
 pub enum FlatError {
     /// The design has no top.

@@ -1,15 +1,12 @@
 -- What the ends of all scripts tell of the report.
-use Rattle.std.proofs.Common.{◌≡◌, ◌∙◌, ℕ, zero, suc, ◌+◌, ◌≤◌, ◌<◌, List, [], ◌∷◌, length, refl, ap, sym, subst, arith}
-use Rattle.std.specs.Prelude.{slice_index_or}
+use Rattle.std.proofs.Common.{◌≡◌, ◌∙◌, ℕ, ◌+◌, ◌≤◌, ◌<◌, List, [], ◌∷◌, length, refl, ap, sym, subst}
 use Rattle.std.specs.List.{All, AllByRecursion}
 use Rattle.std.proofs.lemmas.List.Elements.{All-from_recursion}
-use Rattle.netlist_schema.specs.Design.{Design}
 use Rattle.db_spec.specs.History.{Legal}
 use Rattle.db_spec.specs.declared.event.Event.{Event}
 use Rattle.db_core.specs.Story.{Story}
 use Rattle.script_spec.specs.Laws.{OneReport}
-use Rattle.script_spec.specs.Report.{HasFilled, Prints, Sessions, SessionResult as Came, head_design}
-use Rattle.script_spec.specs.Session.{Session}
+use Rattle.script_spec.specs.Report.{HasFilled, Prints, Sessions, SessionResult, head_design}
 use Rattle.script_spec.specs.declared.script.Step.{Step}
 use Rattle.script_run_spec.specs.Written.{written_report}
 use Rattle.script_run_spec.proofs.Texts.{report_is, transcripts}
@@ -19,7 +16,7 @@ use Rattle.history_check_spec.specs.Printed.{PrintsNone, PrintsOnly, PrintsSome}
 
 -- what all came to
 record AllCame (story : Story) (caller : ℕ) (scripts : List (List Step)) (texts : List (List ℕ)) : Type 0 where
-  results : List Came
+  results : List SessionResult
   fit : Sessions story.opening story.events caller scripts results
   filled : AllByRecursion (λ came. HasFilled story.events came.ending) results
   texts_are : texts ≡ transcripts story.opening story.events results
@@ -48,7 +45,7 @@ written_prints story scripts texts legal callers all =
       callers = callers;
       results = came.results;
       fit = came.fit;
-      filled = All-from_recursion (λ (c : Came). HasFilled story.events c.ending) came.results came.filled;
+      filled = All-from_recursion (λ (c : SessionResult). HasFilled story.events c.ending) came.results came.filled;
       printed = ap (written_report (head_design story.opening story.events) story.events) came.texts_are ∙ sym (report_is story.opening story.events came.results);
     }
 

@@ -7,7 +7,7 @@ use Rattle.edif_spec.specs.Arranged.{canonical_text}
 use Rattle.db_spec.specs.History.{Legal, version_at}
 use Rattle.db_spec.specs.declared.event.Event.{Event}
 use Rattle.db_core.specs.Story.{Story}
-use Rattle.script_spec.specs.Report.{HasFilled, Prints, Sessions, SessionResult as Came, head_design, report as report_of, script_texts, transcript}
+use Rattle.script_spec.specs.Report.{HasFilled, Prints, Sessions, SessionResult, head_design, report as report_of, script_texts, transcript}
 use Rattle.script_spec.specs.Session.{Ending, Exchange, Nothing, Runs, Session, Word, exchanges}
 use Rattle.script_spec.specs.Texts.{event_texts, line}
 use Rattle.script_spec.specs.declared.script.Step.{Step}
@@ -23,7 +23,7 @@ use Rattle.history_turns.specs.declared.seats.Seat.{Seat}
 
 -- some session of a script, with the places that were wanting, whose transcript has at most so many bytes
 abbrev pub Filled : Design → List Event → ℕ → List Step → ℕ → Type 0
-Filled d history caller steps most = (came : Came) × Session d history caller steps came.said came.ending × HasFilled history came.ending × (length (transcript d history came.said) ≤ most)
+Filled d history caller steps most = (came : SessionResult) × Session d history caller steps came.said came.ending × HasFilled history came.ending × (length (transcript d history came.said) ≤ most)
 
 middle_within : (a b c : List ℕ) (most : ℕ) → length ((a ++ b) ++ c) ≤ most → (length b ≤ most) × (length c ≤ most)
 middle_within a b c most le =
@@ -31,7 +31,7 @@ middle_within a b c most le =
     let rest = length-append a b in
     (omega (arith, le, whole, rest), omega (arith, le, whole, rest))
 
-pub filled_at : (d : Design) (history : List Event) (most first : ℕ) (scripts : List (List Step)) (results : List Came) → Sessions d history first scripts results → All (λ (c : Came). HasFilled history c.ending) results
+pub filled_at : (d : Design) (history : List Event) (most first : ℕ) (scripts : List (List Step)) (results : List SessionResult) → Sessions d history first scripts results → All (λ (c : SessionResult). HasFilled history c.ending) results
     → length (script_texts d history first results) ≤ most → (k : ℕ) → k < length scripts → Filled d history (first + k) (slice_index_or scripts k []) most
 filled_at d history most first [] [] all filled le k less = absurd (omega (arith, less))
 filled_at d history most first [] (came ∷ results) all filled le k less = absurd all
@@ -47,7 +47,7 @@ filled_at d history most first (steps ∷ scripts) (came ∷ results) all filled
     (filled_at d history most (first + 1) scripts results all.1 (λ j c small. filled (suc j) c (omega (arith, small))) parts.1 k (omega (arith, less)))
 
 -- the transcripts are a part of the report
-scripts_within : (d : Design) (history : List Event) (results : List Came) → length (script_texts d history 0 results) ≤ length (report_of d history results)
+scripts_within : (d : Design) (history : List Event) (results : List SessionResult) → length (script_texts d history 0 results) ≤ length (report_of d history results)
 scripts_within d history results =
     let events = event_texts (head_design d history) 0 history in
     let scripts = script_texts d history 0 results in
@@ -121,7 +121,7 @@ module _ (story : Story) (more : List Event) (legal : Legal story.opening (story
       omega (arith, parts, same)
 
   -- one transcript and those behind it are a text
-  parts_within : (first : ℕ) (came : Came) (results : List Came) (a b : ℕ) → a ≤ length (transcript story.opening whole came.said) → b ≤ length (script_texts story.opening whole (first + 1) results)
+  parts_within : (first : ℕ) (came : SessionResult) (results : List SessionResult) (a b : ℕ) → a ≤ length (transcript story.opening whole came.said) → b ≤ length (script_texts story.opening whole (first + 1) results)
       → a + b ≤ length (script_texts story.opening whole first (came ∷ results))
   parts_within first came results a b one rest =
       let head = line (codes "script" ∷ decimal first ∷ []) in
@@ -143,7 +143,7 @@ module _ (story : Story) (more : List Event) (legal : Legal story.opening (story
       subst (λ (n : ℕ). Stands story n (slice_index_or scripts k []) (slice_index_or seats k d)) same (each (suc k) d (omega (arith, less)))
 
   -- all that was said is in the transcripts
-  all_within : (first : ℕ) (scripts : List (List Step)) (results : List Came) (seats : List Seat) → Sessions story.opening whole first scripts results → length seats ≡ length scripts → Each first scripts seats
+  all_within : (first : ℕ) (scripts : List (List Step)) (results : List SessionResult) (seats : List Seat) → Sessions story.opening whole first scripts results → length seats ≡ length scripts → Each first scripts seats
       → said_by seats ≤ length (script_texts story.opening whole first results)
   all_within first [] [] [] all many each = let none : said_by [] ≡ 0 = refl in omega (arith, none)
   all_within first [] [] (seat ∷ seats) all many each = absurd (omega (arith, many))
@@ -156,7 +156,7 @@ module _ (story : Story) (more : List Event) (legal : Legal story.opening (story
 
   module _ (fresh : Seat) (empty : fresh.said.items ≡ []) (x : ℕ) where
     -- what one caller says more than it has said is in the transcripts too
-    room_within : (first : ℕ) (scripts : List (List Step)) (results : List Came) (seats : List Seat) (c : ℕ) → Sessions story.opening whole first scripts results → length seats ≡ length scripts → Each first scripts seats
+    room_within : (first : ℕ) (scripts : List (List Step)) (results : List SessionResult) (seats : List Seat) (c : ℕ) → Sessions story.opening whole first scripts results → length seats ≡ length scripts → Each first scripts seats
         → c < length scripts → ((said : List Word) (ending : Ending) → Session story.opening whole (first + c) (slice_index_or scripts c []) said ending → x ≤ length (transcript story.opening whole said))
         → x + said_by (set seats c fresh) ≤ length (script_texts story.opening whole first results)
     room_within first [] results seats c all many each less long = absurd (omega (arith, less))

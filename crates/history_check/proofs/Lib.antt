@@ -3,5 +3,4 @@ pub mod Judging
 pub mod Lengths
 pub mod Replaying
 pub mod Seating
-pub mod WalkLemmas
 pub mod Wholes

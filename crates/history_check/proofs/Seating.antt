@@ -1,8 +1,7 @@
 -- How all callers stand behind a call of one of them, and how their scripts end.
-use Rattle.std.proofs.Common.{Bor, ◌≡◌, ◌∙◌, ℕ, zero, suc, ◌+◌, ◌-◌, ◌≤◌, ◌<◌, List, [], ◌∷◌, ◌++◌, inl, inr, length, drop, take, get_or, set, refl, ap, sym, subst, arith, length-append, append_assoc, append-nil}
-use Rattle.std.specs.Prelude.{◌↔◌, ◌⊎◌, MatchOption, Option, Some, None, Bool, true, false, IfOk, IsTrue, MatchBool, Result, Ok, Err, codes, decimal, slice_index_or}
+use Rattle.std.proofs.Common.{◌≡◌, ◌∙◌, ℕ, zero, suc, ◌+◌, ◌-◌, ◌≤◌, ◌<◌, List, [], ◌∷◌, ◌++◌, inl, inr, length, drop, take, get_or, set, refl, ap, sym, subst, arith, length-append, append_assoc, append-nil}
+use Rattle.std.specs.Prelude.{◌↔◌, ◌⊎◌, MatchOption, Option, Some, None, Bool, true, false, IsTrue, MatchBool, codes, decimal, slice_index_or}
 use Rattle.std.specs.List.{All}
-use Rattle.std.specs.Option.{option_copied}
 use Rattle.std.proofs.lemmas.Bool.{cases_eq}
 use Rattle.std.proofs.lemmas.List.{get_or-set_other, get_or_append_left, length-map, length-set}
 use Rattle.std.proofs.Math.Seq.{get_or-append_seam}
@@ -12,7 +11,7 @@ use Rattle.netlist_schema.specs.Design.{Design}
 use Rattle.db_spec.specs.History.{Legal}
 use Rattle.db_spec.specs.declared.event.Event.{Event}
 use Rattle.db_core.specs.Calls.{event_of}
-use Rattle.db_core.specs.Story.{Story, shot, state}
+use Rattle.db_core.specs.Story.{Story}
 use Rattle.script_spec.specs.Headline.{CanWalk, HasWalk, SomeWalks}
 use Rattle.script_spec.specs.ScriptText.{Parts, steps_of}
 use Rattle.script_spec.specs.Laws.{OneReport}
@@ -22,10 +21,11 @@ use Rattle.script_spec.specs.declared.script.ScriptLine.{ScriptLine}
 use Rattle.script_spec.specs.declared.script.Step.{Step}
 use Rattle.script_run_spec.specs.Scripts.{all_steps}
 use Rattle.script_run_spec.specs.Written.{written_report}
+use Rattle.script_walks.proofs.TopLemmas.{lacks_none}
 use Rattle.history_check_spec.proofs.Heads.{event_head}
 use Rattle.history_check.specs.Follow.{AllEnd, AllStand, CallComes, Ends, EndsNever, IsCalled, IsRestOf, IsStopped, IsTooLong, IsBehind, Reached, SomeNever, said_by}
 use Rattle.history_turns.specs.Moves.{IsHalted, IsStuck, SaysTooMuch, Turned}
-use Rattle.history_turns.specs.Seats.{HasPlace, HasTop, IsAt, IsOpen, Stands, phase_of}
+use Rattle.history_turns.specs.Seats.{HasPlace, HasPinnedTop, IsAt, IsOpen, Stands, phase_of}
 use Rattle.report_parts.specs.Parts.{Heads, HeadsNone}
 use Rattle.history_check_spec.specs.Printed.{CannotWalk, PrintsNone, PrintsOnly, PrintsSome}
 use Rattle.report_parts.specs.declared.heads.Next.{Next}
@@ -63,7 +63,7 @@ walk_here (steps ∷ scripts) (suc k) less walk = inr (walk_here scripts k (omeg
 
 -- a pin can be walked where its script walks
 pub top_here : (story : Story) (scripts : List (List Step)) (k : ℕ) (steps : List Step) (seat : Seat) → Legal story.opening story.events → CanWalk story.opening scripts → k < length scripts
-    → slice_index_or scripts k [] ≡ steps → IsAt story k seat.at → HasWalk steps → HasTop seat.at
+    → slice_index_or scripts k [] ≡ steps → IsAt story k seat.at → HasWalk steps → HasPinnedTop seat.at
 top_here story scripts k steps seat legal can less is mine walk =
     has_top story k seat.at legal (can (walk_here scripts k less (subst (λ (z : List Step). HasWalk z) (sym is) walk))) mine
 
@@ -419,20 +419,6 @@ ends_so scripts all before rest texts events whole none count each story stand m
     let same : all ≡ before = whole ∙ ap (λ (z : List Seat). before ++ z) none ∙ append-nil before in
     ends_all story (all_steps scripts) before texts events (subst (λ (z : List Seat). AllStand story (all_steps scripts) z) same stand) many legal count each
 
--- ---- tops
-
-pub has_a_top : (d : Design) (scripts : List (List Step)) → (d.top ≡ None → ⊥) → IsTrue false ↔ CannotWalk d scripts
-has_a_top d scripts some = (λ h. absurd (cc h), λ lacks. absurd (some lacks.1))
-
-pub has_no_top : (d : Design) (scripts : List (List Step)) (r : Bool) → d.top ≡ None → IsTrue r ↔ SomeWalks scripts → IsTrue r ↔ CannotWalk d scripts
-has_no_top d scripts r none walks = (λ h. (walks.0 h, none), λ lacks. walks.1 lacks.0)
-
-pub lacks_none : (d : Design) (scripts : List (List Step)) (r : Bool) → IsTrue r ↔ CannotWalk d scripts → r ≡ false → ¬ CannotWalk d scripts
-lacks_none d scripts r iff is lacks = absurd (let holds = iff.1 lacks in cc (holds, is))
-
-pub can_walk : (d : Design) (scripts : List (List Step)) (r : Bool) → IsTrue r ↔ CannotWalk d scripts → r ≡ false → CanWalk d scripts
-can_walk d scripts r iff is walks none = lacks_none d scripts r iff is (walks, none)
-
 -- ---- the whole check
 
 -- the text does not begin as a report
@@ -478,11 +464,6 @@ behind_some {X} now old new scripts n seats called text o more all is =
     let event = event_of n.caller called.call called.answer in
     subst (λ (z : Option X). MatchOption z ((more : List ℕ) → ¬ (text ≡ event_text (head_design new.opening new.events) (length old.events) event ++ more))
     (λ more. text ≡ event_text (head_design new.opening new.events) (length old.events) event ++ now more)) is (all old.events event called.adds.events)
-
--- a top that is lent is there
-pub some_copied : {X : Type 0} (o : Option (Bor X)) (t : Option X) (x : Bor X) → o ≡ Some x → option_copied o ≡ t → t ≡ None → ⊥
-some_copied None t x is e none = absurd (cc is)
-some_copied (Some y) t x is e none = absurd (cc (e, none))
 
 pub no_more : (seats : List Seat) → length seats ≡ 0 → seats ≡ []
 no_more [] none = refl

@@ -1,20 +1,18 @@
 -- How far a replay has come, and what a report that is printed so goes on with.
-use Rattle.std.specs.Prelude.{◌≡◌, ◌<◌, ◌≤◌, ◌⊎◌, ◌+◌, ◌-◌, ℕ, Bool, true, false, Some, List, [], ◌∷◌, ◌++◌, codes, decimal, drop, length, set, slice_index_or}
+use Rattle.std.specs.Prelude.{◌≡◌, ◌<◌, ◌≤◌, ◌⊎◌, ◌+◌, ◌-◌, ℕ, Bool, true, false, Some, List, [], ◌∷◌, ◌++◌, codes, drop, length, set, slice_index_or}
 use Rattle.std.specs.List.{All}
 use Rattle.netlist_schema.specs.Design.{Design}
-use Rattle.edif_spec.specs.Arranged.{canonical_text}
 use Rattle.db_spec.specs.History.{version_at}
 use Rattle.db_spec.specs.declared.event.Answer.{Answer}
 use Rattle.db_spec.specs.declared.event.Call.{Call}
 use Rattle.db_spec.specs.declared.event.Event.{Event}
 use Rattle.db_core.specs.Calls.{Adds, event_of}
 use Rattle.db_core.specs.Story.{Story}
-use Rattle.script_spec.specs.Report.{HasFilled, Prints, SessionResult as Came, head_design, transcript}
+use Rattle.script_spec.specs.Report.{HasFilled, Prints, SessionResult, head_design, transcript}
 use Rattle.script_spec.specs.Session.{Ending, Full, LogFull, Nothing, Session, Whole, Word, exchanges}
 use Rattle.script_spec.specs.Texts.{event_texts, line}
-use Rattle.script_run_spec.specs.Written.{numbered_texts}
 use Rattle.script_spec.specs.declared.script.Step.{Step}
-use Rattle.history_check_spec.specs.Heads.{begins_with_r, behind_events, head_text}
+use Rattle.history_check_spec.specs.Heads.{behind_events}
 use Rattle.history_check_spec.specs.Left.{Between, EndsBy, Leads, NoEnd, Phase, next_call}
 use Rattle.history_turns.specs.Moves.{IsStuck, SaysTooMuch}
 use Rattle.history_turns.specs.Seats.{Stands, phase_of}
@@ -48,7 +46,7 @@ pub record Reached (story : Story) (steps : List Step) (caller : ℕ) : Type 0 w
   pub said : List Word
   pub leads : (more : List Event) → Leads (version_at story.opening (story.events ++ more)) (Between Nothing) steps (exchanges caller story.events) said phase lines
 
--- the next call of the caller was made, which is or is not a release as it was told, and all stand where that brings them
+-- the next call of the caller, a release or not as its head says, was made, and all stand where that brings them
 pub record IsCalled (old new : Story) (scripts : List (List Step)) (next : Next) (seats : List Seat) : Type 0 where
   pub reached : Reached old (slice_index_or scripts next.caller []) next.caller
   pub call : Call
@@ -94,7 +92,7 @@ IsEnd phase lines end.Never = (versions : ℕ → Design) → NoEnd versions pha
 
 -- the script fits its caller's events, the text is its transcript, and the log was full where it says so
 pub record Ends (story : Story) (caller : ℕ) (steps : List Step) (text : List ℕ) : Type 0 where
-  pub came : Came
+  pub came : SessionResult
   pub session : Session story.opening story.events caller steps came.said came.ending
   pub filled : HasFilled story.events came.ending
   pub text_is : text ≡ transcript story.opening story.events came.said

@@ -1,3 +1,2 @@
 pub mod Follow
 pub mod Verdicts
-pub mod Walking

@@ -1,5 +1,5 @@
 //! Whether a report is true.
-ghost use Rattle.std.specs.Prelude.{◌≡◌, ◌≤◌, ◌↔◌, [], List, IfOk, IsTrue, MatchBool, MatchOption, length, vec_len};
+ghost use Rattle.std.specs.Prelude.{◌≡◌, ◌≤◌, [], List, IfOk, MatchBool, MatchOption, length, vec_len};
 ghost use Rattle.db_spec.specs.Answers.{most_events};
 ghost use Rattle.script_spec.specs.Headline.{CanWalk};
 ghost use Rattle.script_run_spec.specs.Scripts.{all_steps};
@@ -11,16 +11,16 @@ ghost use Rattle.history_turns.specs.Seats.{HasPlace};
 ghost use Rattle.history_turns.specs.declared.seats.Seat.{Seat as SeatFacts};
 ghost use Rattle.history_check.specs.declared.check.CheckError.TheVariants.{NoMemory as OutOfMemory};
 ghost use Rattle.history_check.specs.Verdicts.{Checks};
-ghost use Rattle.history_check_spec.specs.Printed.{CannotWalk, PrintsNone, PrintsOnly, PrintsSome};
+ghost use Rattle.history_check_spec.specs.Printed.{PrintsNone, PrintsOnly, PrintsSome};
 
 use crate::ends::finish;
 use crate::replay::{open_seats, replay};
-use crate::walking::some_walks;
 use db_core::Core;
 use history_turns::Seat;
-use netlist_schema::{Design, NoMemory, Row, Shown, Text};
+use netlist_schema::{Design, NoMemory, Row, Text};
 use report_parts::{after, is_rest};
 use script_spec::{Script, one_report};
+use script_walks::cannot_walk;
 use std::alloc::Global;
 
 /// Whether a text is the report of some history.
@@ -119,16 +119,6 @@ fn check(
     }
 }
 
-/// Whether a script walks, and the design has no top.
-fn lacks_top(design: &Design, scripts: &[Script]) -> bool
-    ensures { IsTrue result ↔ CannotWalk design.now (all_steps scripts.now) }
-{
-    match design.top() {
-        Some(_) => false,
-        None => some_walks(scripts),
-    }
-}
-
 /// Whether a text is the report of a run of these scripts, at most 64, on this design: `Yes` exactly where it is the report of some
 /// history, which then is the only one, and legal; `No` exactly where there is none. `NoTop` comes exactly where a script walks and the
 /// design has no top.
@@ -145,7 +135,7 @@ pub fn check_report(
     ensures { Checks design (all_steps scripts.now) report.now result }
 {
     let rows = scripts.as_slice();
-    if lacks_top(&design, rows) {
+    if cannot_walk(&design, rows) {
         return Err(CheckError::NoTop);
     }
     let mut core = Core::new(alloc, design)?;

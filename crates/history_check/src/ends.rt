@@ -8,7 +8,7 @@ ghost use Rattle.script_spec.specs.ScriptText.{steps_of};
 ghost use Rattle.script_spec.specs.Session.{Nothing, OffPin};
 ghost use Rattle.history_check_spec.specs.Left.{AreLoud, Between};
 ghost use Rattle.history_check.specs.Follow.{Ends, EndsNever, IsEnd};
-ghost use Rattle.history_turns.specs.Seats.{HasTop, Stands, phase_of};
+ghost use Rattle.history_turns.specs.Seats.{HasPinnedTop, Stands, phase_of};
 
 use history_turns::{At, Seat, pass_quiet};
 use netlist_schema::{MOST_EVENTS, NoMemory, Text};
@@ -94,7 +94,7 @@ pub fn finish(
 ) -> Result<Option<Text>, NoMemory>
     requires few { events ≤ most_events }
     requires line { seat.line ≤ length lines.now }
-    requires top { HasWalk (steps_of lines.now) → HasTop seat.at }
+    requires top { HasWalk (steps_of lines.now) → HasPinnedTop seat.at }
     ensures { IfOk result (λ text. (story : Story) (caller : ℕ) → Stands story caller (steps_of lines.now) seat → events ≡ length story.events → Legal story.opening story.events
         → MatchOption text (EndsNever story caller (steps_of lines.now) most) (Ends story caller (steps_of lines.now))) }
 {

@@ -4,6 +4,5 @@
 mod check;
 mod ends;
 mod replay;
-mod walking;
 
 pub use check::{CheckError, Verdict, check_report};

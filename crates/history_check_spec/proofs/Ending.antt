@@ -1,14 +1,14 @@
 -- How a session ends whose caller makes no more calls.
-use Rattle.std.proofs.Common.{◌≡◌, ◌∙◌, ℕ, zero, suc, List, [], ◌∷◌, ◌++◌, inl, inr, refl, ap, sym}
+use Rattle.std.proofs.Common.{◌≡◌, ◌∙◌, ℕ, List, [], ◌∷◌, ◌++◌, inl, inr, refl, ap}
 use Rattle.netlist_schema.specs.Design.{Design}
 use Rattle.edit_spec.specs.declared.ops.Op.{Op}
 use Rattle.db_spec.specs.declared.event.Call.TheVariants as call
 use Rattle.db_spec.specs.declared.event.Answer.TheVariants as answer
-use Rattle.script_spec.specs.Session.{Ending, Exchange, Full, Goes, Held, InBlock, LogFull, Nothing, OffPin, OnPin, Refused, Runs, Stop, Told, Whole, Word, release}
+use Rattle.script_spec.specs.Session.{Ending, Exchange, Full, Goes, Held, InBlock, LogFull, Nothing, OffPin, OnPin, Refused, Stop, Told, Whole, Word, release}
 use Rattle.script_spec.specs.declared.script.Step.{Step}
 use Rattle.script_spec.specs.declared.script.Step.TheVariants as step
 use Rattle.history_check_spec.specs.Left.{Again, AreLoud, Between, EndsBy, NoEnd, Over, Owes, OwesAgain}
-use Rattle.history_check_spec.proofs.Committing.{commit, commits_by}
+use Rattle.history_check_spec.proofs.Committing.{commits_by}
 use Rattle.history_check_spec.proofs.Lines.{Line, from_line, refused_is, to_line}
 
 pub free_whole : (versions : ℕ → Design) → EndsBy versions (Between Nothing) [] [] Whole

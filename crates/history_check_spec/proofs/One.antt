@@ -57,7 +57,7 @@ module _ (d : Design) (scripts : List (List Step)) (text : List ℕ) (small : le
   -- the calls of two events that come next and have the same caller
   same_call : (history other : List Event) → Prints d scripts text history → Prints d scripts text other → (seen : List Event) (a b : Event) (more rest : List Event)
       → history ≡ seen ++ a ∷ more → other ≡ seen ++ b ∷ rest → a.caller ≡ b.caller → is_release a.call ≡ is_release b.call → a.caller < length scripts → a.call ≡ b.call
-  same_call history other p q seen a b more rest e f caller told less =
+  same_call history other p q seen a b more rest e f caller same_kind less =
       let k = a.caller in
       let mine = session_of d history scripts p.results p.fit k less in
       let theirs = session_of d other scripts q.results q.fit k less in
@@ -69,7 +69,7 @@ module _ (d : Design) (scripts : List (List Step)) (text : List ℕ) (small : le
       let c = come (version_at d history) (Between Nothing) (script_of scripts k) (exchanges k seen) (Told a.call a.answer ∷ exchanges k more) mine.0.said mine.0.ending run_a in
       let first = next_is (version_at d history) (script_of scripts k) (exchanges k seen) c a.call a.answer (exchanges k more) mine.0.said mine.0.ending run_a in
       let second = next_is (version_at d other) (script_of scripts k) (exchanges k seen) c b.call b.answer (exchanges k rest) theirs.0.said theirs.0.ending run_b in
-      same_some a.call b.call (sym first ∙ ap (λ (r : Bool). next_call r c.next c.left) told ∙ second)
+      same_some a.call b.call (sym first ∙ ap (λ (r : Bool). next_call r c.next c.left) same_kind ∙ second)
 
   -- two events that come next in texts that go on in the same way
   same_next : (history other : List Event) → Prints d scripts text history → Prints d scripts text other → (seen : List Event) (a b : Event) (more rest : List Event) (number : ℕ) (s t : List ℕ)
@@ -79,9 +79,9 @@ module _ (d : Design) (scripts : List (List Step)) (text : List ℕ) (small : le
       let less_b = middle_holds (λ (x : Event). x.caller < length scripts) seen b rest (subst (λ (z : List Event). All (λ (x : Event). x.caller < length scripts) z) f q.callers) in
       let heads = same_heads number a.caller b.caller (behind_caller (head_design d history) a s) (behind_caller (head_design d other) b t) (omega (arith, less_a, small)) (omega (arith, less_b, small))
       (sym (event_head (head_design d history) number a s) ∙ texts ∙ event_head (head_design d other) number b t) in
-      let told : is_release a.call ≡ is_release b.call =
+      let same_kind : is_release a.call ≡ is_release b.call =
       sym (release_told (head_design d history) a s) ∙ ap begins_with_r heads.1 ∙ release_told (head_design d other) b t in
-      let call = same_call history other p q seen a b more rest e f heads.0 told less_a in
+      let call = same_call history other p q seen a b more rest e f heads.0 same_kind less_a in
       let admits_a = middle_admits d seen a more (subst (λ (z : List Event). Legal d z) e p.legal) in
       let admits_b = middle_admits d seen b rest (subst (λ (z : List Event). Legal d z) f q.legal) in
       let theirs = subst (λ (n : ℕ). Answers (state_after d seen) n a.call b.answer) (sym heads.0)

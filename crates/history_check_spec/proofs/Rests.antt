@@ -1,6 +1,6 @@
 -- What a report goes on with behind some events that were made again.
-use Rattle.std.proofs.Common.{◌≡◌, ◌∙◌, ℕ, ◌+◌, ◌<◌, ◌≤◌, ◌^◌, Bool, List, [], ◌∷◌, ◌++◌, length, refl, ap, sym, subst, arith, append_assoc, append-nil}
-use Rattle.std.specs.Prelude.{Option, Some, codes}
+use Rattle.std.proofs.Common.{◌≡◌, ◌∙◌, ℕ, ◌+◌, ◌<◌, ◌^◌, Bool, List, [], ◌∷◌, ◌++◌, length, refl, ap, sym, subst, arith, append_assoc, append-nil}
+use Rattle.std.specs.Prelude.{Some, codes}
 use Rattle.std.specs.List.{All}
 use Rattle.std.proofs.lemmas.List.{append_cancel_left, length-append}
 use Rattle.netlist_schema.specs.Design.{Design}
@@ -70,7 +70,7 @@ module _ (d : Design) (seen : List Event) (scripts : List (List Step)) (report r
   -- ---- an event is left
 
   -- the text goes on with the line of an event of this caller, which is a release or not
-  module _ (caller : ℕ) (r : Bool) (behind : List ℕ) (known : caller < length scripts) (head : rest ≡ head_text (length seen) caller behind) (told : r ≡ begins_with_r behind) where
+  module _ (caller : ℕ) (r : Bool) (behind : List ℕ) (known : caller < length scripts) (head : rest ≡ head_text (length seen) caller behind) (same_kind : r ≡ begins_with_r behind) where
     -- the next event of a history that prints the report
     pub record Next (history : List Event) (prints : Prints d scripts report history) : Type 0 where
       pub event : Event
@@ -98,7 +98,7 @@ module _ (d : Design) (seen : List Event) (scripts : List (List Step)) (report r
               more = more;
               is = is;
               caller_is = sym heads.0;
-              release = sym (release_told (head_design d history) x _) ∙ ap begins_with_r (sym heads.1) ∙ sym told;
+              release = sym (release_told (head_design d history) x _) ∙ ap begins_with_r (sym heads.1) ∙ sym same_kind;
               texts = texts;
             }
 

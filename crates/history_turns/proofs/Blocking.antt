@@ -30,7 +30,7 @@ use Rattle.history_check_spec.specs.Left.{Again, Between, Leads}
 use Rattle.history_check_spec.proofs.Committing.{accepted_leads, again_leads, conflict_leads, gave_up_leads}
 use Rattle.history_check_spec.proofs.Meeting.{head_grown}
 use Rattle.history_turns.specs.Moves.{Called, IsStuck, Moves, Owed, reply_lines}
-use Rattle.history_turns.specs.Seats.{IsPinBy, behind_conflict, phase_of}
+use Rattle.history_turns.specs.Seats.{IsPinBy, phase_of}
 use Rattle.history_turns.specs.declared.seats.At.{At}
 use Rattle.history_turns.specs.declared.seats.At.TheVariants as at
 use Rattle.history_turns.specs.declared.seats.Block.{Block}
@@ -98,42 +98,41 @@ module _ (old new : Story) (before text : List ℕ) (block : Block) (legal : Leg
     kept : IsPinBy new block.tx.pin.caller block.tx.pin
     kept = pin_kept old new event block.tx.pin.caller block.tx.pin legal adds (not_release block.tx.pin.number block.tx.ops block.tx.pin.number) (record { is_pin = mine; caller_is = refl })
 
--- by the retries that are left
-pub commit_conflict : (old new : Story) (before text : List ℕ) (tx : TxFacts) (retries : ℕ) → Legal old.opening old.events → IsPinOf old tx.pin → (object : Object) (w : ℕ)
+-- by the retries that are left, where the transaction is given back as it was
+pub commit_refused : (old new : Story) (before text : List ℕ) (tx : TxFacts) (retries : ℕ) (next : At) → Legal old.opening old.events → IsPinOf old tx.pin → (object : Object) (w : ℕ)
     → Adds old new (commit_event tx (answer.Conflict object w)) → text ≡ before ++ line (conflict_words (head_design new.opening new.events) object w)
-    → Called old new tx.pin.caller false (phase_of (at.InBlock (record { tx = tx; retries = retries }))) step.Commit before text (behind_conflict tx retries)
-commit_conflict old new before text tx zero legal mine object w adds e = record {
-  moves = λ lines. record {
-    call = commit_of tx;
-    answer = answer.Conflict object w;
-    adds = adds;
-    wanted = refl;
-    words = Conflict object w ∷ [];
-    leads = λ more. gave_up_leads (version_at new.opening (new.events ++ more)) tx.pin.number tx.pin.version tx.ops lines object w;
-    writes = conflict_writes old new before text (record { tx = tx; retries = 0 }) legal mine object w adds e;
-  };
-  pin = kept old new before text (record { tx = tx; retries = 0 }) legal mine object w adds e;
-}
-commit_conflict old new before text tx (suc n) legal mine object w adds e = record {
-  moves = λ lines. record {
-    call = commit_of tx;
-    answer = answer.Conflict object w;
-    adds = adds;
-    wanted = refl;
-    words = Conflict object w ∷ [];
-    leads = λ more. conflict_leads (version_at new.opening (new.events ++ more)) tx.pin.number tx.pin.version n tx.ops lines object w;
-    writes = conflict_writes old new before text (record { tx = tx; retries = suc n }) legal mine object w adds e;
-  };
-  pin = kept old new before text (record { tx = tx; retries = suc n }) legal mine object w adds e;
-}
-
--- the transaction comes back as it was
-pub commit_refused : (old new : Story) (before text : List ℕ) (block : Block) (tx : TxFacts) (next : At) → tx ≡ block.tx → next ≡ behind_conflict tx block.retries → Legal old.opening old.events → IsPinOf old block.tx.pin
-    → (object : Object) (w : ℕ) → Adds old new (commit_event block.tx (answer.Conflict object w)) → text ≡ before ++ line (conflict_words (head_design new.opening new.events) object w)
-    → Called old new block.tx.pin.caller false (phase_of (at.InBlock block)) step.Commit before text next
-commit_refused old new before text block tx next back is legal mine object w adds e =
-    subst (λ (a : At). Called old new block.tx.pin.caller false (phase_of (at.InBlock block)) step.Commit before text a) (sym (is ∙ ap (λ (t : TxFacts). behind_conflict t block.retries) back))
-    (commit_conflict old new before text block.tx block.retries legal mine object w adds e)
+    → (retries ≡ 0 → next ≡ at.Owes tx.pin) → ((left : ℕ) → retries ≡ suc left → next ≡ at.OwesAgain (record { tx = tx; retries = left }))
+    → Called old new tx.pin.caller false (phase_of (at.InBlock (record { tx = tx; retries = retries }))) step.Commit before text next
+commit_refused old new before text tx zero next legal mine object w adds e none again =
+    let block : Block = record { tx = tx; retries = 0 } in
+    subst (λ (a : At). Called old new tx.pin.caller false (phase_of (at.InBlock block)) step.Commit before text a) (sym (none refl))
+    (record {
+      moves = λ lines. record {
+        call = commit_of tx;
+        answer = answer.Conflict object w;
+        adds = adds;
+        wanted = refl;
+        words = Conflict object w ∷ [];
+        leads = λ more. gave_up_leads (version_at new.opening (new.events ++ more)) tx.pin.number tx.pin.version tx.ops lines object w;
+        writes = conflict_writes old new before text block legal mine object w adds e;
+      };
+      pin = kept old new before text block legal mine object w adds e;
+    })
+commit_refused old new before text tx (suc n) next legal mine object w adds e none again =
+    let block : Block = record { tx = tx; retries = suc n } in
+    subst (λ (a : At). Called old new tx.pin.caller false (phase_of (at.InBlock block)) step.Commit before text a) (sym (again n refl))
+    (record {
+      moves = λ lines. record {
+        call = commit_of tx;
+        answer = answer.Conflict object w;
+        adds = adds;
+        wanted = refl;
+        words = Conflict object w ∷ [];
+        leads = λ more. conflict_leads (version_at new.opening (new.events ++ more)) tx.pin.number tx.pin.version n tx.ops lines object w;
+        writes = conflict_writes old new before text block legal mine object w adds e;
+      };
+      pin = kept old new before text block legal mine object w adds e;
+    })
 
 -- ---- again
 

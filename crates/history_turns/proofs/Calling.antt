@@ -310,8 +310,8 @@ module _ (old new : Story) (caller : ℕ) (pin : PinFacts) (before text : List �
     pin = tt;
   }
 
-  pub gave_up_pin : Called old new caller true (Between (OnPin pin.number pin.version)) step.Collect before text next
-  gave_up_pin = subst (λ (a : At). Called old new caller true (Between (OnPin pin.number pin.version)) step.Collect before text a) (sym g.over) over_pin
+  pub cut_off_pin : Called old new caller true (Between (OnPin pin.number pin.version)) step.Collect before text next
+  cut_off_pin = subst (λ (a : At). Called old new caller true (Between (OnPin pin.number pin.version)) step.Collect before text a) (sym g.over) over_pin
 
   over_block : (retries : ℕ) (ops : List Op) → Called old new caller true (Between (InBlock pin.number pin.version retries ops)) step.Commit before text (at.Over 1)
   over_block retries ops = record {
@@ -327,14 +327,14 @@ module _ (old new : Story) (caller : ℕ) (pin : PinFacts) (before text : List �
     pin = tt;
   }
 
-  pub gave_up_block : (retries : ℕ) (ops : List Op) → Called old new caller true (Between (InBlock pin.number pin.version retries ops)) step.Commit before text next
-  gave_up_block retries ops = subst (λ (a : At). Called old new caller true (Between (InBlock pin.number pin.version retries ops)) step.Commit before text a) (sym g.over) (over_block retries ops)
+  pub cut_off_block : (retries : ℕ) (ops : List Op) → Called old new caller true (Between (InBlock pin.number pin.version retries ops)) step.Commit before text next
+  cut_off_block retries ops = subst (λ (a : At). Called old new caller true (Between (InBlock pin.number pin.version retries ops)) step.Commit before text a) (sym g.over) (over_block retries ops)
 
 -- the pin of a transaction
-pub gave_up_commit : (old new : Story) (caller : ℕ) (block : Block) (pin : PinFacts) (before text : List ℕ) (next : At) → pin ≡ block.tx.pin → IsPinBy old caller block.tx.pin → IsCutOff old new pin before text next
+pub cut_off_commit : (old new : Story) (caller : ℕ) (block : Block) (pin : PinFacts) (before text : List ℕ) (next : At) → pin ≡ block.tx.pin → IsPinBy old caller block.tx.pin → IsCutOff old new pin before text next
     → Called old new caller true (phase_of (at.InBlock block)) step.Commit before text next
-gave_up_commit old new caller block pin before text next is mine g =
-    gave_up_block old new caller block.tx.pin before text next mine (subst (λ (p : PinFacts). IsCutOff old new p before text next) is g) block.retries block.tx.ops
+cut_off_commit old new caller block pin before text next is mine g =
+    cut_off_block old new caller block.tx.pin before text next mine (subst (λ (p : PinFacts). IsCutOff old new p before text next) is g) block.retries block.tx.ops
 
 -- ---- the end of the lines, and what is owed
 

@@ -23,10 +23,11 @@ use Rattle.script_run_spec.proofs.Along.{transcript-append}
 use Rattle.history_check_spec.specs.Left.{AreLoud, Between, IsLoud, Leads, Phase}
 use Rattle.history_check_spec.proofs.Leading.{leads_nowhere, leads_on}
 use Rattle.history_check_spec.proofs.Meeting.{others_next, own_next}
-use Rattle.history_turns.specs.Moves.{Called, Comes, ComesThere, HasPassed, IsStuck, Moves, Owed, Passes, Turned, left_by, line_behind}
-use Rattle.history_turns.specs.Seats.{HasTop, IsAt, IsOpen, Stands, phase_of}
+use Rattle.history_turns.specs.Moves.{Called, Comes, ComesThere, HasPassed, IsStuck, Moves, Owed, Passes, Turned, left_by}
+use Rattle.history_turns.specs.Seats.{HasPinnedTop, IsAt, IsOpen, Stands, phase_of}
 use Rattle.history_turns.specs.declared.seats.At.{At}
 use Rattle.history_turns.specs.declared.seats.At.TheVariants as at
+use Rattle.history_turns.specs.declared.seats.Block.{Block}
 use Rattle.history_turns.specs.declared.seats.Seat.{Seat}
 use Rattle.history_turns.proofs.Calling.{others_kept}
 
@@ -143,7 +144,7 @@ pinned_top story pin legal mine =
     let first : state.first ≡ story.opening = (goes_on_from (opening story.opening) story.events).first in
     ap (λ (e : Design). e.top) mine.design ∙ sym grown.top ∙ ap (λ (e : Design). e.top) first
 
-pub has_top : (story : Story) (caller : ℕ) (a : At) → Legal story.opening story.events → (story.opening.top ≡ None → ⊥) → IsAt story caller a → HasTop a
+pub has_top : (story : Story) (caller : ℕ) (a : At) → Legal story.opening story.events → (story.opening.top ≡ None → ⊥) → IsAt story caller a → HasPinnedTop a
 has_top story caller at.Free legal top mine = tt
 has_top story caller (at.OnPin pin) legal top mine = λ none. top (sym (pinned_top story pin legal mine.is_pin) ∙ none)
 has_top story caller at.OffPin legal top mine = tt
@@ -155,26 +156,16 @@ has_top story caller (at.Over places) legal top mine = tt
 
 -- ---- the turn of a caller
 
--- the place behind a call of a line
-drop_behind : (a : At) (k : ℕ) (steps : List Step) (s : Step) → drop k steps ≡ s ∷ drop (k + 1) steps → drop (line_behind a k) steps ≡ left_by a s (drop (k + 1) steps)
-drop_behind at.Free k steps s e = refl
-drop_behind (at.OnPin pin) k steps s e = refl
-drop_behind at.OffPin k steps s e = refl
-drop_behind (at.InBlock block) k steps s e = refl
-drop_behind (at.Owes pin) k steps s e = refl
-drop_behind (at.OwesAgain block) k steps s e = e
-drop_behind (at.Again ops retries) k steps s e = refl
-drop_behind (at.Over places) k steps s e = refl
-
-behind_within : (a : At) (k n : ℕ) → k < n → line_behind a k ≤ n
-behind_within at.Free k n less = omega (arith, less)
-behind_within (at.OnPin pin) k n less = omega (arith, less)
-behind_within at.OffPin k n less = omega (arith, less)
-behind_within (at.InBlock block) k n less = omega (arith, less)
-behind_within (at.Owes pin) k n less = omega (arith, less)
-behind_within (at.OwesAgain block) k n less = omega (arith, less)
-behind_within (at.Again ops retries) k n less = omega (arith, less)
-behind_within (at.Over places) k n less = omega (arith, less)
+-- behind another call of a line than a commit whose transaction is to be run again, that line is passed
+pub others_left : (a : At) (s : Step) (lines : List Step) → ((block : Block) → a ≡ at.OwesAgain block → ⊥) → left_by a s lines ≡ lines
+others_left at.Free s lines other = refl
+others_left (at.OnPin pin) s lines other = refl
+others_left at.OffPin s lines other = refl
+others_left (at.InBlock block) s lines other = refl
+others_left (at.Owes pin) s lines other = refl
+others_left (at.OwesAgain block) s lines other = absurd (other block refl)
+others_left (at.Again ops retries) s lines other = refl
+others_left (at.Over places) s lines other = refl
 
 module _ (old : Story) (caller : ℕ) (steps : List Step) (seat : Seat) (legal : Legal old.opening old.events) (mine : IsAt old caller seat.at) (mid : List ℕ) (a : At) (k : ℕ)
     (passed : HasPassed seat.at steps seat.line seat.said.items mid a k) (r : Bool) where
@@ -208,14 +199,14 @@ module _ (old : Story) (caller : ℕ) (steps : List Step) (seat : Seat) (legal :
     pub stuck_line : ((lines : List Step) → IsStuck old r (phase_of a) (s ∷ lines)) → IsStuck old r (phase_of seat.at) (drop seat.line steps)
     stuck_line stuck = stuck_there (subst (λ (z : List Step). IsStuck old r (phase_of a) z) (sym here) (stuck (drop (k + 1) steps)))
 
-    pub turned_line : (new : Story) (next : Seat) → next.line ≡ line_behind next.at k → Called old new caller r (phase_of a) s mid next.said.items next.at → Turned old new caller r steps seat next
-    turned_line new next is c =
+    pub turned_line : (new : Story) (next : Seat) → drop next.line steps ≡ left_by next.at s (drop (k + 1) steps) → next.line ≤ length steps → Called old new caller r (phase_of a) s mid next.said.items next.at → Turned old new caller r steps seat next
+    turned_line new next is inside c =
         let moves = subst (λ (z : List Step). Moves old new caller r (phase_of a) z mid next.said.items (phase_of next.at) (left_by next.at s (drop (k + 1) steps))) (sym here) (c.moves (drop (k + 1) steps)) in
-        let placed = subst (λ (z : List Step). Moves old new caller r (phase_of a) (drop k steps) mid next.said.items (phase_of next.at) z) (sym (ap (λ (n : ℕ). drop n steps) is ∙ drop_behind next.at k steps s here)) moves in
+        let placed = subst (λ (z : List Step). Moves old new caller r (phase_of a) (drop k steps) mid next.said.items (phase_of next.at) z) (sym is) moves in
         record {
           moves = moves_behind old new caller r (phase_of seat.at) (phase_of a) (phase_of next.at) (drop seat.line steps) (drop k steps) (drop next.line steps) seat.said.items mid next.said.items quiet placed;
           pin = c.pin;
-          within = subst (λ (n : ℕ). n ≤ length steps) (sym is) (behind_within next.at k (length steps) less);
+          within = inside;
         }
 
 -- ---- the end of the lines

@@ -23,9 +23,9 @@ use Rattle.history_turns.specs.declared.quiet.Quiet.TheVariants as quiet
 use Rattle.history_turns.specs.declared.seats.At.{At}
 use Rattle.history_turns.specs.declared.seats.At.TheVariants as at
 use Rattle.history_turns.specs.declared.seats.Seat.{Seat}
-use Rattle.history_turns.specs.Seats.{HasTop, IsAt, phase_of}
+use Rattle.history_turns.specs.Seats.{HasPinnedTop, IsAt, phase_of}
 
--- The next call of the caller was made, which is or is not a release as it was told, and has its answer; what it leads to is said.
+-- The next call of the caller, a release or not as is asked, was made and has its answer; what it leads to is said.
 pub record Moves (old new : Story) (caller : ℕ) (r : Bool) (phase : Phase) (lines : List Step) (before text : List ℕ) (next : Phase) (left : List Step) : Type 0 where
   pub call : Call
   pub answer : Answer
@@ -76,11 +76,6 @@ abbrev pub ComesThere : Story → Story → ℕ → Bool → Phase → List Step
 ComesThere old new caller r phase lines before text (Some next) = Owed old new caller r phase lines before text next
 ComesThere old new caller r phase lines before text None = IsStuck old r phase lines
 
--- the place of the next line behind such a call
-abbrev pub line_behind : At → ℕ → ℕ
-line_behind (at.OwesAgain block) line = line
-line_behind other line = line + 1
-
 -- the caller of a seat made its next call, and has a seat behind it
 pub record Turned (old new : Story) (caller : ℕ) (r : Bool) (steps : List Step) (seat next : Seat) : Type 0 where
   pub moves : Moves old new caller r (phase_of seat.at) (drop seat.line steps) seat.said.items next.said.items (phase_of next.at) (drop next.line steps)
@@ -100,7 +95,7 @@ pub record Passes (story : Story) (phase : Phase) (lines : List Step) (before te
 pub record Passed (at : At) (step : Step) (before text : List ℕ) (next : At) : Type 0 where
   pub passes : (story : Story) (caller : ℕ) (lines : List Step) → Legal story.opening story.events → IsAt story caller at → Passes story (phase_of at) (step ∷ lines) before text (phase_of next) lines
   pub pin : (story : Story) (caller : ℕ) → IsAt story caller at → IsAt story caller next
-  pub top : HasTop at → HasTop next
+  pub top : HasPinnedTop at → HasPinnedTop next
 
 -- what a line came to that may make no call
 abbrev pub QuietBy : At → Step → List ℕ → ℕ → List ℕ → Quiet → Type 0

@@ -1,8 +1,8 @@
 -- Where a caller stands, in the code and in its session.
-use Rattle.std.specs.Prelude.{◌≡◌, ℕ, zero, suc, List, [], ◌++◌, ◌≤◌, None, drop, length}
+use Rattle.std.specs.Prelude.{◌≡◌, ℕ, List, [], ◌++◌, ◌≤◌, None, drop, length}
 use Rattle.db_spec.specs.History.{Legal, version_at}
 use Rattle.db_spec.specs.declared.event.Event.{Event}
-use Rattle.edit_tx.specs.Facts.{PinFacts, TxFacts}
+use Rattle.edit_tx.specs.Facts.{PinFacts}
 use Rattle.db_core.specs.Story.{Story, IsPinOf}
 use Rattle.script_spec.specs.Headline.{HasWalk}
 use Rattle.script_spec.specs.Report.{transcript}
@@ -61,15 +61,10 @@ IsOwed (at.Again ops retries) = Unit {0}
 IsOwed (at.Over places) = Unit {0}
 IsOwed other = ⊥
 
--- where a conflict leads, by the retries that are left
-abbrev pub behind_conflict : TxFacts → ℕ → At
-behind_conflict tx zero = at.Owes tx.pin
-behind_conflict tx (suc retries) = at.OwesAgain (record { tx = tx; retries = retries })
-
 -- what can be walked there has a top
-abbrev pub HasTop : At → Type 0
-HasTop (at.OnPin pin) = pin.design.top ≡ None → ⊥
-HasTop other = Unit {0}
+abbrev pub HasPinnedTop : At → Type 0
+HasPinnedTop (at.OnPin pin) = pin.design.top ≡ None → ⊥
+HasPinnedTop other = Unit {0}
 
 -- a caller before its first line
 pub record IsOpen (seat : Seat) : Type 0 where
@@ -80,7 +75,7 @@ pub record IsOpen (seat : Seat) : Type 0 where
 -- there is a line of the script, or its end, and what can be walked there has a top where the script walks
 pub record HasPlace (steps : List Step) (seat : Seat) : Type 0 where
   pub within : seat.line ≤ length steps
-  pub top : HasWalk steps → HasTop seat.at
+  pub top : HasWalk steps → HasPinnedTop seat.at
 
 -- A caller has come so far in its script: its exchanges and what was said lead there, the text is what was said, however the history
 -- goes on, and the pin that is held is a live one.

@@ -1,5 +1,5 @@
 //! The calls of transactions that commit, and are run again after a conflict.
-ghost use Rattle.std.specs.Prelude.{◌≡◌, ◌++◌, ◌∷◌, [], Bool, IfOk, List, OnOk, false};
+ghost use Rattle.std.specs.Prelude.{◌≡◌, ◌++◌, ◌∷◌, [], ℕ, suc, Bool, IfOk, List, OnOk, false};
 ghost use Rattle.edit_spec.specs.Step.{run};
 ghost use Rattle.edit_tx.specs.Facts.{HasRun, started};
 ghost use Rattle.script_spec.specs.Session.{reply_behind};
@@ -9,7 +9,7 @@ ghost use Rattle.script_spec.specs.declared.script.Step.TheVariants.{Commit};
 ghost use Rattle.db_core.specs.Story.{IsPinOf};
 ghost use Rattle.history_check_spec.specs.Left.{Again};
 ghost use Rattle.history_turns.specs.Moves.{Comes, ComesThere, reply_lines};
-ghost use Rattle.history_turns.specs.Seats.{behind_conflict, phase_of};
+ghost use Rattle.history_turns.specs.Seats.{phase_of};
 
 use crate::lines::start;
 use crate::seats::{At, Block};
@@ -76,7 +76,8 @@ pub(crate) fn begin_again(
 
 /// What is owed behind a conflict: the release of the pin, and the transaction again where retries are left.
 fn behind_conflict(tx: Tx, retries: u32) -> At
-    ensures { result ≡ behind_conflict tx retries }
+    ensures spent { retries ≡ 0 → result ≡ At.Owes tx.pin }
+    ensures again { (left : ℕ) → retries ≡ suc left → result ≡ At.OwesAgain (record { tx = tx; retries = left }) }
 {
     if retries == 0 {
         return At::Owes(tx.abandon());

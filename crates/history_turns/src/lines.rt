@@ -1,11 +1,11 @@
 //! The calls of lines that pin, release and collect. Each function makes the next call of a caller, and says what its line says.
-ghost use Rattle.std.specs.Prelude.{◌≡◌, Bool, IfOk, false, true};
+ghost use Rattle.std.specs.Prelude.{◌≡◌, Bool, IfOk, false};
 ghost use Rattle.db_core.specs.Story.{IsPinOf};
 ghost use Rattle.edit_tx.specs.Facts.{started};
 ghost use Rattle.script_spec.specs.Session.{Nothing, OnPin};
 ghost use Rattle.history_check_spec.specs.Left.{Between};
 ghost use Rattle.history_turns.specs.Moves.{Called, Comes, IsCutOff};
-ghost use Rattle.history_turns.specs.Seats.{IsAt, IsFree, IsPinBy, phase_of};
+ghost use Rattle.history_turns.specs.Seats.{IsAt, IsFree, phase_of};
 
 use crate::seats::{At, Block};
 use db_core::{CollectError, Core, Pin, PinAtError, PinError, Tx};
@@ -140,7 +140,7 @@ pub(crate) fn abandon_line(
 }
 
 /// Ends a script whose call was refused since the log was full, and releases the pin that was held.
-pub(crate) fn give_up(core: &mut Core, pin: Pin, said: &mut Vec<u8>) -> Result<At, NoMemory>
+pub(crate) fn cut_off(core: &mut Core, pin: Pin, said: &mut Vec<u8>) -> Result<At, NoMemory>
     requires { IsPinOf core.old pin }
     ensures { IfOk result (IsCutOff core.old core.new pin said.old.items said.new.items) }
 {

@@ -1,16 +1,16 @@
 //! The next call of a caller, by where it stands.
-ghost use Rattle.std.specs.Prelude.{◌≡◌, ◌≤◌, ◌<◌, ◌^◌, [], Bool, IfOk, List, ℕ, MatchBool, MatchOption, drop, length};
+ghost use Rattle.std.specs.Prelude.{◌≡◌, ◌+◌, ◌≤◌, ◌<◌, ◌^◌, ◌∷◌, [], Bool, IfOk, List, ℕ, MatchBool, MatchOption, drop, length};
 ghost use Rattle.script_spec.specs.Headline.{HasWalk};
 ghost use Rattle.script_spec.specs.ScriptText.{steps_of};
 ghost use Rattle.script_spec.specs.Session.{Nothing, OffPin, OnPin};
 ghost use Rattle.script_spec.specs.declared.script.Step.{Step as SessionStep};
 ghost use Rattle.history_check_spec.specs.Left.{Between, IsLoud};
-ghost use Rattle.history_turns.specs.Moves.{Comes, ComesThere, IsHalted, Turned, line_behind};
-ghost use Rattle.history_turns.specs.Seats.{HasTop, IsAt, IsBetween, IsOwed, IsPinBy, phase_of};
+ghost use Rattle.history_turns.specs.Moves.{Comes, ComesThere, IsHalted, Turned, left_by};
+ghost use Rattle.history_turns.specs.Seats.{HasPinnedTop, IsAt, IsBetween, IsOwed, IsPinBy, phase_of};
 
 use crate::blocks::{begin_again, commit_line};
 use crate::lines::{
-    abandon_line, begin_line, collect_line, give_up, pin_at_line, pin_line, release_line,
+    abandon_line, begin_line, collect_line, cut_off, pin_at_line, pin_line, release_line,
 };
 use crate::quiet::pass_quiet;
 use crate::seats::{At, Block, Seat};
@@ -55,7 +55,7 @@ fn pin_call(
         Step::Release => Ok(Some(release_line(core, pin, said)?)),
         Step::Collect => {
             if release {
-                return Ok(Some(give_up(core, pin, said)?));
+                return Ok(Some(cut_off(core, pin, said)?));
             }
             collect_line(core, caller, At::OnPin(pin), said)
         }
@@ -97,7 +97,7 @@ fn block_call(
         Step::Abandon => Ok(Some(abandon_line(core, block, said)?)),
         Step::Commit => {
             if release {
-                return Ok(Some(give_up(core, block.tx.abandon(), said)?));
+                return Ok(Some(cut_off(core, block.tx.abandon(), said)?));
             }
             commit_line(alloc, core, block, said)
         }
@@ -106,7 +106,7 @@ fn block_call(
 }
 
 /// The call of a line that makes one.
-fn line_call(
+fn step_call(
     alloc: Global,
     core: &mut Core,
     caller: u32,
@@ -197,7 +197,8 @@ fn is_between(at: &At) -> bool
 /// The place of the next line behind a call of this one: a transaction that is run again stays at its commit.
 fn behind(at: &At, line: usize) -> usize
     requires { line < 2 ^ 63 }
-    ensures { result ≡ line_behind at.now line }
+    ensures left { (steps : List SessionStep) (step : SessionStep) → drop line steps ≡ step ∷ drop (line + 1) steps → drop result steps ≡ left_by at.now step (drop (line + 1) steps) }
+    ensures within { (count : ℕ) → line < count → result ≤ count }
 {
     match at {
         At::OwesAgain(_) => line,
@@ -205,7 +206,7 @@ fn behind(at: &At, line: usize) -> usize
     }
 }
 
-/// Makes the next call of a caller, which is told to be a release or not, and says what its lines say up to it. Nothing comes where
+/// Makes the next call of a caller, where it is asked for a release or for another call, and says what its lines say up to it. Nothing comes where
 /// there is no such call, or no room for it, or where the caller says more than so many bytes before it.
 pub fn take_turn(
     alloc: Global,
@@ -218,7 +219,7 @@ pub fn take_turn(
 ) -> Result<Option<Seat>, NoMemory>
     requires at { IsAt core.old caller seat.at }
     requires line { seat.line ≤ length lines.now }
-    requires top { HasWalk (steps_of lines.now) → HasTop seat.at }
+    requires top { HasWalk (steps_of lines.now) → HasPinnedTop seat.at }
     ensures { IfOk result (λ next. MatchOption next (IsHalted core.old release (phase_of seat.at) (drop seat.line (steps_of lines.now)) seat.said.items most) (Turned core.old core.new caller release (steps_of lines.now) seat)) }
 {
     core.history_is_legal();
@@ -239,7 +240,7 @@ pub fn take_turn(
         return Ok(Some(Seat { at, line, said }));
     }
     let step = &lines[line].step;
-    let Some(at) = line_call(alloc, core, caller, at, step, release, &mut said)? else {
+    let Some(at) = step_call(alloc, core, caller, at, step, release, &mut said)? else {
         return Ok(None);
     };
     let line = behind(&at, line);

@@ -3,7 +3,7 @@ ghost use Rattle.std.specs.Prelude.{◌≤◌, ℕ, IfOk, MatchOption, length};
 ghost use Rattle.script_spec.specs.Headline.{HasWalk, IsWalk};
 ghost use Rattle.script_spec.specs.ScriptText.{steps_of};
 ghost use Rattle.history_turns.specs.Moves.{HasPassed, PassesTooMuch, QuietBy};
-ghost use Rattle.history_turns.specs.Seats.{HasTop};
+ghost use Rattle.history_turns.specs.Seats.{HasPinnedTop};
 
 use crate::blocks::try_op;
 use crate::seats::{At, Block};
@@ -33,7 +33,7 @@ fn pin_line(
     most: usize,
     said: &mut Vec<u8>,
 ) -> Result<Quiet, NoMemory>
-    requires { IsWalk step.now → HasTop (At.OnPin pin) }
+    requires { IsWalk step.now → HasPinnedTop (At.OnPin pin) }
     ensures { IfOk result (QuietBy (At.OnPin pin) step.now said.old.items most said.new.items) }
 {
     match step {
@@ -90,7 +90,7 @@ fn quiet_line(
     most: usize,
     said: &mut Vec<u8>,
 ) -> Result<Quiet, NoMemory>
-    requires { IsWalk step.now → HasTop at }
+    requires { IsWalk step.now → HasPinnedTop at }
     ensures { IfOk result (QuietBy at step.now said.old.items most said.new.items) }
 {
     match at {
@@ -112,7 +112,7 @@ pub fn pass_quiet(
     said: &mut Vec<u8>,
 ) -> Result<Option<(At, usize)>, NoMemory>
     requires first { first ≤ length lines.now }
-    requires top { HasWalk (steps_of lines.now) → HasTop at }
+    requires top { HasWalk (steps_of lines.now) → HasPinnedTop at }
     ensures { IfOk result (λ stop. MatchOption stop (PassesTooMuch at (steps_of lines.now) first said.old.items most) (λ stop. HasPassed at (steps_of lines.now) first said.old.items said.new.items stop.0 stop.1)) }
 {
     let mut now = at;

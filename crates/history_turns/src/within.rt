@@ -79,7 +79,7 @@ fn say_most(
 ) -> Result<bool, NoMemory>
     ensures { IfOk result (IsSaid said.old.items (item_lines design.now.design (shown_items (Some limit) walk.old.left) ++ last_line (Some limit) walk.old.left) most said.new.items) }
 {
-    for _told in 0..limit {
+    for _shown in 0..limit {
         if said.len() > most {
             return Ok(false);
         }

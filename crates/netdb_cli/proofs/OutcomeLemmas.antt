@@ -16,7 +16,6 @@ use Rattle.netdb_spec.specs.declared.status.Status.TheVariants as status
 use Rattle.netdb_commands.proofs.InputLemmas.{stays}
 use Rattle.netdb_spec.specs.Gives.{OutputGives, RunGives, SummaryGives, TextGives, UsesGive}
 use Rattle.netdb_spec.specs.Checked.{CheckGives, VerdictGives}
-use Rattle.netdb_spec.specs.Output.{output, HasTop}
 use Rattle.netdb_spec.specs.Outcome.{Gives, ReportGives, ScriptsGive}
 
 -- a design that was read stays one, since no file changes
@@ -26,20 +25,6 @@ read_stays old new name d same read = record {
   reads_back = read.reads_back;
   file = stays old new name (λ bytes. IsDesignFile bytes d) same read.file;
 }
-
--- a text of a design that has all that is wanted
-pub served : (wanted : Wanted) (d : Design) (old new : Option (List ℕ)) (result : Status) → HasTop wanted d → TextGives (output wanted d) old new result → OutputGives wanted d old new result
-served wanted d old new status.Ok top h = (top, h)
-served wanted d old new status.Usage top h = absurd h
-served wanted d old new (status.Missing word) top h = absurd h
-served wanted d old new (status.ReadFault word) top h = absurd h
-served wanted d old new status.WriteFault top h = (top, h)
-served wanted d old new (status.BadEdif fault) top h = absurd h
-served wanted d old new (status.BadScript word line) top h = absurd h
-served wanted d old new (status.TooLarge word) top h = absurd h
-served wanted d old new status.NoTop top h = absurd h
-served wanted d old new status.LogFull top h = absurd h
-served wanted d old new status.NoMemory top h = (top, h)
 
 -- what was written is no fault in reading
 pub text_is_no_fault : (text : List ℕ) (old new : Option (List ℕ)) (word : ℕ) (result : Status) → TextGives text old new result → result ≡ status.ReadFault word → ⊥

@@ -6,7 +6,7 @@ ghost use Rattle.netdb_spec.specs.Command.{Asks, Check, IsCommand, IsGood, IsGoo
 ghost use Rattle.netdb_spec.specs.Due.{IsDue};
 ghost use Rattle.netdb_spec.specs.Counts.{CountsReading, CountsWriting};
 ghost use Rattle.netdb_spec.specs.Visits.{Adds, CommandReads, report_file, script_files};
-ghost use Rattle.netdb_spec.specs.Outcome.{Gives, ReadChecks, ReadGives, ReadUsesGive, ReportGives};
+ghost use Rattle.netdb_spec.specs.Outcome.{Gives, ReadChecks, ReadRunGives, ReadUsesGive, ReportGives};
 ghost use Rattle.netdb_spec.specs.Reads.{LeavesFiles, files_of};
 ghost use Rattle.script_spec.specs.declared.limits.TheConstants.{MOST_SCRIPTS};
 
@@ -62,7 +62,7 @@ fn run_files<R: Threads + Wait + Sync, F: Files, K: Sink, G: Gate + Sync>(
     gate: &G,
 ) -> Status
     requires { (1 ≤ length names.now) × (length names.now ≤ MOST_SCRIPTS) }
-    ensures gives { ReadGives design (spelled names.now) (F.told files.new) (K.written out.old) (K.written out.new) result }
+    ensures gives { ReadRunGives design (spelled names.now) (F.told files.new) (K.written out.old) (K.written out.new) result }
     ensures reading { CountsReading (F.faults files.old) (F.faults files.new) result }
     ensures writing { CountsWriting (K.faults out.old) (K.faults out.new) result }
     ensures files { SameFiles (F.told files.old) (F.told files.new) }

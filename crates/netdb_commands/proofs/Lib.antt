@@ -1,5 +1,4 @@
 pub mod InputLemmas
 pub mod TextLemmas
 pub mod VisitLemmas
-pub mod WalkLemmas
 pub mod WordLemmas

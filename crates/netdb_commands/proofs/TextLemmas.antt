@@ -1,5 +1,5 @@
 -- A text that was written of a design that has all that is wanted.
-use Rattle.std.proofs.Common.{◌≡◌, List, Option}
+use Rattle.std.proofs.Common.{List, Option}
 use Prim.Native.Nat.{ℕ}
 use Rattle.netlist_schema.specs.Design.{Design}
 use Rattle.netdb_spec.specs.declared.command.Wanted.{Wanted}

@@ -1,5 +1,5 @@
 //! The files of a command, read in the order of the words.
-ghost use Rattle.std.specs.Prelude.{◌≡◌, ◌≤◌, ◌+◌, ◌^◌, ◌<◌, ℕ, List, IfErr, IfOk, IfSome, MatchResult, length, vec_len};
+ghost use Rattle.std.specs.Prelude.{◌≡◌, ◌≤◌, ◌+◌, ◌<◌, ℕ, List, IfErr, IfOk, IfSome, MatchResult, length, vec_len};
 ghost use Rattle.netlist_schema.specs.declared.limits.TheConstants.{MOST_FILE_BYTES as MOST_DESIGN_BYTES};
 ghost use Rattle.netdb_outside.specs.Contents.{IsReadWhole};
 ghost use Rattle.netdb_outside.specs.Outside.{SameFiles};

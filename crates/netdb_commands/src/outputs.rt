@@ -1,13 +1,11 @@
 //! What is written of a design, of a run and of a generated run.
-ghost use Rattle.std.specs.Prelude.{◌≡◌, ◌≤◌, ◌↔◌, IsTrue, None, false, length};
-ghost use Rattle.std.specs.List.{list_any};
+ghost use Rattle.std.specs.Prelude.{◌≡◌, ◌≤◌, length};
 ghost use Rattle.edif_spec.specs.Arranged.{canonical_text};
-ghost use Rattle.script_spec.specs.Headline.{CanWalk, SomeWalks};
+ghost use Rattle.script_spec.specs.Headline.{CanWalk};
 ghost use Rattle.script_run_spec.specs.Scripts.{all_steps};
 ghost use Rattle.netdb_spec.specs.Command.{AreWorkers, IsGoodWanted, IsSize};
 ghost use Rattle.netdb_spec.specs.Gives.{OutputGives, RunGives, SummaryGives, TextGives, UsesGive};
 ghost use Rattle.netdb_spec.specs.Counts.{CountsWriting};
-ghost use Rattle.netdb_commands.specs.Walks.{is_walk};
 ghost use Rattle.script_spec.specs.declared.limits.TheConstants.{MOST_SCRIPTS};
 
 use edif_writer::write_design;
@@ -16,11 +14,12 @@ use flat_writer::{FlatError, write_flat, write_pin_table};
 use gen_run::summary;
 use netdb_outside::{Gate, Put, Sink, WriteError};
 use netdb_spec::{Status, Wanted};
-use netlist_schema::{Design, Shown};
+use netlist_schema::Design;
 use par_flat::write_par_flat;
 use run_uses::write_run_uses;
 use script_run_all::{RunEnd, write_run};
-use script_spec::{Script, Step};
+use script_spec::Script;
+use script_walks::cannot_walk;
 use std::alloc::Global;
 use std::sync::Wait;
 use std::thread::Threads;
@@ -143,45 +142,6 @@ pub fn write_output<R: Threads + Sync, G: Gate + Sync, K: Sink>(
     }
 }
 
-/// Whether a step walks.
-fn is_walking(step: &Step) -> bool
-    ensures { result ≡ is_walk step.now }
-{
-    matches!(step, Step::Walk { .. })
-}
-
-/// Whether a script walks.
-fn walks(script: &Script) -> bool
-    ensures { result ≡ list_any (λ line. is_walk line.step) script.now.lines }
-{
-    script.lines().iter().any(|line| is_walking(&line.step))
-}
-
-/// Whether one of scripts walks.
-fn one_walks(scripts: &[Script]) -> bool
-    ensures { result ≡ list_any (λ script. list_any (λ line. is_walk line.step) script.lines) scripts.now }
-{
-    scripts.iter().any(|script| walks(script))
-}
-
-/// Whether some script walks.
-fn some_walks(scripts: &[Script]) -> bool
-    ensures { IsTrue result ↔ SomeWalks (all_steps scripts.now) }
-{
-    one_walks(scripts)
-}
-
-/// Whether scripts want a top that a design lacks: one of them walks, and there is none.
-fn lacks_top(design: &Design, scripts: &[Script]) -> bool
-    ensures lacks { IsTrue result → SomeWalks (all_steps scripts.now) × (design.now.top ≡ None) }
-    ensures has { result ≡ false → CanWalk design.now (all_steps scripts.now) }
-{
-    if some_walks(scripts) {
-        return design.top().is_none();
-    }
-    false
-}
-
 /// Runs scripts on a design, and writes the report.
 fn report<R: Threads + Wait + Sync, K: Sink, G: Gate + Sync>(
     rt: &R,
@@ -217,7 +177,7 @@ pub fn write_report<R: Threads + Wait + Sync, K: Sink, G: Gate + Sync>(
     ensures gives { RunGives design (all_steps scripts.now) (K.written out.old) (K.written out.new) result }
     ensures counts { CountsWriting (K.faults out.old) (K.faults out.new) result }
 {
-    if lacks_top(&design, scripts) {
+    if cannot_walk(&design, scripts) {
         return Status::NoTop;
     }
     report(rt, alloc, design, scripts, gate, out)
@@ -258,7 +218,7 @@ pub fn write_with_uses<R: Threads + Wait + Sync, K: Sink, G: Gate + Sync>(
     ensures gives { UsesGive design (all_steps scripts.now) (K.written out.old) (K.written out.new) result }
     ensures counts { CountsWriting (K.faults out.old) (K.faults out.new) result }
 {
-    if lacks_top(&design, scripts) {
+    if cannot_walk(&design, scripts) {
         return Status::NoTop;
     }
     report_uses(rt, alloc, design, scripts, gate, out)

@@ -44,36 +44,41 @@ IsSize n = (1 ≤ n) × (n ≤ MOST_SIZE)
 abbrev pub IsCrew : List (List ℕ) → Type 0
 IsCrew scripts = (1 ≤ length scripts) × (length scripts ≤ MOST_SCRIPTS)
 
--- The words ask for this. Behind `write`, `flat`, `csv` and `erc` stands the name of a file: its text, the items of its flattening, its
--- pin table, what an electrical check finds. `used` behind `write` and a name asks for the text without what the top does not use;
--- `limit` and a number behind `flat` and a name for at most so many items; `workers` and a number for all of them, made by so many
--- workers. Behind `run` and `uses` stand the name of a design file and those of 1 to 64 scripts; behind `check` the name of a report
--- stands between these. Behind `gen` stands a size. Numbers are in decimal digits, without a sign and without a zero before them.
-abbrev pub Asks : List (List ℕ) → Request → Type 0
-Asks words (Show name Text) = words ≡ codes "write" ∷ name ∷ []
-Asks words (Show name (Items None)) = words ≡ codes "flat" ∷ name ∷ []
-Asks words (Show name (Items (Some limit))) = IsLimit limit × (words ≡ codes "flat" ∷ name ∷ codes "limit" ∷ decimal limit ∷ [])
-Asks words (Show name Pins) = words ≡ codes "csv" ∷ name ∷ []
-Asks words (Show name Used) = words ≡ codes "write" ∷ name ∷ codes "used" ∷ []
-Asks words (Show name (Spread workers)) = AreWorkers workers × (words ≡ codes "flat" ∷ name ∷ codes "workers" ∷ decimal workers ∷ [])
-Asks words (Show name Findings) = words ≡ codes "erc" ∷ name ∷ []
-Asks words (Run name scripts) = IsCrew scripts × (words ≡ codes "run" ∷ name ∷ scripts)
-Asks words (Generate n) = IsSize n × (words ≡ codes "gen" ∷ decimal n ∷ [])
-Asks words (Uses name scripts) = IsCrew scripts × (words ≡ codes "uses" ∷ name ∷ scripts)
-Asks words (Check name report scripts) = IsCrew scripts × (words ≡ codes "check" ∷ name ∷ report ∷ scripts)
-
 -- the number of workers is as it may be, where one is given
 abbrev pub IsGoodWanted : Wanted → Type 0
 IsGoodWanted (Spread workers) = AreWorkers workers
 IsGoodWanted wanted = Unit {0}
 
--- the numbers of a request are as they may be
+-- the numbers of a request are as they may be, and so is the number of its scripts
 abbrev pub IsGood : Request → Type 0
+IsGood (Show name (Items (Some limit))) = IsLimit limit
 IsGood (Show name wanted) = IsGoodWanted wanted
 IsGood (Run name scripts) = IsCrew scripts
 IsGood (Generate n) = IsSize n
 IsGood (Uses name scripts) = IsCrew scripts
 IsGood (Check name report scripts) = IsCrew scripts
+
+-- The words of a request. Behind `write`, `flat`, `csv` and `erc` stands the name of a file: its text, the items of its flattening, its
+-- pin table, what an electrical check finds. `used` behind `write` and a name asks for the text without what the top does not use;
+-- `limit` and a number behind `flat` and a name for at most so many items; `workers` and a number for all of them, made by so many
+-- workers. Behind `run` and `uses` stand the name of a design file and those of scripts; behind `check` the name of a report stands
+-- between these. Behind `gen` stands a size. Numbers are in decimal digits, without a sign and without a zero before them.
+abbrev pub words_of : Request → List (List ℕ)
+words_of (Show name Text) = codes "write" ∷ name ∷ []
+words_of (Show name (Items None)) = codes "flat" ∷ name ∷ []
+words_of (Show name (Items (Some limit))) = codes "flat" ∷ name ∷ codes "limit" ∷ decimal limit ∷ []
+words_of (Show name Pins) = codes "csv" ∷ name ∷ []
+words_of (Show name Used) = codes "write" ∷ name ∷ codes "used" ∷ []
+words_of (Show name (Spread workers)) = codes "flat" ∷ name ∷ codes "workers" ∷ decimal workers ∷ []
+words_of (Show name Findings) = codes "erc" ∷ name ∷ []
+words_of (Run name scripts) = codes "run" ∷ name ∷ scripts
+words_of (Generate n) = codes "gen" ∷ decimal n ∷ []
+words_of (Uses name scripts) = codes "uses" ∷ name ∷ scripts
+words_of (Check name report scripts) = codes "check" ∷ name ∷ report ∷ scripts
+
+-- the words ask for this: it is as it may be, and they are its words
+abbrev pub Asks : List (List ℕ) → Request → Type 0
+Asks words request = IsGood request × (words ≡ words_of request)
 
 -- the words are a command
 abbrev pub IsCommand : List (List ℕ) → Type 0

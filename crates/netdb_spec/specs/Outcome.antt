@@ -20,8 +20,8 @@ ScriptsGive names at Done told old new result =
     ⊎ ((scripts : List (List Step)) × AreRead told names scripts × IsLastRead told names × Done scripts)
 
 -- behind a design that was read, of a run: the scripts were read and run, and the report written
-abbrev pub ReadGives : Design → List (List ℕ) → Option Folder → Option (List ℕ) → Option (List ℕ) → Status → Type 0
-ReadGives d names told old new result = ScriptsGive names 2 (λ scripts. RunGives d scripts old new result) told old new result
+abbrev pub ReadRunGives : Design → List (List ℕ) → Option Folder → Option (List ℕ) → Option (List ℕ) → Status → Type 0
+ReadRunGives d names told old new result = ScriptsGive names 2 (λ scripts. RunGives d scripts old new result) told old new result
 
 -- of a run whose report has the uses of the last version behind it
 abbrev pub ReadUsesGive : Design → List (List ℕ) → Option Folder → Option (List ℕ) → Option (List ℕ) → Status → Type 0
@@ -47,7 +47,7 @@ Gives (Show name wanted) told old new result =
     ⊎ ((d : Design) × IsRead told name d × IsReadThrough told name MOST_FILE_BYTES × OutputGives wanted d old new result)
 Gives (Run name names) told old new result =
     (RefusesDesign told name result × (new ≡ old))
-    ⊎ ((d : Design) × IsRead told name d × ReadGives d names told old new result)
+    ⊎ ((d : Design) × IsRead told name d × ReadRunGives d names told old new result)
 Gives (Generate n) told old new result = SummaryGives n old new result
 Gives (Uses name names) told old new result =
     (RefusesDesign told name result × (new ≡ old))

@@ -1,21 +1,21 @@
 -- What a sink that compares tells.
-use Rattle.std.proofs.Common.{◌≡◌, ◌∙◌, ℕ, zero, suc, ◌+◌, ◌-◌, ◌<◌, ◌≤◌, ◌^◌, Bool, true, false, List, [], ◌∷◌, ◌++◌, inl, inr, length, map, take, drop, get_or, refl, ap, sym, subst, arith, length-append, length-drop, append_assoc, append-nil}
+use Rattle.std.proofs.Common.{◌≡◌, ◌∙◌, ℕ, zero, suc, ◌+◌, ◌-◌, ◌<◌, ◌≤◌, Bool, true, false, List, [], ◌∷◌, ◌++◌, inl, inr, length, map, take, drop, get_or, refl, ap, sym, subst, arith, length-append, length-drop, append_assoc, append-nil}
 use Rattle.std.specs.Prelude.{◌↔◌, Option, Some, None, IsTrue, is_some, not}
 use Rattle.std.proofs.Math.Seq.{take-add, take-append_seam, take-length, take-suc}
 use Rattle.std.proofs.lemmas.List.{append_cancel_left, length-take-le, take-append-drop}
 use Rattle.netdb_outside.specs.Outside.{Appends, AppendsFront, Rose, raised}
-use Rattle.report_parts.specs.Same.{Compares, IsCommon, IsOther, Parts, SameFacts, bytes_put, told}
+use Rattle.report_parts.specs.Same.{Compares, IsCommon, IsOther, PartsFrom, SameFacts, bytes_put, text_then_bytes}
 
 -- ---- bytes in common
 
-parts_at : (text piece : List ℕ) (k d e : ℕ) → k < length piece → k < length text → (get_or text k d ≡ get_or piece k e → ⊥) → Parts text (take (suc k) piece)
+parts_at : (text piece : List ℕ) (k d e : ℕ) → k < length piece → k < length text → (get_or text k d ≡ get_or piece k e → ⊥) → PartsFrom text (take (suc k) piece)
 parts_at [] piece k d e low less other more same = absurd (omega (arith, less))
 parts_at (t ∷ text) [] k d e low less other more same = absurd (omega (arith, low))
 parts_at (t ∷ text) (p ∷ piece) zero d e low less other more same = let head : t ≡ p = cc (same) in other head
 parts_at (t ∷ text) (p ∷ piece) (suc k) d e low less other more same =
     parts_at text piece k d e (omega (arith, low)) (omega (arith, less)) other more (append_cancel_left (p ∷ []) text (take (suc k) piece ++ more) (let head : t ≡ p = cc (same) in ap (λ (z : ℕ). z ∷ text) (sym head) ∙ same))
 
-parts_end : (text piece : List ℕ) (k : ℕ) → k < length piece → length text ≤ k → Parts text (take (suc k) piece)
+parts_end : (text piece : List ℕ) (k : ℕ) → k < length piece → length text ≤ k → PartsFrom text (take (suc k) piece)
 parts_end text piece k low less more same =
     let long = length-append (take (suc k) piece) more in
     let front = length-take-le (suc k) piece (omega (arith, low)) in
@@ -66,7 +66,7 @@ other_piece text piece same n b common less is =
     ∙ append_assoc (take same text) (take n (drop same text)) (b ∷ [])
     ∙ ap (λ (z : List ℕ). take same text ++ z) (ap (λ (z : List ℕ). z ++ b ∷ []) common.same ∙ ap (λ (c : ℕ). take n piece ++ c ∷ []) is ∙ sym (take-suc piece n b less))
 
-pub other_parts : (text piece : List ℕ) (same n b : ℕ) → IsCommon (drop same text) piece n → n < length piece → b ≡ get_or piece n b → Parts text (take (same + n) text ++ b ∷ [])
+pub other_parts : (text piece : List ℕ) (same n b : ℕ) → IsCommon (drop same text) piece n → n < length piece → b ≡ get_or piece n b → PartsFrom text (take (same + n) text ++ b ∷ [])
 other_parts text piece same n b common less is more whole =
     let front = other_piece text piece same n b common less is in
     common.other less more
@@ -84,12 +84,12 @@ stays_other text bytes piece faults now rose = ([], piece, refl, let none = appe
 
 -- ---- the sink
 
-pub puts : (old new : SameFacts) (piece : List ℕ) → Compares old new piece true → Appends (Some (told old)) (Some (told new)) piece
-puts old new piece is = ap Some (ap told is ∙ sym (append_assoc (map suc old.text) (0 ∷ old.bytes) piece))
+pub puts : (old new : SameFacts) (piece : List ℕ) → Compares old new piece true → Appends (Some (text_then_bytes old)) (Some (text_then_bytes new)) piece
+puts old new piece is = ap Some (ap text_then_bytes is ∙ sym (append_assoc (map suc old.text) (0 ∷ old.bytes) piece))
 
-pub puts_front : (old new : SameFacts) (piece : List ℕ) (r : Bool) → Compares old new piece r → AppendsFront (Some (told old)) (Some (told new)) piece
+pub puts_front : (old new : SameFacts) (piece : List ℕ) (r : Bool) → Compares old new piece r → AppendsFront (Some (text_then_bytes old)) (Some (text_then_bytes new)) piece
 puts_front old new piece true c = (piece, [], sym (append-nil piece), puts old new piece c)
-puts_front old new piece false c = (c.0, c.1, c.2, ap Some (ap told c.3 ∙ sym (append_assoc (map suc old.text) (0 ∷ old.bytes) c.0)))
+puts_front old new piece false c = (c.0, c.1, c.2, ap Some (ap text_then_bytes c.3 ∙ sym (append_assoc (map suc old.text) (0 ∷ old.bytes) c.0)))
 
 pub rises : (n : ℕ) → Rose n (raised n)
 rises n = grind arith
@@ -99,7 +99,7 @@ rose_by old new piece c = subst (λ (m : ℕ). Rose old.faults m) (sym (ap (λ (
 
 -- ---- what all of it tells
 
--- what stands before the end is told by the whole, and what stands behind it
+-- what stands before the end is known by the whole, and what stands behind it
 told_same : (a b x y : List ℕ) → map suc a ++ 0 ∷ x ≡ map suc b ++ 0 ∷ y → (a ≡ b) × (x ≡ y)
 told_same [] [] x y e = (refl, cc (e))
 told_same [] (d ∷ b) x y e = let wrong : 0 ≡ suc d = cc (e) in absurd (omega (arith, wrong))
@@ -110,16 +110,16 @@ told_same (c ∷ a) (d ∷ b) x y e =
     let rest = told_same a b x y (append_cancel_left (suc d ∷ []) (map suc a ++ 0 ∷ x) (map suc b ++ 0 ∷ y) (ap (λ (z : ℕ). z ∷ (map suc a ++ 0 ∷ x)) (sym first) ∙ e)) in
     (cc (one, rest.0), rest.1)
 
-put_all : (new : SameFacts) (text wanted : List ℕ) → Appends (Some (map suc text ++ 0 ∷ [])) (Some (told new)) wanted → (new.text ≡ text) × (new.bytes ≡ wanted)
+put_all : (new : SameFacts) (text wanted : List ℕ) → Appends (Some (map suc text ++ 0 ∷ [])) (Some (text_then_bytes new)) wanted → (new.text ≡ text) × (new.bytes ≡ wanted)
 put_all new text wanted e =
     let whole : map suc new.text ++ 0 ∷ new.bytes ≡ (map suc text ++ 0 ∷ []) ++ wanted = cc (e) in
     told_same new.text text new.bytes wanted (whole ∙ append_assoc (map suc text) (0 ∷ []) wanted)
 
 -- all was put
-pub whole_put : (old new : SameFacts) (text wanted : List ℕ) (r : Bool) → old ≡ record { text = text; bytes = []; faults = 0 } → Appends (Some (told old)) (Some (told new)) wanted → IsTrue r ↔ (new.text ≡ new.bytes)
+pub whole_put : (old new : SameFacts) (text wanted : List ℕ) (r : Bool) → old ≡ record { text = text; bytes = []; faults = 0 } → Appends (Some (text_then_bytes old)) (Some (text_then_bytes new)) wanted → IsTrue r ↔ (new.text ≡ new.bytes)
     → IsTrue r ↔ (text ≡ wanted)
 whole_put old new text wanted r is e iff =
-    let both = put_all new text wanted (subst (λ (s : SameFacts). Appends (Some (told s)) (Some (told new)) wanted) is e) in
+    let both = put_all new text wanted (subst (λ (s : SameFacts). Appends (Some (text_then_bytes s)) (Some (text_then_bytes new)) wanted) is e) in
     (λ h. sym both.0 ∙ iff.0 h ∙ both.1, λ h. iff.1 (both.0 ∙ h ∙ sym both.1))
 
 risen : (n : ℕ) → Rose 0 n → 0 < n
@@ -127,10 +127,10 @@ risen n (inl less) = less
 risen n (inr most) = omega (arith, most)
 
 -- there was a fault, so the text is another one
-pub other_put : (old new : SameFacts) (text wanted : List ℕ) (r : Bool) → old ≡ record { text = text; bytes = []; faults = 0 } → AppendsFront (Some (told old)) (Some (told new)) wanted → Rose old.faults new.faults
-    → (0 < new.faults → Parts new.text new.bytes) → IsTrue r ↔ (new.text ≡ new.bytes) → IsTrue r ↔ (text ≡ wanted)
+pub other_put : (old new : SameFacts) (text wanted : List ℕ) (r : Bool) → old ≡ record { text = text; bytes = []; faults = 0 } → AppendsFront (Some (text_then_bytes old)) (Some (text_then_bytes new)) wanted → Rose old.faults new.faults
+    → (0 < new.faults → PartsFrom new.text new.bytes) → IsTrue r ↔ (new.text ≡ new.bytes) → IsTrue r ↔ (text ≡ wanted)
 other_put old new text wanted r is e rose parts iff =
-    let both = put_all new text e.0 (subst (λ (s : SameFacts). Appends (Some (told s)) (Some (told new)) e.0) is e.3) in
+    let both = put_all new text e.0 (subst (λ (s : SameFacts). Appends (Some (text_then_bytes s)) (Some (text_then_bytes new)) e.0) is e.3) in
     let none : 0 < new.faults = risen new.faults (subst (λ (s : SameFacts). Rose s.faults new.faults) is rose) in (
       λ h. absurd (parts none [] (iff.0 h ∙ sym (append-nil new.bytes))),
       λ h. absurd (parts none e.1 (both.0 ∙ h ∙ e.2 ∙ ap (λ (z : List ℕ). z ++ e.1) (sym both.1))),
@@ -181,7 +181,7 @@ module _ (text piece : List ℕ) (same n faults : ℕ) (common_so : IsCommon (ta
   compared_other old None r now v e none part rose =
       subst (λ (s : SameFacts). Compares s (view text (same + n) (Some (get_or piece n 0)) now) piece false) v (other_compared text piece same n (get_or piece n 0) faults now common (less part) (byte part) rose)
 
-  pub other_kept : same ≤ length text → (n ≡ length piece → ⊥) → (same + n ≤ length text) × Parts text (take (same + n) text ++ get_or piece n 0 ∷ [])
+  pub other_kept : same ≤ length text → (n ≡ length piece → ⊥) → (same + n ≤ length text) × PartsFrom text (take (same + n) text ++ get_or piece n 0 ∷ [])
   other_kept le part =
       let long = length-drop same text in
       let within = common.in_text in

@@ -1,7 +1,7 @@
 //! `SameSink`: a sink that compares.
-ghost use Rattle.std.specs.Prelude.{◌≡◌, ◌<◌, ◌≤◌, ◌++◌, ◌↔◌, [], IsTrue, List, ℕ, Some, length, take};
+ghost use Rattle.std.specs.Prelude.{◌≡◌, ◌<◌, ◌≤◌, ◌↔◌, [], IsTrue, Some, length};
 ghost use Rattle.netdb_outside.specs.Outside.{Appends, AppendsFront, Rose};
-ghost use Rattle.report_parts.specs.Same.{Compares, IsCommon, Parts, told};
+ghost use Rattle.report_parts.specs.Same.{Compares, IsCommon, PartsFrom, text_then_bytes};
 
 use crate::heads::after;
 use netdb_outside::{Put, Sink};
@@ -91,20 +91,20 @@ impl<'a> SameSink<'a> {
     /// Whether the bytes that were put are just the text. Where there was a fault, the text does not begin with them.
     pub fn is_whole(&self) -> bool
         ensures whole { IsTrue result ↔ (self.now.text ≡ self.now.bytes) }
-        ensures parted { 0 < self.now.faults → Parts self.now.text self.now.bytes }
+        ensures parted { 0 < self.now.faults → PartsFrom self.now.text self.now.bytes }
     {
         self.other.is_none() && self.same == self.text.len()
     }
 }
 
 impl<'a> Sink for SameSink<'a> {
-    ghost written = { λ s. Some (told s) };
+    ghost written = { λ s. Some (text_then_bytes s) };
 
     ghost faults = { λ s. s.faults };
 
     fn put(&mut self, piece: &[u8]) -> Put
-        ensures put { result ≡ Put.Put → Appends (Some (told self.old)) (Some (told self.new)) piece.now }
-        ensures front { AppendsFront (Some (told self.old)) (Some (told self.new)) piece.now }
+        ensures put { result ≡ Put.Put → Appends (Some (text_then_bytes self.old)) (Some (text_then_bytes self.new)) piece.now }
+        ensures front { AppendsFront (Some (text_then_bytes self.old)) (Some (text_then_bytes self.new)) piece.now }
         ensures failed { result ≡ Put.Failed → Rose self.old.faults self.new.faults }
         ensures never_falls { self.old.faults ≤ self.new.faults }
     {

@@ -31,7 +31,7 @@ pub struct Case<'a> {
     pub failing: &'a [u64],
     /// How many bytes the sink takes.
     pub length: Option<u64>,
-    /// The status, as `told` tells it: one of these.
+    /// The status, as `shown` has it: one of these.
     pub ends: &'a [&'a str],
     pub writes: Writes<'a>,
 }
@@ -120,24 +120,24 @@ fn words(alloc: Global, words: &[&str]) -> Result<Vec<String>, AllocError> {
     Ok(made)
 }
 
-fn told_fault(alloc: Global, number: u8, fault: &EdifFault) -> Result<String, Fail> {
+fn shown_fault(alloc: Global, number: u8, fault: &EdifFault) -> Result<String, Fail> {
     let text = fault_text(alloc, fault)?;
     let text = String::from_utf8_lossy(alloc, text.as_slice())?;
     Ok(format!(in alloc; "{number} {text}")?)
 }
 
 /// The number of a status, and behind it the text of its fault, or the status as it stands in the code.
-fn told(alloc: Global, status: &Status) -> Result<String, Fail> {
+fn shown(alloc: Global, status: &Status) -> Result<String, Fail> {
     let number = status.number();
     match status {
-        Status::BadEdif { fault } => told_fault(alloc, number, fault),
+        Status::BadEdif { fault } => shown_fault(alloc, number, fault),
         other => Ok(format!(in alloc; "{number} {other:?}")?),
     }
 }
 
-fn is_one_of(told: &str, texts: &[&str]) -> bool {
+fn is_one_of(shown: &str, texts: &[&str]) -> bool {
     for text in texts {
-        if told == *text {
+        if shown == *text {
             return true;
         }
     }
@@ -188,26 +188,26 @@ fn piece_of<'a>(files: &'a [File<'a>]) -> Option<&'a &'a str> {
     files.first()?.1.last()
 }
 
-/// Compares what was told and written.
-fn compare(rt: &impl Abort, case: &Case, told: &str, written: &[u8]) {
-    let (ends, writes) = (is_one_of(told, case.ends), is_written(written, case));
+/// Compares a status as it is shown, and what was written.
+fn compare(rt: &impl Abort, case: &Case, shown: &str, written: &[u8]) {
+    let (ends, writes) = (is_one_of(shown, case.ends), is_written(written, case));
     let (words, piece) = (case.words, piece_of(case.files));
     assert!(rt;
         ends && writes,
-        "{words:?} {piece:?} give {told}, {written:?}"
+        "{words:?} {piece:?} give {shown}, {written:?}"
     );
 }
 
 /// Compares what came of a call.
-fn compare_told(
+fn compare_status(
     rt: &impl Abort,
     alloc: Global,
     case: &Case,
     status: &Status,
     written: &[u8],
 ) -> Result<(), Fail> {
-    let told = told(alloc, status)?;
-    compare(rt, case, &told, written);
+    let shown = shown(alloc, status)?;
+    compare(rt, case, &shown, written);
     Ok(())
 }
 
@@ -222,7 +222,7 @@ fn call<R: Abort + Threads + Wait + Sync, G: Gate + Sync>(
 ) -> Result<(), Fail> {
     let mut out = MemSink::new(alloc, case.length);
     let status = run_netdb(rt, alloc, words, files, &mut out, gate);
-    compare_told(rt, alloc, case, &status, out.written())
+    compare_status(rt, alloc, case, &status, out.written())
 }
 
 /// Calls the program with a gate, and compares what came of it.

@@ -70,14 +70,17 @@ static THREE_HOLDS: [Hold; 4] = [
     },
 ];
 
+/// The pair and three scripts.
+const THREE_FILES: &[File<'static>] = &[
+    ("F", &[PAIR]),
+    ("0", &[FIRST]),
+    ("1", &[SECOND]),
+    ("2", &[WALKING]),
+];
+
 /// Three scripts at once: none passes its holds unless the others run meanwhile.
 static THREE: Case<'static> = Case {
-    files: &[
-        ("F", &[PAIR]),
-        ("0", &[FIRST]),
-        ("1", &[SECOND]),
-        ("2", &[WALKING]),
-    ],
+    files: THREE_FILES,
     words: &["run", "F", "0", "1", "2"],
     writes: Writes::All(&[JOINT_REPORT]),
     ..WRITE
@@ -104,13 +107,16 @@ pub static TWO_HOLDS: [Hold; 2] = [
     },
 ];
 
+/// The pair, and two scripts that set one property of it.
+const RETRIED_FILES: &[File<'static>] = &[
+    ("F", &[PAIR]),
+    ("0", &["begin retry 1\nset-prop w A cell K int 1\ncommit\n"]),
+    ("1", &["begin retry 1\nset-prop w A cell K int 2\ncommit\n"]),
+];
+
 /// The second to commit meets a conflict, and its block is run again.
 pub static RETRIED: Case<'static> = Case {
-    files: &[
-        ("F", &[PAIR]),
-        ("0", &["begin retry 1\nset-prop w A cell K int 1\ncommit\n"]),
-        ("1", &["begin retry 1\nset-prop w A cell K int 2\ncommit\n"]),
-    ],
+    files: RETRIED_FILES,
     words: &["run", "F", "0", "1"],
     writes: Writes::All(&[RETRIED_REPORT]),
     ..WRITE
@@ -119,6 +125,36 @@ pub static RETRIED: Case<'static> = Case {
 #[test]
 fn a_block_is_run_again(rt: HostRuntime) -> Result<(), Fail> {
     check_held(&rt, rt.alloc(), &TWO_HOLDS, &RETRIED)
+}
+
+/// Who uses the cells of the pair, which no script changes.
+const PAIR_USES: &str =
+    "uses\ncell w A uses 1\n use w T a\ncell w B uses 1\n use w T b\ncell w T uses 0\n";
+
+/// The same run, with the uses of its last version.
+static RETRIED_USES: Case<'static> = Case {
+    files: RETRIED_FILES,
+    words: &["uses", "F", "0", "1"],
+    writes: Writes::All(&[RETRIED_REPORT, PAIR_USES]),
+    ..WRITE
+};
+
+#[test]
+fn uses_hold_two_callers_at_the_gate(rt: HostRuntime) -> Result<(), Fail> {
+    check_held(&rt, rt.alloc(), &TWO_HOLDS, &RETRIED_USES)
+}
+
+/// Three scripts at once, none of which passes its holds unless the others run meanwhile, and the uses of the last version.
+static THREE_USES: Case<'static> = Case {
+    files: THREE_FILES,
+    words: &["uses", "F", "0", "1", "2"],
+    writes: Writes::All(&[JOINT_REPORT, PAIR_USES]),
+    ..WRITE
+};
+
+#[test]
+fn uses_run_scripts_beside_each_other(rt: HostRuntime) -> Result<(), Fail> {
+    check_held(&rt, rt.alloc(), &THREE_HOLDS, &THREE_USES)
 }
 
 const BAD_LINE_1: &[&str] = &["7 BadScript { word: 2, line: 1 }"];

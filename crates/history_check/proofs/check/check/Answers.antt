@@ -1,4 +1,4 @@
-use Rattle.std.proofs.Common.{arith, Bor, List, ℕ, refl, subst, sym, ◌∙◌}
+use Rattle.std.proofs.Common.{arith, Bor, List, ℕ, subst, sym, ◌∙◌}
 use Rattle.script_run_spec.specs.Scripts.{all_steps}
 use Rattle.script_spec.specs.Headline.{CanWalk}
 use Rattle.report_parts.proofs.Comparing.{if_ok_on}
@@ -22,16 +22,16 @@ judge-requires-clause-top c =
 
 pub returns-in-None : goal.returns-in-None
 returns-in-None c =
-    let told = c.in_ok-rest.ensures.only c.args.report.now (omega arith) (begins_here c.args.core.now (all_steps c.args.scripts.now) c.args.report.now c.in-Some.events.now c.requires.fresh c.in-Some.ensures) in
-    rw c.in-None.is at told
+    let came = c.in_ok-rest.ensures.only c.args.report.now (omega arith) (begins_here c.args.core.now (all_steps c.args.scripts.now) c.args.report.now c.in-Some.events.now c.requires.fresh c.in-Some.ensures) in
+    rw c.in-None.is at came
 
 pub returns-in-Some-2 : goal.returns-in-Some-2
 returns-in-Some-2 c =
     let first = c.in-Some.events.now in
     let report = c.args.report.now in
     let same = rw c.in-Some-2.is at c.in_ok-rest.ensures.opening in
-    let told = c.in_ok-rest.ensures.only report (omega arith) (begins_here c.args.core.now (all_steps c.args.scripts.now) report first c.requires.fresh c.in-Some.ensures) in
-    let only = rw c.in-Some-2.is at told in
+    let came = c.in_ok-rest.ensures.only report (omega arith) (begins_here c.args.core.now (all_steps c.args.scripts.now) report first c.requires.fresh c.in-Some.ensures) in
+    let only = rw c.in-Some-2.is at came in
     let printed = rw c.in-Some-2.is at c.in_ok-rest.ensures.behind in
     let behind = printed report (behind_here c.args.core.now report first c.requires.fresh c.in-Some.ensures) in
     if_ok_on c.judge.result _ _ (λ r yes. verdict_of c.args.core.now.opening c.replay.new.core.opening (all_steps c.args.scripts.now) report r same

@@ -20,8 +20,8 @@ end_call-requires-clause-at c =
     let passed = rw c.in-Some.is at c.in_ok-at.ensures in
     still_at c.args.core.now c.args.caller (steps_of c.args.lines.now) c.args.seat c.history_is_legal.ensures.history.legal c.requires.at c.pass_quiet.new.said.items c.in-Some.at c.in-Some.line passed c.args.release
 
-pub line_call-requires-clause-at : goal.line_call-requires-clause-at
-line_call-requires-clause-at c =
+pub step_call-requires-clause-at : goal.step_call-requires-clause-at
+step_call-requires-clause-at c =
     let passed = rw c.in-Some.is at c.in_ok-at.ensures in
     still_at c.args.core.now c.args.caller (steps_of c.args.lines.now) c.args.seat c.history_is_legal.ensures.history.legal c.requires.at c.pass_quiet.new.said.items c.in-Some.at c.in-Some.line passed c.args.release
 
@@ -63,8 +63,8 @@ less_steps lines k less = let long = length-map lines (λ (l : ScriptLine). l.st
 here_less : (lines : List ScriptLine) (k : ℕ) → (k ≡ length lines → ⊥) → k ≤ length (steps_of lines) → k < length lines
 here_less lines k other le = let long = length-map lines (λ (l : ScriptLine). l.step) in less_here k (length lines) (length (steps_of lines)) other le long
 
-pub line_call-requires-clause-loud : goal.line_call-requires-clause-loud
-line_call-requires-clause-loud c =
+pub step_call-requires-clause-loud : goal.step_call-requires-clause-loud
+step_call-requires-clause-loud c =
     let passed = rw c.in-Some.is at c.in_ok-at.ensures in
     let less = here_less c.args.lines.now c.in-Some.line c.if-line-lines.false passed.within in
     loud_here c.args.core.now c.args.caller (steps_of c.args.lines.now) c.args.seat c.history_is_legal.ensures.history.legal c.requires.at c.pass_quiet.new.said.items c.in-Some.at c.in-Some.line passed c.args.release _ (less_steps c.args.lines.now c.in-Some.line less) (line_at c.args.lines.now c.in-Some.line c.index-lines-line.result less)
@@ -75,11 +75,12 @@ returns-in_default-3 c =
     let less = here_less c.args.lines.now c.in-Some.line c.if-line-lines.false passed.within in
     inl (
     none_line c.args.core.now c.args.caller (steps_of c.args.lines.now) c.args.seat c.history_is_legal.ensures.history.legal c.requires.at c.pass_quiet.new.said.items c.in-Some.at c.in-Some.line passed c.args.release _ (less_steps c.args.lines.now c.in-Some.line less) (line_at c.args.lines.now c.in-Some.line c.index-lines-line.result less)
-    c.line_call.new.core c.line_call.new.said.items c.in_ok-at-3.field-0 c.in_default-3.not-Some c.in_ok-at-3.ensures)
+    c.step_call.new.core c.step_call.new.said.items c.in_ok-at-3.field-0 c.in_default-3.not-Some c.in_ok-at-3.ensures)
 
 pub returns : goal.returns
 returns c =
     let passed = rw c.in-Some.is at c.in_ok-at.ensures in
     let less = here_less c.args.lines.now c.in-Some.line c.if-line-lines.false passed.within in
     turned_line c.args.core.now c.args.caller (steps_of c.args.lines.now) c.args.seat c.history_is_legal.ensures.history.legal c.requires.at c.pass_quiet.new.said.items c.in-Some.at c.in-Some.line passed c.args.release _ (less_steps c.args.lines.now c.in-Some.line less) (line_at c.args.lines.now c.in-Some.line c.index-lines-line.result less)
-    c.line_call.new.core _ c.behind-line.ensures (rw c.in-Some-3.is at c.in_ok-at-3.ensures)
+    c.step_call.new.core _ (c.behind-line.ensures.left (steps_of c.args.lines.now) _ (line_at c.args.lines.now c.in-Some.line c.index-lines-line.result less)) (c.behind-line.ensures.within (length (steps_of c.args.lines.now)) (less_steps c.args.lines.now c.in-Some.line less))
+    (rw c.in-Some-3.is at c.in_ok-at-3.ensures)

@@ -3,9 +3,9 @@ use Rattle.flat_lines_spec.specs.Lines.{item_lines}
 use Rattle.history_turns.proofs.within.say_most.Given as goal
 
 -- what was said and what is left to say within the limit are the whole, and so many items were said
-abbrev pub invariant-loop-told : goal.invariant-loop-told
-invariant-loop-told l = record {
-  whole : l.said.items ++ item_lines l.design.design (take (l.limit - l._told) l.walk.left)
+abbrev pub invariant-loop-shown : goal.invariant-loop-shown
+invariant-loop-shown l = record {
+  whole : l.said.items ++ item_lines l.design.design (take (l.limit - l._shown) l.walk.left)
       ≡ l.fn.said.items ++ item_lines l.design.design (take l.limit l.fn.walk.left);
-  counted : length l.fn.walk.left ≡ l._told + length l.walk.left;
+  counted : length l.fn.walk.left ≡ l._shown + length l.walk.left;
 }

@@ -1,4 +1,3 @@
-use Rattle.report_parts.specs.Same.{Compares}
 use Rattle.report_parts.proofs.Sinks.{puts_front}
 use Rattle.report_parts.proofs.same_sink.SameSinkSink.put.Goals as goal
 

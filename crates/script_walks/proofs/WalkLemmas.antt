@@ -9,7 +9,7 @@ use Rattle.script_spec.specs.declared.script.ScriptLine.{ScriptLine}
 use Rattle.script_spec.specs.declared.script.Step.{Step}
 use Rattle.script_spec.specs.declared.script.Step.TheVariants.{Walk}
 use Rattle.script_run_spec.specs.Scripts.{all_steps}
-use Rattle.netdb_commands.specs.Walks.{is_walk}
+use Rattle.script_walks.specs.Walking.{is_walk}
 
 -- a line walks, as a test
 abbrev walks_line : ScriptLine → Bool

@@ -1,4 +1,4 @@
-use Rattle.history_turns.proofs.places.line_call.Goals as goal
+use Rattle.history_turns.proofs.places.step_call.Goals as goal
 
 pub returns-in-Free : goal.returns-in-Free
 returns-in-Free c = rw c.in-Free.is (c.free_call.ensures c.args.release)

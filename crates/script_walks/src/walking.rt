@@ -3,8 +3,10 @@ ghost use Rattle.std.specs.Prelude.{◌≡◌, ◌↔◌, IsTrue};
 ghost use Rattle.std.specs.List.{list_any};
 ghost use Rattle.script_spec.specs.Headline.{SomeWalks};
 ghost use Rattle.script_run_spec.specs.Scripts.{all_steps};
-ghost use Rattle.history_check.specs.Walking.{is_walk};
+ghost use Rattle.history_check_spec.specs.Printed.{CannotWalk};
+ghost use Rattle.script_walks.specs.Walking.{is_walk};
 
+use netlist_schema::{Design, Shown};
 use script_spec::{Script, Step};
 
 /// Whether a step walks.
@@ -29,8 +31,18 @@ fn one_walks(scripts: &[Script]) -> bool
 }
 
 /// Whether some script walks.
-pub fn some_walks(scripts: &[Script]) -> bool
+fn some_walks(scripts: &[Script]) -> bool
     ensures { IsTrue result ↔ SomeWalks (all_steps scripts.now) }
 {
     one_walks(scripts)
+}
+
+/// Whether a script walks, and the design has no top.
+pub fn cannot_walk(design: &Design, scripts: &[Script]) -> bool
+    ensures { IsTrue result ↔ CannotWalk design.now (all_steps scripts.now) }
+{
+    match design.top() {
+        Some(_) => false,
+        None => some_walks(scripts),
+    }
 }

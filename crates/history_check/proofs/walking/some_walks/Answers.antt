@@ -1,5 +1,0 @@
-use Rattle.history_check.proofs.WalkLemmas.{some_walks_is}
-use Rattle.history_check.proofs.walking.some_walks.Goals as goal
-
-pub returns : goal.returns
-returns c = some_walks_is c.args.scripts.now c.one_walks.result c.one_walks.ensures
