@@ -4,5 +4,5 @@
 mod names;
 mod search;
 
-pub use names::{NetName, name_of, names_below, top_names};
+pub use names::{Above, NetName, name_of, names_below, top_names};
 pub use search::{Run, joined_net, joints_on};

@@ -65,28 +65,41 @@ pub fn top_names<S: Shown>(alloc: Global, design: &S, top: CellId) -> Result<Vec
     own_names(alloc, 0, net_count(design, top))
 }
 
-/// The names of the nets of an instance's cell at this depth, where these joints of the parent are on the instance, and these are the
-/// names of the parent's nets and the first nets inside the parent: each first net has the name of a net of the parent that joins an
-/// own bit that is connected with it, and where there is none, its own.
+/// What the nets of an instance's cell are named by: the joints of the parent that are on the instance, the names of the parent's nets
+/// and the first nets inside the parent.
+#[derive(Clone, Copy)]
+pub struct Above<'a> {
+    pub joints: &'a [Joint],
+    pub names: &'a [NetName],
+    pub firsts: &'a [u32],
+}
+
+/// The names of the nets of an instance's cell at this depth, where this is what they are named by: each first net has the name of a
+/// net of the parent that joins an own bit that is connected with it, and where there is none, its own.
 pub fn names_below<S: Shown>(
     alloc: Global,
     design: &S,
     classes: &Classes,
     cell: CellId,
     depth: u32,
-    joints: &[Joint],
-    outside: &[NetName],
-    firsts: &[u32],
+    above: &Above<'_>,
 ) -> Result<Vec<NetName>, NoMemory>
-    requires { All (λ j. IsSome (name_in outside.now firsts.now j.net)) joints.now }
-    ensures { IfOk result (λ names. AreHanded (first_of classes.now cell) (name_in outside.now firsts.now) depth joints.now (length (nets_at (S.design design.now) cell)) names.items) }
+    requires { All (λ j. IsSome (name_in above.now.names.now above.now.firsts.now j.net)) above.now.joints.now }
+    ensures { IfOk result (λ names. AreHanded (first_of classes.now cell) (name_in above.now.names.now above.now.firsts.now) depth above.now.joints.now (length (nets_at (S.design design.now) cell)) names.items) }
 {
     let count = net_count(design, cell);
     if count == 0 {
         return Ok(Vec::new(alloc));
     }
     let mut names = own_names(alloc, depth, count)?;
-    hand_down(classes, cell, joints, outside, firsts, &mut names);
+    hand_down(
+        classes,
+        cell,
+        above.joints,
+        above.names,
+        above.firsts,
+        &mut names,
+    );
     Ok(names)
 }
 

@@ -7,7 +7,7 @@ ghost use Rattle.flat_items.specs.Stand.{IsFrame, IsGround, top_of};
 
 use flat_items::{Frame, Ground};
 use flat_lookup::inst_at;
-use net_names::{joints_on, names_below, top_names};
+use net_names::{Above, joints_on, names_below, top_names};
 use netlist_schema::{CellId, NoMemory, Shown};
 
 /// The frame of the top, whose cell this is.
@@ -42,15 +42,18 @@ fn frame_below<S: Shown + Drop>(
     ensures fresh { IfOk result (λ frame. (frame.cell ≡ of) × (frame.next ≡ 0)) }
 {
     let run = joints_on(ground.classes.joints(here.cell), here.near, step);
+    let above = Above {
+        joints: run.joints,
+        names: here.names.as_slice(),
+        firsts: ground.classes.firsts(here.cell),
+    };
     let names = names_below(
         ground.alloc,
         &ground.design,
         &ground.classes,
         of,
         path.len() as u32 + 1,
-        run.joints,
-        here.names.as_slice(),
-        ground.classes.firsts(here.cell),
+        &above,
     )?;
     Ok(Frame {
         cell: of,
