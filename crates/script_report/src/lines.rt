@@ -11,6 +11,13 @@ use netlist_schema::{Shown, Text};
 use script_lang::event_text;
 use std::alloc::Global;
 
+/// An event, and its number.
+#[derive(Clone, Copy)]
+struct NumberedEvent<'a> {
+    number: u64,
+    event: &'a Event,
+}
+
 /// Writes events, numbered from 0. The design tells the names of what conflicts.
 pub(crate) fn put_events<S: Shown, K: Sink>(
     alloc: Global,
@@ -23,15 +30,11 @@ pub(crate) fn put_events<S: Shown, K: Sink>(
 {
     let mut text = Vec::new(alloc);
     for number in 0..events.len() {
-        put_event(
-            alloc,
-            design,
-            number as u64,
-            &events[number],
-            &mut text,
-            page,
-            out,
-        );
+        let event = NumberedEvent {
+            number: number as u64,
+            event: &events[number],
+        };
+        put_event(alloc, design, event, &mut text, page, out);
     }
 }
 
@@ -39,19 +42,18 @@ pub(crate) fn put_events<S: Shown, K: Sink>(
 fn put_event<S: Shown, K: Sink>(
     alloc: Global,
     design: &S,
-    number: u64,
-    event: &Event,
+    event: NumberedEvent<'_>,
     text: &mut Vec<u8>,
     page: &mut BufferedSink,
     out: &mut K,
 )
-    ensures { Writes K.written K.faults out.old page.old out.new page.new (text_of_event (S.design design.now) number event.now) }
+    ensures { Writes K.written K.faults out.old page.old out.new page.new (text_of_event (S.design design.now) event.number event.event.now) }
 {
     if page.is_stuck() {
         return;
     }
     text.clear();
-    match event_text(alloc, design, number, event, text) {
+    match event_text(alloc, design, event.number, event.event, text) {
         Ok(()) => page.put(text.as_slice(), out),
         Err(_) => page.run_out(),
     }
