@@ -7,7 +7,10 @@ ghost use Rattle.edit_cells.specs.Patch.{cells_after, lib_after, place_of};
 ghost use Rattle.cell_puts.specs.Whole.{IsWhole};
 
 use edit_cells::{CellChange, Change, patched};
-use netlist_schema::{CellBody, Contents, Copied, Design, Lib, Name, NoMemory, Note, Property, Row, Shared, Shown, TopHead, design_is_valid};
+use netlist_schema::{
+    CellBody, Contents, Copied, Design, Lib, Name, NoMemory, Note, Property, Row, Shared, Shown,
+    TopHead, design_is_valid,
+};
 use std::alloc::Global;
 
 /// Gives the cell at a place other properties, where there is one.

@@ -171,13 +171,13 @@ impl Core {
         let version = at.version();
         let number = self.pins.add(version)?;
         self.log.push_reserved(Event {
-                caller,
-                call,
-                answer: Answer::Pinned {
-                    pin: number,
-                    version,
-                },
-            });
+            caller,
+            call,
+            answer: Answer::Pinned {
+                pin: number,
+                version,
+            },
+        });
         Ok(Pin::of(number, caller, at))
     }
 
@@ -291,10 +291,10 @@ impl Core {
         let caller = pin.caller();
         self.pins.remove(number);
         self.log.push_reserved(Event {
-                caller,
-                call: Call::Release(number),
-                answer: Answer::Released,
-            });
+            caller,
+            call: Call::Release(number),
+            answer: Answer::Released,
+        });
     }
 
     /// Drops the versions that no live pin holds, all but the last one, and answers how many. `LogFull` comes exactly where
@@ -329,10 +329,10 @@ impl Core {
         keep_held(&mut self.versions, self.head.version(), &self.pins);
         let dropped = (before - self.versions.len()) as u32;
         self.log.push_reserved(Event {
-                caller,
-                call: Call::Collect,
-                answer: Answer::Collected(dropped),
-            });
+            caller,
+            call: Call::Collect,
+            answer: Answer::Collected(dropped),
+        });
         Ok(dropped)
     }
 
@@ -423,13 +423,13 @@ impl Core {
         let (pin, ops, replies, rest) = tx.split();
         *left = Some(rest);
         self.log.push_reserved(Event {
-                caller: pin.caller(),
-                call: Call::Commit {
-                    pin: pin.number(),
-                    ops,
-                },
-                answer: Answer::Committed { version, replies },
-            });
+            caller: pin.caller(),
+            call: Call::Commit {
+                pin: pin.number(),
+                ops,
+            },
+            answer: Answer::Committed { version, replies },
+        });
         Ok((version, pin))
     }
 

@@ -15,7 +15,10 @@ use db_version::{Snapshot, Version};
 use edit_cells::{
     Cells, Change, Face, Marks, contents_object, face_object, inside, object_for, seen,
 };
-use netlist_schema::{CellBody, CellId, Contents, Ident, LibHead, LibId, NoMemory, Note, Object, Row, Shown, design_is_valid};
+use netlist_schema::{
+    CellBody, CellId, Contents, Ident, LibHead, LibId, NoMemory, Note, Object, Row, Shown,
+    design_is_valid,
+};
 use std::alloc::Global;
 use std::marker::Model;
 use std::sync::Arc;

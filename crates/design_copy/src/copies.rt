@@ -3,7 +3,10 @@ ghost use Rattle.std.specs.Prelude.{◌≡◌, IfOk};
 ghost use Rattle.std.specs.Option.{option_copied};
 ghost use Rattle.netlist_schema.specs.Design.{cells_in};
 
-use netlist_schema::{CellBody, CellId, Copied, Design, Lib, LibHead, LibId, NoMemory, Row, Shown, TopHead, design_is_valid};
+use netlist_schema::{
+    CellBody, CellId, Copied, Design, Lib, LibHead, LibId, NoMemory, Row, Shown, TopHead,
+    design_is_valid,
+};
 use std::alloc::Global;
 
 /// Copies of the cells of a library.

@@ -21,6 +21,7 @@ ghost use Rattle.eco_reads.specs.Done.{IsDoneOrFails};
 ghost use Rattle.eco_reads.specs.Outcome.{UnlessNoMemory};
 ghost use Rattle.eco_reads.specs.Plan.{IsPlanned};
 ghost use Rattle.eco_ops.specs.Ends.{IsFaceAt, cell_of_end, end_ports_at, no_more_end, port_in, seen_port};
+
 use eco_reads::{OpError, Plan, inst_place, net_place, port_place};
 use edit_cells::Face;
 use edit_spec::{EndName, Reply};
@@ -185,12 +186,7 @@ fn net_joined(alloc: Global, net: &Net, end: End) -> Result<Net, NoMemory>
 
 /// The net at a place with one more end, or why there is none.
 #[tactic(auto, using(crate::proofs::Joined::end_joined, crate::proofs::Joined::too_many_ends, crate::proofs::Joined::end_planned))]
-fn plan_end(
-    alloc: Global,
-    contents: &Contents,
-    place: usize,
-    at: End,
-) -> Result<Plan, OpError>
+fn plan_end(alloc: Global, contents: &Contents, place: usize, at: End) -> Result<Plan, OpError>
     requires limits { HasLimits contents.now }
     requires within { place < length contents.now.nets }
     ensures { UnlessNoMemory (IsPlanned (Some contents.now) (first (no_more_end contents.now at)) (record contents.now { nets = changed_at (net_with_end (Some at)) place contents.now.nets })) result }
@@ -272,11 +268,7 @@ fn net_cut(alloc: Global, net: &Net, end: &End) -> Result<Net, NoMemory>
 
 /// The net of these contents that has an end, without it; or why there is none.
 #[tactic(auto, using(crate::proofs::CutEnds::not_joined_here, crate::proofs::CutEnds::end_cut))]
-fn plan_without(
-    alloc: Global,
-    contents: &Contents,
-    at: End,
-) -> Result<Plan, OpError>
+fn plan_without(alloc: Global, contents: &Contents, at: End) -> Result<Plan, OpError>
     requires limits { HasLimits contents.now }
     requires once { AreDistinct (flat_map (λ net. net.ends) contents.now.nets) }
     ensures { UnlessNoMemory (IsPlanned (Some contents.now) (not_joined (Some contents.now) (Some at)) (record contents.now { nets = without_end (Some at) contents.now.nets })) result }

@@ -18,6 +18,7 @@ ghost use Rattle.edit_cells.specs.State.{HasRead, HasReadSome};
 ghost use Rattle.eco_reads.specs.Outcome.{IsDoneOrRefused};
 ghost use Rattle.eco_reads.specs.Plan.{IsPlanned};
 ghost use Rattle.eco_ops.specs.Ends.{IsFaceAt, cell_of_end, end_ports_at, no_more_end, port_in, seen_port};
+
 use crate::end_plans::{PortAt, cell_of_end, plan_cut, plan_join, port_of};
 use eco_reads::{OpError, put_plan, read_named};
 use edit_cells::Cells;

@@ -16,6 +16,7 @@ ghost use Rattle.eco_reads.specs.Done.{IsDoneOrFails};
 ghost use Rattle.eco_reads.specs.Outcome.{UnlessNoMemory};
 ghost use Rattle.eco_ops.specs.Insts.{is_other, more_insts};
 ghost use Rattle.eco_reads.specs.Plan.{IsPlanned};
+
 use eco_reads::{OpError, Plan, inst_place, is_inst_taken};
 use edit_spec::Reply;
 use netlist_schema::{

@@ -19,6 +19,7 @@ ghost use Rattle.eco_reads.specs.Outcome.{IsDoneOrRefused};
 ghost use Rattle.eco_reads.specs.Named.{AreNamed};
 ghost use Rattle.eco_ops.specs.Insts.{is_other, more_insts};
 ghost use Rattle.eco_reads.specs.Plan.{IsPlanned};
+
 use crate::inst_plans::{plan_inst, without_inst};
 use eco_reads::{
     Crossed, NamedInsts, OpError, find_named, goes_through, put_plan, reaches, read_named,

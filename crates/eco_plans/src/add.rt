@@ -8,6 +8,7 @@ ghost use Rattle.edit_spec.specs.AddCell.{has_twice, new_cell, new_port, no_new_
 ghost use Rattle.edit_spec.specs.Typed.{IsTypedOp};
 ghost use Rattle.eco_reads.specs.Outcome.{IsDoneOrRefused};
 ghost use Rattle.eco_plans.specs.Add.{IsCellPlanned};
+
 use crate::cell_plans::plan_cell;
 use eco_reads::{OpError, write_one};
 use edit_cells::{CellChange, Cells};

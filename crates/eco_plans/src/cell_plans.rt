@@ -10,6 +10,7 @@ ghost use Rattle.edit_spec.specs.Typed.{IsTypedOp};
 ghost use Rattle.eco_reads.specs.Done.{IsDoneOrFails};
 ghost use Rattle.eco_reads.specs.Outcome.{UnlessNoMemory};
 ghost use Rattle.eco_plans.specs.Add.{IsCellPlanned};
+
 use eco_reads::OpError;
 use edit_cells::is_same;
 use edit_spec::{PortDecl, Reply};

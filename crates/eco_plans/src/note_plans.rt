@@ -11,6 +11,7 @@ ghost use Rattle.eco_reads.specs.Done.{IsDoneOrFails};
 ghost use Rattle.eco_reads.specs.Outcome.{UnlessNoMemory};
 ghost use Rattle.eco_reads.specs.Plan.{AreNotesPlanned};
 ghost use Rattle.eco_plans.specs.Notes.{no_note_set};
+
 use eco_reads::OpError;
 use edit_spec::Reply;
 use netlist_schema::{Copied, Ident, MOST_NOTES, Note, Property, Row};

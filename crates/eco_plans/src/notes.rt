@@ -10,6 +10,7 @@ ghost use Rattle.edit_spec.specs.Typed.{IsTypedOp};
 ghost use Rattle.eco_reads.specs.Outcome.{IsDoneOrRefused};
 ghost use Rattle.eco_reads.specs.Plan.{AreNotesPlanned};
 ghost use Rattle.eco_plans.specs.Notes.{no_note_set};
+
 use crate::note_plans::{with_note, without_note};
 use eco_reads::{OpError, leads, put_notes};
 use edit_cells::Cells;

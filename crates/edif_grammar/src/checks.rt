@@ -14,7 +14,7 @@ ghost use Rattle.edif_spec.specs.Keyword.{Follower};
 
 use crate::lent::Breach;
 use crate::nodes::{argument_at, is_form_of, opened};
-use crate::rules::{Inner, Rule, FixedArgument, may_follow, second_is_bad_form, tokens_apart};
+use crate::rules::{FixedArgument, Inner, Rule, may_follow, second_is_bad_form, tokens_apart};
 use edif_spec::Keyword;
 use edif_tree::{Node, Nodes};
 

@@ -120,7 +120,9 @@ pub(crate) fn rule_of(keyword: Keyword) -> Rule
     use Inner::{Many, Once};
     use Keyword as K;
     use Rule::{Skips, Takes};
-    use FixedArgument::{Bit, BusName, Form, Identifier, Integer, Name, Number, Text, Truth, Value};
+    use FixedArgument::{
+        Bit, BusName, Form, Identifier, Integer, Name, Number, Text, Truth, Value,
+    };
     macro_rules! rule {
         ($($variant:ident: [$($fixed:expr),*] [$($inner:expr),*];)*) => {
             match keyword {
@@ -218,7 +220,8 @@ impl FixedArgument {
                     || argument.is_form(Keyword::Array)
             }
             FixedArgument::Bit => argument.is_identifier() || argument.is_form(Keyword::Member),
-            FixedArgument::Truth => argument.is_form(Keyword::True) || argument.is_form(Keyword::False),
+            FixedArgument::Truth => argument.is_form(Keyword::True)
+                || argument.is_form(Keyword::False),
             FixedArgument::Number => argument.is_integer() || argument.is_form(Keyword::E),
             FixedArgument::Value => {
                 argument.is_form(Keyword::Boolean)

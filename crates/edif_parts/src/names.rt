@@ -13,9 +13,9 @@ ghost use Rattle.edif_parts.specs.Names.{DefinesName, IsAgain, Tells, ids};
 ghost use Rattle.edif_parts.specs.Reading.{Answers, Names as FailsBy};
 
 use crate::error::{EdifError, clash};
-use crate::parts::{read_parts, room_wanted, string_at, word_at};
 use crate::few_names::FewNames;
 use crate::name_table::NameTable;
+use crate::parts::{read_parts, room_wanted, string_at, word_at};
 use edif_names::Meant;
 use edif_spec::{ClashKind, Keyword};
 use edif_tree::{Node, Nodes, Shape};
@@ -110,11 +110,7 @@ impl Names {
     }
 
     /// No names, where each form of this keyword is to define one. A few take no more memory than their list.
-    pub fn for_forms(
-        alloc: Global,
-        nodes: Nodes<'_>,
-        keyword: Keyword,
-    ) -> Result<Names, NoMemory>
+    pub fn for_forms(alloc: Global, nodes: Nodes<'_>, keyword: Keyword) -> Result<Names, NoMemory>
         ensures { IfOk result (λ names. names ≡ []) }
     {
         let count = room_wanted(nodes, keyword);

@@ -141,7 +141,12 @@ fn whole_net<S: Shown>(
         return Ok(false);
     };
     push_spaced(
-        &[b"net", at.text, net_name(design, Some(at.cell), net), to.text],
+        &[
+            b"net",
+            at.text,
+            net_name(design, Some(at.cell), net),
+            to.text,
+        ],
         net_name(design, Some(to.cell), first.net),
         out,
     )?;

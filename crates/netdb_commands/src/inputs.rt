@@ -19,7 +19,7 @@ ghost use Rattle.netdb_spec.specs.Visits.{Adds, FileReads, StepReads, design_fil
 ghost use Rattle.script_spec.specs.declared.limits.TheConstants.{MOST_SCRIPTS};
 
 use edif_file::{DesignReader, NoDesign};
-use netdb_outside::{FileRead, Ended, Files, read_file, read_pieces};
+use netdb_outside::{Ended, FileRead, Files, read_file, read_pieces};
 use netdb_spec::{MOST_REPORT_BYTES, Status};
 use netlist_schema::{Design, MOST_FILE_BYTES, Text};
 use script_reader::{ScriptError, parse};

@@ -8,7 +8,7 @@ ghost use Rattle.occ_walk.specs.Walk.{GivesNext, IsLent, IsSettled};
 ghost use Rattle.flat_items.specs.Stand.{top_of};
 
 use crate::start::{go_along, start};
-use crate::steps::{next_item, skip, current, advance};
+use crate::steps::{advance, current, next_item, skip};
 use flat_items::{Ground, ItemRef, Place};
 use flat_spec::{Item, Path};
 use netlist_schema::{CellId, NoMemory, Shown};

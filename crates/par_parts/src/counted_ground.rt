@@ -15,7 +15,7 @@ use flat_spec::Item;
 use netlist_schema::{CellId, NoMemory, Shown};
 use occ_walk::WalkError;
 use occ_walk::start::start;
-use occ_walk::steps::{next_item, skip, current, advance};
+use occ_walk::steps::{advance, current, next_item, skip};
 use std::alloc::Global;
 use std::marker::Model;
 

@@ -3,4 +3,4 @@
 
 mod held;
 
-pub use held::{Block, Held, Stop, filled, settle, held_after};
+pub use held::{Block, Held, Stop, filled, held_after, settle};

@@ -4,7 +4,7 @@ use netlist_schema::{Design, Ident};
 use std::alloc::Global;
 use std::process::Abort;
 use std::test::Fail;
-use test_hand_designs::{CellPlan, Inside, DesignPlan, design};
+use test_hand_designs::{CellPlan, DesignPlan, Inside, design};
 
 const EMPTY: Inside = Inside {
     insts: &[],

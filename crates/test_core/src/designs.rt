@@ -4,7 +4,7 @@ use netlist_schema::{CellId, Design, Direction, Ident, LibId, Name, Property, Ro
 use std::alloc::Global;
 use std::process::Abort;
 use std::test::Fail;
-use test_hand_designs::{CellPlan, Inside, DesignPlan, design};
+use test_hand_designs::{CellPlan, DesignPlan, Inside, design};
 
 const EMPTY: Option<Inside<'static>> = Some(Inside {
     insts: &[],

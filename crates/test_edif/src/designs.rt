@@ -2,7 +2,7 @@
 use netlist_schema::Design;
 use std::alloc::Global;
 use std::test::Fail;
-use test_hand_designs::{CellPlan, Inside, DesignPlan, design};
+use test_hand_designs::{CellPlan, DesignPlan, Inside, design};
 
 /// One instance of the first cell of the library.
 const INNER: Inside = Inside {

@@ -2,7 +2,7 @@
 use netlist_schema::{Design, Direction};
 use std::alloc::Global;
 use std::test::Fail;
-use test_hand_designs::{CellPlan, Inside, DesignPlan, design};
+use test_hand_designs::{CellPlan, DesignPlan, Inside, design};
 
 /// A leaf with a pin.
 const LAMP: CellPlan = CellPlan {

@@ -5,6 +5,6 @@ mod parts;
 mod plans;
 
 pub use plans::{
-    CellPlan, EndPlan, Inside, InstPlan, NetPlan, NotePlan, DesignPlan, PortPlan, PropertyPlan, TopPlan,
-    design,
+    CellPlan, DesignPlan, EndPlan, Inside, InstPlan, NetPlan, NotePlan, PortPlan, PropertyPlan,
+    TopPlan, design,
 };

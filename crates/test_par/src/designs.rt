@@ -2,7 +2,7 @@
 use netlist_schema::{Design, Direction};
 use std::alloc::Global;
 use std::test::Fail;
-use test_hand_designs::{CellPlan, Inside, DesignPlan, design};
+use test_hand_designs::{CellPlan, DesignPlan, Inside, design};
 use test_text_designs::design_of;
 
 /// A leaf with a pin.

@@ -3,7 +3,7 @@ use edit_spec::{CellName, Op};
 use netlist_schema::{Design, Ident};
 use std::alloc::Global;
 use std::test::Fail;
-use test_hand_designs::{CellPlan, Inside, DesignPlan, design};
+use test_hand_designs::{CellPlan, DesignPlan, Inside, design};
 
 const EMPTY: Option<Inside<'static>> = Some(Inside {
     insts: &[],

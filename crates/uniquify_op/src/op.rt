@@ -14,7 +14,11 @@ use std::alloc::Global;
 use uniquify_blocks::{SplitPlan, plan_of, put_plan, read_below};
 
 /// The plan for the blocks below a top, or none where a library has no room. It may read.
-fn try_plan<C: Cells>(alloc: Global, cells: &mut C, top: CellId) -> Result<Option<SplitPlan>, NoMemory>
+fn try_plan<C: Cells>(
+    alloc: Global,
+    cells: &mut C,
+    top: CellId,
+) -> Result<Option<SplitPlan>, NoMemory>
     requires { IsValid (C.state cells.old).design }
     ensures planned { IfOk result (IsPlanned (C.state cells.old).design (each_block (C.state cells.old).design top)) }
     ensures some { HasReadSome (C.state cells.old) (C.state cells.new) }

@@ -18,7 +18,10 @@ use cell_puts::put_in_place;
 use design_copy::top_of;
 use edit_cells::{CellChange, Change, patched};
 use flat_lookup::{inst_at, insts_at};
-use netlist_schema::{CellBody, CellId, Contents, Copied, Design, Lib, LibId, NoMemory, Note, Row, Shown, design_is_valid};
+use netlist_schema::{
+    CellBody, CellId, Contents, Copied, Design, Lib, LibId, NoMemory, Note, Row, Shown,
+    design_is_valid,
+};
 use std::alloc::Global;
 use std::marker::Model;
 use used_spec::UsedAt;
