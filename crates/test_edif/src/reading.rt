@@ -116,8 +116,9 @@ fn check_all(
 const BEHIND_HEAD: &str =
     "(edif e (edifVersion 2 0 0) (edifLevel 0) (keywordMap (keywordLevel 0)) ";
 
-/// What follows the head of a file, and what is wrong with it.
-static FAULTS: [(&str, &str); 12] = [
+/// What follows the head of a file, and what is written of it or wrong with it. References among eight names and among nine stand beside
+/// each other, since up to eight are compared one by one and more are looked up in tables.
+static FAULTS: [(&str, &str); 18] = [
     (
         "(library w (edifLevel 0) (technology) (cell c (cellType GENERIC) (view v (viewType NETLIST) (interface)))) (library w (edifLevel 0) (technology))",
         "Duplicate 116 9;",
@@ -161,6 +162,30 @@ static FAULTS: [(&str, &str); 12] = [
     (
         "(library w (edifLevel 0) (technology) (cell c (cellType GENERIC) (view v (viewType NETLIST) (interface))) (cell t (cellType GENERIC) (view v (viewType NETLIST) (interface) (contents (instance ab (viewRef v (cellRef c))) (instance aB (viewRef v (cellRef c))))))) (design t (cellRef t (libraryRef w)) (userData netdb_note (path ab) (property k (integer 1))) (userData netdb_note (path aB) (property k (integer 1))) (userData netdb_note (path ab) (property k (integer 1))))",
         "Duplicate 454 340;",
+    ),
+    (
+        "(library w (edifLevel 0) (technology) (cell c (cellType GENERIC) (view v (viewType NETLIST) (interface (port p)))) (cell t (cellType GENERIC) (view v (viewType NETLIST) (interface) (contents (instance ab (viewRef v (cellRef c))) (instance aB (viewRef v (cellRef c))) (instance i0 (viewRef v (cellRef c))) (instance i1 (viewRef v (cellRef c))) (instance i2 (viewRef v (cellRef c))) (instance i3 (viewRef v (cellRef c))) (instance i4 (viewRef v (cellRef c))) (instance i5 (viewRef v (cellRef c))) (net n (joined (portRef p (instanceRef AB))))))))",
+        "Ambiguous 534;",
+    ),
+    (
+        "(library w (edifLevel 0) (technology) (cell c (cellType GENERIC) (view v (viewType NETLIST) (interface (port p)))) (cell t (cellType GENERIC) (view v (viewType NETLIST) (interface) (contents (instance ab (viewRef v (cellRef c))) (instance aB (viewRef v (cellRef c))) (instance i0 (viewRef v (cellRef c))) (instance i1 (viewRef v (cellRef c))) (instance i2 (viewRef v (cellRef c))) (instance i3 (viewRef v (cellRef c))) (instance i4 (viewRef v (cellRef c))) (instance i5 (viewRef v (cellRef c))) (instance i6 (viewRef v (cellRef c))) (net n (joined (portRef p (instanceRef AB))))))))",
+        "Ambiguous 572;",
+    ),
+    (
+        "(library w (edifLevel 0) (technology) (cell c (cellType GENERIC) (view v (viewType NETLIST) (interface (port p)))) (cell t (cellType GENERIC) (view v (viewType NETLIST) (interface) (contents (instance ab (viewRef v (cellRef c))) (instance aB (viewRef v (cellRef c))) (instance i0 (viewRef v (cellRef c))) (instance i1 (viewRef v (cellRef c))) (instance i2 (viewRef v (cellRef c))) (instance i3 (viewRef v (cellRef c))) (instance i4 (viewRef v (cellRef c))) (instance i5 (viewRef v (cellRef c))) (net n (joined (portRef p (instanceRef I5))))))))",
+        "(portRef p (instanceRef i5))",
+    ),
+    (
+        "(library w (edifLevel 0) (technology) (cell c (cellType GENERIC) (view v (viewType NETLIST) (interface (port p)))) (cell t (cellType GENERIC) (view v (viewType NETLIST) (interface) (contents (instance ab (viewRef v (cellRef c))) (instance aB (viewRef v (cellRef c))) (instance i0 (viewRef v (cellRef c))) (instance i1 (viewRef v (cellRef c))) (instance i2 (viewRef v (cellRef c))) (instance i3 (viewRef v (cellRef c))) (instance i4 (viewRef v (cellRef c))) (instance i5 (viewRef v (cellRef c))) (instance i6 (viewRef v (cellRef c))) (net n (joined (portRef p (instanceRef I6))))))))",
+        "(portRef p (instanceRef i6))",
+    ),
+    (
+        "(library w (edifLevel 0) (technology) (cell c (cellType GENERIC) (view v (viewType NETLIST) (interface (port p)))) (cell t (cellType GENERIC) (view v (viewType NETLIST) (interface) (contents (instance ab (viewRef v (cellRef c))) (instance aB (viewRef v (cellRef c))) (instance i0 (viewRef v (cellRef c))) (instance i1 (viewRef v (cellRef c))) (instance i2 (viewRef v (cellRef c))) (instance i3 (viewRef v (cellRef c))) (instance i4 (viewRef v (cellRef c))) (instance i5 (viewRef v (cellRef c))) (instance i6 (viewRef v (cellRef c))) (net n (joined (portRef p (instanceRef I7))))))))",
+        "Unresolved 572;",
+    ),
+    (
+        "(library w (edifLevel 0) (technology) (cell c (cellType GENERIC) (view v (viewType NETLIST) (interface (port p)))) (cell t (cellType GENERIC) (view v (viewType NETLIST) (interface) (contents (instance ab (viewRef v (cellRef c))) (instance aB (viewRef v (cellRef c))) (instance i0 (viewRef v (cellRef c))) (instance i1 (viewRef v (cellRef c))) (instance i2 (viewRef v (cellRef c))) (instance i3 (viewRef v (cellRef c))) (instance i4 (viewRef v (cellRef c))) (instance i5 (viewRef v (cellRef c))) (instance i6 (viewRef v (cellRef c))) (instance ab (viewRef v (cellRef c)))))))",
+        "Duplicate 543 201;",
     ),
     ("(port p)", "not in profile port 0;"),
 ];
