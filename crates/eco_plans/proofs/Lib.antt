@@ -7,6 +7,7 @@ pub mod NotesPlanned
 pub mod Planned
 pub mod PropOps
 pub mod Properties
+pub mod Refusing
 pub mod ShowInst
 pub mod ShowNet
 pub mod Showing

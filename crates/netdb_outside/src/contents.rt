@@ -51,7 +51,7 @@ impl Taker for Gathered {
 pub fn read_file<F: Files>(alloc: Global, files: &mut F, name: &str, limit: u64) -> FileRead
     ensures files { SameFiles (F.told files.old) (F.told files.new) }
     ensures gives { FileGives (F.told files.new) name.now limit result }
-    ensures failed { result ≡ Contents.Failed → Rose (F.faults files.old) (F.faults files.new) }
+    ensures failed { result ≡ FileRead.Failed → Rose (F.faults files.old) (F.faults files.new) }
     ensures quiet { IsFoundOut result → F.faults files.new ≡ F.faults files.old }
     ensures never_falls { F.faults files.old ≤ F.faults files.new }
     ensures visited { AddsVisit (F.visits files.old) (F.visits files.new) (VisitEnds name.now limit (ended_by result)) }

@@ -1,11 +1,14 @@
 use Rattle.std.proofs.Common.{refl}
+use Rattle.std.specs.Option.{option_copied}
 use Rattle.std.specs.Prelude.{Ok, Err}
 use Rattle.edit_spec.specs.declared.ops.Op.TheVariants.{AddNet}
 use Rattle.eco_reads.specs.declared.op_error.OpError.{OpError}
-use Rattle.eco_reads.proofs.Outcomes.{done_or, missing_or, refused_or}
+use Rattle.eco_reads.proofs.Outcomes.{done_or, missing_or}
+use Rattle.eco_plans.proofs.Refusing.{plan_refused}
 use Rattle.eco_reads.proofs.Reading.{found_inside, read_some}
 use Rattle.eco_plans.proofs.Missing.{add_net_missing}
 use Rattle.eco_plans.proofs.NetOps.{add_net_can, add_net_done}
+use Rattle.eco_plans.proofs.NetsPlanned.{more_nets}
 use Rattle.eco_plans.proofs.nets.add_net.Goals as goal
 
 pub put_plan-requires : goal.put_plan-requires
@@ -23,11 +26,11 @@ returns g c =
 
 pub returns-in_err-id : goal.returns-in_err-id
 returns-in_err-id g c =
-    missing_or (g.C.Cells.state c.args.cells.now) (g.C.Cells.state c.read_named.new.cells) (AddNet c.args.name.now c.args.net.now) c.args.name.now c.from_residual-in_err-id.result c.in_err-id.field-0.0 c.from_residual-in_err-id.ensures.1 c.in_err-id.ensures.found c.in_err-id.ensures.reads
+    missing_or (g.C.Cells.state c.args.cells.now) (g.C.Cells.state c.read_named.new.cells) (AddNet c.args.name.now c.args.net.now) c.args.name.now c.from_residual.result c.in_err-id.field-0.0 c.from_residual.ensures.1 c.in_err-id.ensures.found c.in_err-id.ensures.reads
     (λ reply read missing. add_net_missing (g.C.Cells.state c.args.cells.now) (g.C.Cells.state c.read_named.new.cells) c.args.name.now reply read missing c.args.net.now)
 
 pub returns-in_err-plan : goal.returns-in_err-plan
 returns-in_err-plan g c =
     let found = found_inside (g.C.Cells.state c.args.cells.now) (g.C.Cells.state c.read_named.new.cells) (g.C.Cells.state c.contents.follows.lender-at-none) c.args.name.now c.in_ok-id.id _ c.in_ok-id.ensures.found c.in_ok-id.ensures.reads c.in_ok-contents.ensures.found (rw c.in_ok-contents.was at c.contents.follows.holds-at-none) in
-    refused_or (g.C.Cells.state c.args.cells.now) (g.C.Cells.state c.contents.follows.lender-at-none) (AddNet c.args.name.now c.args.net.now) _ c.from_residual-in_err-plan.result c.in_err-plan.field-0.0 c.from_residual-in_err-plan.ensures.1 c.in_err-plan.ensures (read_some (g.C.Cells.state c.args.cells.now) (g.C.Cells.state c.contents.follows.lender-at-none) _ found.read)
+    plan_refused (g.C.Cells.state c.args.cells.now) (g.C.Cells.state c.contents.follows.lender-at-none) (AddNet c.args.name.now c.args.net.now) (option_copied c.in_ok-contents.field-0) _ (more_nets c.args.net.now (option_copied c.in_ok-contents.field-0)) c.from_residual-in_err-plan.result c.in_err-plan.field-0.0 c.from_residual-in_err-plan.ensures.1 c.in_err-plan.ensures (read_some (g.C.Cells.state c.args.cells.now) (g.C.Cells.state c.contents.follows.lender-at-none) _ found.read)
     (λ reply planned. add_net_done {E = OpError} (g.C.Cells.state c.args.cells.now) (g.C.Cells.state c.contents.follows.lender-at-none) (g.C.Cells.state c.contents.follows.lender-at-none) c.args.name.now c.args.net.now c.in_ok-id.id _ (Err reply) (Ok reply) found planned (refl, refl))

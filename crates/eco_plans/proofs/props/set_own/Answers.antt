@@ -16,5 +16,5 @@ returns g c =
 
 pub returns-in_err-id : goal.returns-in_err-id
 returns-in_err-id g c =
-    missing_or (g.C.Cells.state c.args.cells.now) (g.C.Cells.state c.read_named.new.cells) (SetProp c.args.name.now Whole c.args.property.now) c.args.name.now c.from_residual-in_err-id.result c.in_err-id.field-0.0 c.from_residual-in_err-id.ensures.1 c.in_err-id.ensures.found c.in_err-id.ensures.reads
+    missing_or (g.C.Cells.state c.args.cells.now) (g.C.Cells.state c.read_named.new.cells) (SetProp c.args.name.now Whole c.args.property.now) c.args.name.now c.from_residual.result c.in_err-id.field-0.0 c.from_residual.ensures.1 c.in_err-id.ensures.found c.in_err-id.ensures.reads
     (λ reply read missing. own_missing (g.C.Cells.state c.args.cells.now) (g.C.Cells.state c.read_named.new.cells) c.args.name.now c.args.property.now reply read missing)
