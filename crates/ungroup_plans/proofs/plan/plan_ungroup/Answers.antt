@@ -46,5 +46,5 @@ returns-in_err-contents c =
     let at = stands around.insts place no_inst c.in-Some-inst_place.ensures.within in
     rw (c.in-Some.is, c.in-Some-within.is)
     (handed_on (IsDissolved (site around place inst within)) (IsPlanned (Some around) c.args.inst.now (Some within) c.args.notes.now c.args.places.now)
-    c.from_residual-in_err-contents.result c.in_err-contents.field-0.0 c.from_residual-in_err-contents.ensures.1 (c.in_err-contents.ensures inst at)
+    c.from_residual.result c.in_err-contents.field-0.0 c.from_residual.ensures.1 (c.in_err-contents.ensures inst at)
     (λ reply over. only_limits around c.args.inst.now within place inst c.in-Some-inst_place.ensures.value at ∙ over))
