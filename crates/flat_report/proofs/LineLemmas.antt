@@ -40,14 +40,18 @@ pub in_one_piece : (words : List (List ℕ)) (last : List ℕ) → ended 32 word
 in_one_piece words last =
     sym (append_assoc (ended 32 words) last (10 ∷ [])) ∙ ap (λ text. text ++ 10 ∷ []) (ended_spaced words last [])
 
+-- the same pieces, each behind the one before or all behind the first
+all_behind : (old words last word rest tail : List ℕ) → tail ≡ word ++ rest
+    → (((old ++ (words ++ (last ++ 32 ∷ []))) ++ word) ++ rest) ++ 10 ∷ [] ≡ old ++ ((words ++ ((last ++ 32 ∷ []) ++ tail)) ++ 10 ∷ [])
+all_behind old words last word rest tail is = rw is (simp append_assoc)
+
 -- words in one piece, one more, others behind blanks, and a line feed
 pub in_pieces : (old one two three new last word : List ℕ) (words more : List (List ℕ)) → one ≡ old ++ (ended 32 words ++ (last ++ 32 ∷ [])) → two ≡ one ++ word
     → three ≡ two ++ behind_blanks more → new ≡ three ++ 10 ∷ [] → new ≡ old ++ (spaced (words ++ last ∷ word ∷ more) ++ 10 ∷ [])
 in_pieces old one two three new last word words more begun added behind whole =
-    let line = ended_spaced words last (word ∷ more) in
-    let tail = spaced-cons word more in
     whole
     ∙ (ap (λ t. t ++ 10 ∷ []) behind
     ∙ (ap (λ t. (t ++ behind_blanks more) ++ 10 ∷ []) added
     ∙ (ap (λ t. ((t ++ word) ++ behind_blanks more) ++ 10 ∷ []) begun
-    ∙ simp append_assoc (ap (λ t. old ++ (t ++ 10 ∷ [])) (sym line ∙ ap (λ t. ended 32 words ++ ((last ++ 32 ∷ []) ++ t)) tail)))))
+    ∙ (all_behind old (ended 32 words) last word (behind_blanks more) (spaced (word ∷ more)) (spaced-cons word more)
+    ∙ ap (λ t. old ++ (t ++ 10 ∷ [])) (ended_spaced words last (word ∷ more))))))

@@ -67,6 +67,16 @@ pub fn kept_text<S: Shown>(
     Ok(())
 }
 
+/// Keeps the text of the path of an item with which an occurrence begins; at other items that of the path before stays kept.
+#[inline(always)]
+pub fn keep_path<S: Shown>(texts: &mut PathTexts<'_, S>, item: ItemRef<'_>)
+    ensures { texts.new ≡ texts.old }
+{
+    if let ItemRef::Enter { path, .. } = item {
+        texts.keep(path);
+    }
+}
+
 /// Appends the line of an item. After `NoMemory` some bytes may stand behind those before.
 #[inline(always)]
 fn push_line<S: Shown>(

@@ -7,4 +7,4 @@ mod paths;
 mod whole;
 mod words;
 
-pub use items::{item_text, kept_text, lent_text};
+pub use items::{item_text, keep_path, kept_text, lent_text};

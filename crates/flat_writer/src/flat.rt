@@ -7,8 +7,9 @@ ghost use Rattle.flat_items.specs.Lent.{item_of};
 ghost use Rattle.flat_writer.specs.Given.{GivesItem, GivesLine, text_of_items};
 
 use crate::error::{FlatError, outcome};
-use crate::shown::{Line, keep_path};
+use crate::shown::Line;
 use flat_items::ItemRef;
+use flat_report::keep_path;
 use netdb_outside::{BufferedSink, Sink, WriteError};
 use netlist_schema::Shown;
 use occ_walk::{Walk, WalkError};

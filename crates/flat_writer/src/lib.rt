@@ -8,5 +8,4 @@ mod table;
 
 pub use error::{FlatError, outcome};
 pub use flat::write_flat;
-pub use shown::keep_path;
 pub use table::write_pin_table;

@@ -26,16 +26,6 @@ impl<'a, 'd, S: Shown> Appended for Line<'a, 'd, S> {
     }
 }
 
-/// Keeps the text of the path of an item with which an occurrence begins; at other items that of the path before stays kept.
-#[inline(always)]
-pub fn keep_path<S: Shown>(texts: &mut PathTexts<'_, S>, item: ItemRef<'_>)
-    ensures { texts.new ≡ texts.old }
-{
-    if let ItemRef::Enter { path, .. } = item {
-        texts.keep(path);
-    }
-}
-
 /// Keeps the text of the path of an item with which the pins of an occurrence begin.
 #[inline(always)]
 pub(crate) fn keep_pin<S: Shown>(texts: &mut PathTexts<'_, S>, item: ItemRef<'_>)

@@ -10,8 +10,7 @@ ghost use Rattle.par_flat.specs.Lines.{GivesLine, IsPart};
 
 use crate::desks::{Desk, Most, Seat, place_at};
 use flat_items::Place;
-use flat_report::kept_text;
-use flat_writer::keep_path;
+use flat_report::{keep_path, kept_text};
 use netlist_schema::{NoMemory, Shown};
 use par_parts::CountedGround;
 use path_texts::PathTexts;
