@@ -8,7 +8,7 @@ use Rattle.eco_ops.proofs.insts.list_others.Given as goal
 -- what is told of the notes so far, and what their paths reach
 abbrev pub invariant-loop-path : goal.invariant-loop-path
 invariant-loop-path g l = record {
-  told : l.others.items ≡ map (is_other (g.C.Cells.state l.fn.cells).design l.id l.inst l.top) (take l.path-index (g.C.Cells.state l.fn.cells).design.notes);
+  told : l.others.items ≡ map (is_other (g.C.Cells.state l.fn.cells).design l.fn.id l.inst l.fn.top) (take l.path-index (g.C.Cells.state l.fn.cells).design.notes);
   named : AreNamed (g.C.Cells.state l.fn.cells).design l.named;
-  read : HasRead (g.C.Cells.state l.fn.cells) (g.C.Cells.state l.cells) (IsReachedBy (g.C.Cells.state l.fn.cells).design l.top (take l.path-index (g.C.Cells.state l.fn.cells).design.notes));
+  read : HasRead (g.C.Cells.state l.fn.cells) (g.C.Cells.state l.cells) (IsReachedBy (g.C.Cells.state l.fn.cells).design l.fn.top (take l.path-index (g.C.Cells.state l.fn.cells).design.notes));
 }
