@@ -6,6 +6,7 @@ use Rattle.eco_reads.specs.declared.op_error.OpError.{OpError}
 use Rattle.eco_reads.proofs.Outcomes.{done_or, missing_or}
 use Rattle.eco_plans.proofs.Refusing.{plan_refused}
 use Rattle.eco_reads.proofs.Reading.{read_some}
+use Rattle.eco_ops.specs.Ends.{end_ports_at}
 use Rattle.eco_ops.proofs.EndOps.{cut_can, cut_done, cut_of, cut_missing, end_read, ends_once}
 use Rattle.eco_ops.proofs.ends.cut.Goals as goal
 
@@ -30,7 +31,7 @@ returns-in_err-id g c =
 pub returns-in_err-plan : goal.returns-in_err-plan
 returns-in_err-plan g c =
     let found = end_read (g.C.Cells.state c.args.cells.now) (g.C.Cells.state c.read_named.new.cells) (g.C.Cells.state c.read_port.new.cells) (g.C.Cells.state c.contents.follows.lender-at-none) c.args.name.now c.args.end.now.inst c.in_ok-id.id _ c.in_ok-id.ensures.found c.in_ok-id.ensures.reads c.in_ok-port.ensures.reads c.in_ok-contents.ensures.found (rw c.in_ok-contents.was at c.contents.follows.holds-at-none) in
-    plan_refused (g.C.Cells.state c.args.cells.now) (g.C.Cells.state c.contents.follows.lender-at-none) (Cut c.args.name.now c.args.end.now) (option_copied c.in_ok-contents.field-0) _ (cut_of c.args.end.now (option_copied c.in_ok-contents.field-0) _) c.from_residual-in_err-plan.result c.in_err-plan.field-0.0 c.from_residual-in_err-plan.ensures.1 (c.in_err-plan.ensures _ c.in_ok-port.ensures.found) (read_some (g.C.Cells.state c.args.cells.now) (g.C.Cells.state c.contents.follows.lender-at-none) _ found.read)
+    plan_refused (g.C.Cells.state c.args.cells.now) (g.C.Cells.state c.contents.follows.lender-at-none) (Cut c.args.name.now c.args.end.now) (option_copied c.in_ok-contents.field-0) _ (cut_of c.args.end.now (option_copied c.in_ok-contents.field-0) (end_ports_at (g.C.Cells.state c.read_named.new.cells).design c.in_ok-id.id c.args.end.now.inst)) c.from_residual-in_err-plan.result c.in_err-plan.field-0.0 c.from_residual-in_err-plan.ensures.1 (c.in_err-plan.ensures _ c.in_ok-port.ensures.found) (read_some (g.C.Cells.state c.args.cells.now) (g.C.Cells.state c.contents.follows.lender-at-none) _ found.read)
     (λ reply planned. cut_done {E = OpError} (g.C.Cells.state c.args.cells.now) (g.C.Cells.state c.contents.follows.lender-at-none) (g.C.Cells.state c.contents.follows.lender-at-none) c.args.name.now c.args.end.now c.in_ok-id.id _ _ (Err reply) (Ok reply) found planned (refl, refl))
 
 pub plan_cut-requires-clause-once : goal.plan_cut-requires-clause-once

@@ -17,16 +17,16 @@ push-requires-clause-distinct c =
     names_differ c.args.self.now c.requires.behind.0 c.args.moved.now.design c.requires.behind.1 c.args.id c.requires.written c.requires.next c.requires.within (arc_value c.in-Some.body)
     (shared_at c.in_ok-body.field-0 c.in-Some.body c.draft.result.now.design c.args.self.now.design c.args.id c.in-Some.is c.in_ok-body.ensures c.draft.ensures)
 
-pub returns-in-Some-clause-fuller : goal.returns-in-Some-clause-fuller
-returns-in-Some-clause-fuller c =
+pub returns-clause-fuller : goal.returns-clause-fuller
+returns-clause-fuller c =
     on_ok c.push.result _ _
     (λ is target behind. subst (λ (f : Drafted). IsFuller c.args.self.now target c.args.moved.now.design f.design) (sym is)
     (fuller c.args.self.now target c.args.moved.now.design behind c.args.id c.requires.written c.requires.next c.requires.within (arc_value c.in-Some.body)
     (shared_at c.in_ok-body.field-0 c.in-Some.body c.draft.result.now.design c.args.self.now.design c.args.id c.in-Some.is c.in_ok-body.ensures c.draft.ensures)))
     c.push.ensures.ok
 
-pub returns-in-Some-clause-count : goal.returns-in-Some-clause-count
-returns-in-Some-clause-count c =
+pub returns-clause-count : goal.returns-clause-count
+returns-clause-count c =
     on_ok c.push.result _ _
     (λ is. ap (λ (f : Drafted). length (cells_in f.design c.args.id.lib)) is
     ∙ one_more c.args.self.now c.requires.behind.0 c.args.moved.now.design c.requires.behind.1 c.args.id c.requires.written c.requires.next c.requires.within (arc_value c.in-Some.body)
