@@ -8,10 +8,10 @@ use Rattle.edit_tx.proofs.Merging.{merges}
 use Rattle.db_work.specs.Becomes.{CanBecome}
 use Rattle.db_version.specs.Shot.{Shot}
 use Rattle.edit_tx.proofs.tx.Tx.merged.Goals as goal
-use Rattle.edit_tx.proofs.tx.Tx.merged.Goals.{After-lib_count-head}
+use Rattle.edit_tx.proofs.tx.Tx.merged.Goals.{After-design_is_valid-2}
 
 -- the run on the later version is what the work can become there
-can : (c : After-lib_count-head) → CanBecome c.args.head.now.design c.self.inside.work (run c.args.head.now.design c.self.inside.ops).design
+can : (c : After-design_is_valid-2) → CanBecome c.args.head.now.design c.self.inside.work (run c.args.head.now.design c.self.inside.ops).design
 can c =
     let tried = c.self.invariant.tried in
     let valid : IsValid c.self.inside.pin.design = subst (λ (x : Shot). IsValid x.design) c.snapshot_ref.ensures c.design_is_valid.ensures in
@@ -25,7 +25,7 @@ onto-requires c = ((run c.args.head.now.design c.self.inside.ops).design, can c)
 
 pub returns : goal.returns
 returns c =
-    let made : c.in_ok-made.made ≡ (run c.args.head.now.design c.self.inside.ops).design = c.in_ok-made.ensures (run c.args.head.now.design c.self.inside.ops).design (can (goal.at.returns c).After-lib_count-head) in
+    let made : c.in_ok-made.made ≡ (run c.args.head.now.design c.self.inside.ops).design = c.in_ok-made.ensures (run c.args.head.now.design c.self.inside.ops).design (can (goal.at.returns c).After-design_is_valid-2) in
     c.of.ensures ∙ λ i. record {
       version = c.args.version;
       design = (c.in_ok-new.ensures.ok ∙ (made ∙ ap (λ (f : TxFacts). (run c.args.head.now.design f.ops).design) c.self.view_is)) i;
