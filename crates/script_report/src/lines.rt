@@ -47,7 +47,7 @@ fn put_event<S: Shown, K: Sink>(
     page: &mut BufferedSink,
     out: &mut K,
 )
-    ensures { Writes K.written K.faults out.old page.old out.new page.new (text_of_event (S.design design.now) event.number event.event.now) }
+    ensures { Writes K.written K.faults out.old page.old out.new page.new (text_of_event (S.design design.now) event.entry.number event.entry.event.now) }
 {
     if page.is_stuck() {
         return;
