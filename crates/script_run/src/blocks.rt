@@ -4,6 +4,7 @@ ghost use Rattle.edit_spec.specs.Step.{run};
 ghost use Rattle.edit_tx.specs.Facts.{HasRun, started};
 ghost use Rattle.script_spec.specs.Session.{reply_behind};
 ghost use Rattle.script_spec.specs.Texts.{conflict_words, line, reply_text};
+ghost use Rattle.script_spec.specs.declared.script.Step.TheVariants.{Commit};
 ghost use Rattle.db_share.specs.Passes.{HasPin, IsReady};
 ghost use Rattle.db_share.specs.Calls.{GoesOn, HasReleased};
 ghost use Rattle.script_held.specs.Holding.{block_of};
@@ -94,7 +95,7 @@ fn begin_again<G: Gate>(
 ) -> Result<Block, Stop>
     requires { Stands along.now.db.now pass.old Held.Nothing }
     ensures on { GoesOn along.now.db.now pass.old pass.new }
-    ensures begins { BeginsAgain along.now.db.now pass.old pass.new out.old.items out.new.items begin.ops.now begin.retries result }
+    ensures begins { BeginsAgain along.now.db.now pass.old pass.new out.old.items out.new.items begin.entry.ops.now begin.entry.retries result }
 {
     reach(along, pass.number(), begin.first, 0);
     let mut block = match start_block(rt, along, pass, begin.retries, begin.first, out) {
@@ -231,7 +232,7 @@ pub(crate) fn commit_block<G: Gate>(
 ) -> Result<Held, Stop>
     requires { Stands along.now.db.now pass.old (Held.InBlock block) }
     ensures on { GoesOn along.now.db.now pass.old pass.new }
-    ensures comes { Comes along.now.db.now pass.old pass.new out.old.items out.new.items (block_of block) Step.Commit result }
+    ensures comes { Comes along.now.db.now pass.old pass.new out.old.items out.new.items (block_of block) Commit result }
 {
     let mut block = block;
     'again: loop {

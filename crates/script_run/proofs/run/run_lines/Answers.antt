@@ -13,26 +13,26 @@ pub run_line-requires-clause-placed : goal.run_line-requires-clause-placed
 run_line-requires-clause-placed g c =
     let i = c.loop-at.at in
     may_stand c.args.along.now.db.now c.args.pass.now c.loop-at.pass (steps_of c.args.along.now.lines.now) c.loop-at.out.items c.loop-at.held (step_at c.args.along.now.lines.now i) (steps_of (drop (i + 1) c.args.along.now.lines.now))
-    (next_line c.args.along.now.db.now c.args.pass.now c.loop-at.pass (steps_of c.args.along.now.lines.now) c.loop-at.out.items c.loop-at.held c.args.along.now.lines.now i c.index-lines-at.result c.loop-at-test.true c.index-lines-at.is c.loop-at.invariant)
+    (next_line c.args.along.now.db.now c.args.pass.now c.loop-at.pass (steps_of c.args.along.now.lines.now) c.loop-at.out.items c.loop-at.held c.args.along.now.lines.now i c.index-along-at.result c.loop-at-test.true c.index-along-at.is c.loop-at.invariant)
 
 pub run_line-requires-clause-top : goal.run_line-requires-clause-top
 run_line-requires-clause-top g c =
     let i = c.loop-at.at in
     walks_here c.args.along.now.db.now.base (step_at c.args.along.now.lines.now i) (steps_of (drop (i + 1) c.args.along.now.lines.now))
-    (next_line c.args.along.now.db.now c.args.pass.now c.loop-at.pass (steps_of c.args.along.now.lines.now) c.loop-at.out.items c.loop-at.held c.args.along.now.lines.now i c.index-lines-at.result c.loop-at-test.true c.index-lines-at.is c.loop-at.invariant).top
+    (next_line c.args.along.now.db.now c.args.pass.now c.loop-at.pass (steps_of c.args.along.now.lines.now) c.loop-at.out.items c.loop-at.held c.args.along.now.lines.now i c.index-along-at.result c.loop-at-test.true c.index-along-at.is c.loop-at.invariant).top
 
 pub returns-in-Err-clause-ends : goal.returns-in-Err-clause-ends
 returns-in-Err-clause-ends g c =
     let i = c.loop-at.at in
     stops_at c.args.along.now.db.now c.args.pass.now c.loop-at.pass c.run_line.new.pass (steps_of c.args.along.now.lines.now) c.loop-at.out.items c.run_line.new.out.items c.loop-at.held (step_at c.args.along.now.lines.now i) (steps_of (drop (i + 1) c.args.along.now.lines.now))
-    (next_line c.args.along.now.db.now c.args.pass.now c.loop-at.pass (steps_of c.args.along.now.lines.now) c.loop-at.out.items c.loop-at.held c.args.along.now.lines.now i c.index-lines-at.result c.loop-at-test.true c.index-lines-at.is c.loop-at.invariant)
+    (next_line c.args.along.now.db.now c.args.pass.now c.loop-at.pass (steps_of c.args.along.now.lines.now) c.loop-at.out.items c.loop-at.held c.args.along.now.lines.now i c.index-along-at.result c.loop-at-test.true c.index-along-at.is c.loop-at.invariant)
     c.run_line.ensures.on c.in-Err.stop c.in-Err.ensures.comes
 
 pub loop-at-preserved : goal.loop-at-preserved
 loop-at-preserved g c =
     let i = c.loop-at.at in
     goes_at c.args.along.now.db.now c.args.pass.now c.loop-at.pass c.run_line.new.pass (steps_of c.args.along.now.lines.now) c.loop-at.out.items c.run_line.new.out.items c.loop-at.held (step_at c.args.along.now.lines.now i) (steps_of (drop (i + 1) c.args.along.now.lines.now))
-    (next_line c.args.along.now.db.now c.args.pass.now c.loop-at.pass (steps_of c.args.along.now.lines.now) c.loop-at.out.items c.loop-at.held c.args.along.now.lines.now i c.index-lines-at.result c.loop-at-test.true c.index-lines-at.is c.loop-at.invariant)
+    (next_line c.args.along.now.db.now c.args.pass.now c.loop-at.pass (steps_of c.args.along.now.lines.now) c.loop-at.out.items c.loop-at.held c.args.along.now.lines.now i c.index-along-at.result c.loop-at-test.true c.index-along-at.is c.loop-at.invariant)
     c.run_line.ensures.on c.in-Ok.next c.in-Ok.ensures.comes
 
 pub returns-clause-ends : goal.returns-clause-ends
