@@ -108,7 +108,14 @@ fn write_net<W: Write>(out: &mut W, net: Option<NetRef<'_>>) -> Result<(), Stop>
 }
 
 /// Answers what is asked of a bit of an occurrence.
-fn answer_bit<W: Write>(out: &mut W, ask: &Ask<Design>, what: &str, path: &[u32], port: u32, bit: u32) -> Result<(), Stop> {
+fn answer_bit<W: Write>(
+    out: &mut W,
+    ask: &Ask<Design>,
+    what: &str,
+    path: &[u32],
+    port: u32,
+    bit: u32,
+) -> Result<(), Stop> {
     match what {
         "net" => write_net(out, ask.net_of(path, port, bit)?),
         _ => write_net(out, ask.inner_net_of(path, port, bit)?),
@@ -116,7 +123,12 @@ fn answer_bit<W: Write>(out: &mut W, ask: &Ask<Design>, what: &str, path: &[u32]
 }
 
 /// Answers what is asked of an occurrence.
-fn answer_path<W: Write>(out: &mut W, ask: &Ask<Design>, what: &str, path: &[u32]) -> Result<(), Stop> {
+fn answer_path<W: Write>(
+    out: &mut W,
+    ask: &Ask<Design>,
+    what: &str,
+    path: &[u32],
+) -> Result<(), Stop> {
     match what {
         "at" => match ask.at(path) {
             Some(cell) => writeln!(out, "cell {} {}", cell.lib.0, cell.slot)?,
@@ -204,12 +216,7 @@ fn unknown<W: Write>(out: &mut W) -> Result<(), Stop> {
 }
 
 /// Answers one line.
-fn answer<W: Write>(
-    out: &mut W,
-    ask: &Ask<Design>,
-    alloc: Global,
-    line: &str,
-) -> Result<(), Stop> {
+fn answer<W: Write>(out: &mut W, ask: &Ask<Design>, alloc: Global, line: &str) -> Result<(), Stop> {
     let words: Vec<&str> = line.split_whitespace().collect(alloc)?;
     let words = words.as_slice();
     if words.len() < 2 || words[0] != "again" {

@@ -42,9 +42,22 @@ pub fn check_sides(
 }
 
 /// The first of the nets that are connected with a net.
-pub fn check_first(rt: &impl Abort, ask: &Ask<Design>, net: NetRow, first: NetRow) -> Result<(), Fail> {
+pub fn check_first(
+    rt: &impl Abort,
+    ask: &Ask<Design>,
+    net: NetRow,
+    first: NetRow,
+) -> Result<(), Fail> {
     let found = ask.first_of(net.0, net.1)?;
     assert!(rt; is_net(Some(found), Some(first)));
-    assert!(rt; ask.is_same_net(found, NetRef { path: net.0, net: net.1 })?);
+    assert!(rt;
+        ask.is_same_net(
+            found,
+            NetRef {
+                path: net.0,
+                net: net.1
+            }
+        )?
+    );
     Ok(())
 }

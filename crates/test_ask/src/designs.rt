@@ -32,7 +32,8 @@ pub static COUNTER: &str = "(edif counter
 ";
 
 /// Two bits of a bridge are one net, which leads to the lamp in a socket.
-pub static FEEDTHROUGH: &str = "(edif e (edifVersion 2 0 0) (edifLevel 0) (keywordMap (keywordLevel 0))
+pub static FEEDTHROUGH: &str =
+    "(edif e (edifVersion 2 0 0) (edifLevel 0) (keywordMap (keywordLevel 0))
  (library w (edifLevel 0) (technology)
   (cell P (cellType GENERIC) (view v (viewType NETLIST) (interface (port a (direction INPUT)))))
   (cell F (cellType GENERIC) (view v (viewType NETLIST)

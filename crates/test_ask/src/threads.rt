@@ -17,9 +17,12 @@ fn finds(ask: &Ask<Design>) -> Result<bool, NoMemory> {
 #[test]
 fn callers_ask_beside_each_other(rt: HostRuntime) -> Result<(), Fail> {
     let ask = asked(rt.alloc(), TWICE)?;
-    let found = thread::map_indices(&rt, rt.alloc(), 4, &|_place: usize| -> Result<bool, NoMemory> {
-        finds(&ask)
-    })?;
+    let found = thread::map_indices(
+        &rt,
+        rt.alloc(),
+        4,
+        &|_place: usize| -> Result<bool, NoMemory> { finds(&ask) },
+    )?;
     for one in found.as_slice() {
         match one {
             Ok(there) => assert!(rt; *there),
