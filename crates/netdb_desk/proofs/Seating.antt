@@ -1,5 +1,5 @@
 -- What seats hold stays theirs as the history goes on.
-use Rattle.std.proofs.Common.{◌≡◌, ℕ, List, [], ◌∷◌, length, zero, suc, refl, sym, ap, ◌∙◌, subst, arith}
+use Rattle.std.proofs.Common.{◌≡◌, ℕ, List, [], ◌∷◌, zero, suc, refl, sym, ap, ◌∙◌, subst, arith}
 use Rattle.std.specs.Prelude.{Option, None, Some, replicate, set, slice_get, Result, Ok, Err}
 use Rattle.std.proofs.lemmas.List.{length-replicate, length-set, set-set}
 use Rattle.edit_tx.specs.Facts.{PinFacts, TxFacts}

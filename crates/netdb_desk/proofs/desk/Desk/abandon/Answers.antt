@@ -1,4 +1,4 @@
-use Rattle.std.proofs.Common.{◌≡◌, ap, ◌∙◌}
+use Rattle.std.proofs.Common.{ap, ◌∙◌}
 use Rattle.edit_tx.specs.Facts.{PinFacts}
 use Rattle.netdb_desk.specs.Seats.{with_seat}
 use Rattle.netdb_desk.specs.declared.held.Held.TheVariants.{OnPin}

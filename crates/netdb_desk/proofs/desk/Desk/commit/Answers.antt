@@ -1,4 +1,4 @@
-use Rattle.std.proofs.Common.{◌≡◌, List, sym, ap, ◌∙◌, subst}
+use Rattle.std.proofs.Common.{List, sym, ap, ◌∙◌, subst}
 use Rattle.db_core.specs.Story.{Story}
 use Rattle.netdb_desk.specs.Seats.{DeskFacts, IsDesk, IsPinAt}
 use Rattle.netdb_desk.specs.declared.held.Held.{Held}
