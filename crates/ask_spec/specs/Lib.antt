@@ -1,0 +1,5 @@
+pub mod Examples
+pub mod Nets
+pub mod Places
+pub mod Roles
+pub mod Told

@@ -1,0 +1,236 @@
+//! `Ask`: questions about the flattening of a design.
+ghost use Rattle.std.specs.Prelude.{◌≡◌, ◌↔◌, ◌++◌, ◌∷◌, [], Err, IfOk, None, Some};
+ghost use Rattle.std.specs.Option.{option_copied, option_map};
+ghost use Rattle.netlist_schema.specs.Valid.{IsValid};
+ghost use Rattle.flat_spec.specs.Paths.{at_path};
+ghost use Rattle.flat_items.specs.Lent.{net_of as net_lent, properties_of as properties_lent};
+ghost use Rattle.flat_items.specs.Stand.{IsGround, top_of};
+ghost use Rattle.ask_spec.specs.Nets.{first_of, inner_net_of, is_same_net, net_of};
+ghost use Rattle.ask_spec.specs.Places.{at, insts_of, nets_of, properties_of};
+ghost use Rattle.flat_ask.specs.Asks.{IsBase};
+ghost use Rattle.net_ways.specs.Ways.{AreWays};
+
+use flat_items::{Ground, NetRef, PropertiesRef, Steps};
+use flat_lookup::{cell_along, inst_at, insts_at, nets_at};
+use net_ways::{Ways, first_of, net_inside, net_joined, top_cell};
+use netlist_schema::{CellId, Inst, Net, NoMemory, Property, Shared, Shown};
+use std::alloc::Global;
+use std::marker::Model;
+use thiserror::Error;
+
+/// Why nothing can be asked.
+#[derive(Clone, Copy, Debug, PartialEq, Eq, Error)]
+pub enum AskError {
+    /// The design has no top.
+    #[error("no top")]
+    NoTop,
+    /// An allocation was refused.
+    #[error("no memory")]
+    NoMemory,
+}
+
+/// A design of whose flattening something is asked, and which this owns. Contracts see the design. Several may ask it beside each other.
+pub struct Ask<S: Shown + Drop> {
+    ground: Ground<S>,
+    ways: Ways,
+}
+
+impl<S: Shown + Drop> Drop for Ask<S> {
+    fn drop(self) {
+        let Ask { ground: _, ways: _ } = self;
+    }
+}
+
+impl<S: Shown + Drop> Model for Ask<S> {
+    ghost use Rattle.netlist_schema.specs.Design.{Design};
+    ghost use Rattle.flat_items.specs.Stand.{IsGround};
+    ghost use Rattle.net_ways.specs.Ways.{AreWays};
+
+    ghost Value = { Design };
+
+    ghost view = { λ a. S.design a.ground.design };
+
+    ghost invariant = { λ a. IsGround (S.design a.ground.design) a.ground.classes a.ground.notes
+        × AreWays (S.design a.ground.design) a.ground.classes a.ways };
+}
+
+/// Makes ready to ask of a design whose top has this cell.
+fn ready<S: Shown + Drop>(alloc: Global, design: S, top: CellId) -> Result<Ask<S>, NoMemory>
+    requires valid { IsValid (S.design design) }
+    requires has_top { (S.design design).top ≡ Some (top_of (S.design design)) }
+    requires is_top { (top_of (S.design design)).cell ≡ top }
+    ensures { IfOk result (λ ask. ask ≡ S.design design) }
+{
+    let ground = Ground::of(alloc, design, top)?;
+    let ways = Ways::of(alloc, &ground.design, &ground.classes)?;
+    Ok(Ask { ground, ways })
+}
+
+/// The properties of the instance that leads to an occurrence below the top by a step.
+fn properties_below<'a, S: Shown>(design: &'a S, above: &[u32], step: u32) -> Option<&'a [Property]>
+    ensures { IsBase (S.design design.now) (above.now ++ step ∷ []) (option_copied result) }
+{
+    let Some(up) = cell_along(design, top_cell(design), above) else {
+        return None;
+    };
+    let Some(inst) = inst_at(design, up, step) else {
+        return None;
+    };
+    Some(inst.properties.as_slice())
+}
+
+/// The properties of the top.
+fn top_properties<S: Shown>(design: &S) -> &[Property]
+    ensures { result.now ≡ (top_of (S.design design.now)).properties }
+{
+    match design.top() {
+        Some(top) => top.properties.as_slice(),
+        None => &[],
+    }
+}
+
+/// The properties that notes may change: those of the instance that leads to the occurrence at a path, at the top those of the design.
+fn base_properties<'a, S: Shown>(design: &'a S, path: &[u32]) -> Option<&'a [Property]>
+    ensures { IsBase (S.design design.now) path.now (option_copied result) }
+{
+    match path.split_last() {
+        Some((step, above)) => properties_below(design, above, *step),
+        None => Some(top_properties(design)),
+    }
+}
+
+/// The effective properties of the occurrence at a path, lent: `None` exactly where there is none.
+fn lent_properties<'a, S: Shown + Drop>(
+    ground: &'a Ground<S>,
+    path: &[u32],
+) -> Result<Option<PropertiesRef<'a>>, NoMemory>
+    requires { IsGround (S.design ground.now.design) ground.now.classes ground.now.notes }
+    ensures { IfOk result (λ found. option_map properties_lent found ≡ properties_of (S.design ground.now.design) path.now) }
+{
+    let Some(base) = base_properties(&ground.design, path) else {
+        return Ok(None);
+    };
+    let copied = Vec::from_slice(ground.alloc, path)?;
+    let steps = Steps { steps: copied };
+    Ok(Some(PropertiesRef {
+        base,
+        notes: ground.design.notes().as_slice(),
+        places: ground.notes.find(&steps),
+    }))
+}
+
+/// The cell of the occurrence at a path: `None` exactly where there is none.
+fn cell_at_path<S: Shown>(design: &S, path: &[u32]) -> Option<CellId>
+    requires { (S.design design.now).top ≡ Some (top_of (S.design design.now)) }
+    ensures { result ≡ at (S.design design.now) path.now }
+{
+    cell_along(design, top_cell(design), path)
+}
+
+impl<S: Shown + Drop> Ask<S> {
+    /// Makes ready to ask of a design. `NoTop` comes exactly where the design has no top. At an error the design is dropped.
+    ///
+    /// It takes time and memory in proportion to the cells at and below the top with what is in them, and to the notes, times the
+    /// logarithms of these numbers: never in proportion to occurrences.
+    pub fn of(alloc: Global, design: S) -> Result<Ask<S>, AskError>
+        ensures design { IfOk result (λ ask. ask ≡ S.design design) }
+        ensures no_top { (result ≡ Err AskError.NoTop) ↔ ((S.design design).top ≡ None) }
+    {
+        let Some(top) = design.top() else {
+            return Err(AskError::NoTop);
+        };
+        let cell = top.cell;
+        match ready(alloc, design, cell) {
+            Ok(ask) => Ok(ask),
+            Err(NoMemory) => Err(AskError::NoMemory),
+        }
+    }
+
+    /// The design that is asked. It takes no memory.
+    pub fn design(&self) -> &S
+        ensures { S.design result.now ≡ self.now }
+    {
+        &self.ground.design
+    }
+
+    /// The cell of the occurrence at a path: `None` exactly where there is none. It takes time in proportion to the path, and no memory.
+    pub fn at(&self, path: &[u32]) -> Option<CellId>
+        ensures { result ≡ at self.now path.now }
+    {
+        cell_at_path(&self.ground.design, path)
+    }
+
+    /// Lends the effective properties of the occurrence at a path: `None` exactly where there is none. It takes time in proportion to the
+    /// path, times the logarithm of the number of notes, and memory in proportion to the path.
+    pub fn properties_of(&self, path: &[u32]) -> Result<Option<PropertiesRef<'_>>, NoMemory>
+        ensures { IfOk result (λ found. option_map properties_lent found ≡ properties_of self.now path.now) }
+    {
+        lent_properties(&self.ground, path)
+    }
+
+    /// The instances in the occurrence at a path, in order: none of a leaf, and none where there is no occurrence. It takes time in
+    /// proportion to the path, and no memory.
+    pub fn insts_of(&self, path: &[u32]) -> &[Shared<Inst>]
+        ensures { result.now ≡ insts_of self.now path.now }
+    {
+        match self.at(path) {
+            Some(cell) => insts_at(&self.ground.design, cell),
+            None => &[],
+        }
+    }
+
+    /// The nets in the occurrence at a path, in order: none of a leaf, and none where there is no occurrence. It takes time in proportion
+    /// to the path, and no memory.
+    pub fn nets_of(&self, path: &[u32]) -> &[Shared<Net>]
+        ensures { result.now ≡ nets_of self.now path.now }
+    {
+        match self.at(path) {
+            Some(cell) => nets_at(&self.ground.design, cell),
+            None => &[],
+        }
+    }
+
+    /// The first of the nets that are connected with a net of the occurrence at a path, by which the flattening names it; what is no net
+    /// is its own. It takes time in proportion to the path, times the logarithm of the ends in a cell, and memory for the cells on the
+    /// path.
+    pub fn first_of<'a>(&self, path: &'a [u32], net: u32) -> Result<NetRef<'a>, NoMemory>
+        ensures { IfOk result (λ first. net_lent first ≡ first_of self.now (at_path path.now net)) }
+    {
+        first_of(&self.ground, &self.ways, path, net)
+    }
+
+    /// The first of the nets that are connected with the net at a bit of the occurrence at a path, seen from outside: `None` exactly where
+    /// no net joins it there. It takes time and memory as `first_of` does.
+    pub fn net_of<'a>(
+        &self,
+        path: &'a [u32],
+        port: u32,
+        bit: u32,
+    ) -> Result<Option<NetRef<'a>>, NoMemory>
+        ensures { IfOk result (λ found. option_map net_lent found ≡ net_of self.now path.now port bit) }
+    {
+        net_joined(&self.ground, &self.ways, path, port, bit)
+    }
+
+    /// The same, seen from inside the occurrence: the first of the nets that are connected with that net of its own contents which joins the
+    /// bit, `None` exactly where none does. At the top it is the same net. It takes time and memory as `first_of` does.
+    pub fn inner_net_of<'a>(
+        &self,
+        path: &'a [u32],
+        port: u32,
+        bit: u32,
+    ) -> Result<Option<NetRef<'a>>, NoMemory>
+        ensures { IfOk result (λ found. option_map net_lent found ≡ inner_net_of self.now path.now port bit) }
+    {
+        net_inside(&self.ground, &self.ways, path, port, bit)
+    }
+
+    /// Whether two nets are connected. It takes time and memory as `first_of` for both.
+    pub fn is_same_net(&self, one: NetRef<'_>, other: NetRef<'_>) -> Result<bool, NoMemory>
+        ensures { IfOk result (λ same. same ≡ is_same_net self.now (net_lent one.entry) (net_lent other.entry)) }
+    {
+        let first = self.first_of(one.path, one.net)?;
+        let second = self.first_of(other.path, other.net)?;
+        Ok(first.path == second.path && first.net == second.net)
+    }
+}
