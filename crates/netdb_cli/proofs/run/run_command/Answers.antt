@@ -11,7 +11,8 @@ use Rattle.netdb_cli.proofs.WordLemmas.{good_wanted}
 use Rattle.netdb_cli.proofs.run.run_command.Goals as goal
 
 pub show_file-requires : goal.show_file-requires
-show_file-requires g c = good_wanted c.in-Show.name.now c.in-Show.wanted (subst (λ (command : Command). IsGood (request_of command)) c.in-Show.is c.requires)
+show_file-requires g c =
+    (c.type_bounds.sync-R, (c.type_bounds.sync-G, good_wanted c.in-Show.name.now c.in-Show.wanted (subst (λ (command : Command). IsGood (request_of command)) c.in-Show.is c.requires)))
 
 pub returns-in-Show-clause-gives : goal.returns-in-Show-clause-gives
 returns-in-Show-clause-gives g c =
