@@ -14,4 +14,4 @@ release-requires-2 c =
     let is : IsPinOf last their = subst (IsPinOf last) (sym their_one) kept in
     let one = ap (λ (p : PinFacts). p.caller) their_one ∙ c.in_ok-theirs.ensures.pin.caller_is in
     let zero = ap (λ (p : PinFacts). p.caller) our_one ∙ c.in_ok-ours.ensures.pin.caller_is in
-    (over_release last c.release.new.self c.log-history.ensures.history their c.in_ok-our_pin.our_pin is one zero c.release.ensures).live
+    (over_release last c.release.new.self c.history_is_legal.ensures.history their c.in_ok-our_pin.our_pin is one zero c.release.ensures).live
