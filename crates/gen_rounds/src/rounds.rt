@@ -6,6 +6,7 @@ ghost use Rattle.db_core.specs.Story.{IsPinOf, state};
 ghost use Rattle.db_spec.specs.Answers.{HasPlaces};
 ghost use Rattle.db_spec.specs.State.{head};
 ghost use Rattle.gen_rounds.specs.Stand.{HasCommitted, IsAccepted, StandsAfter, StandsEdited};
+ghost use Rattle.gen_spec.specs.declared.limits.TheConstants.{MOST_SIZE};
 
 use db_core::{CollectError, CommitError, Core, PinError};
 use design_gen::gen_op;
@@ -84,7 +85,7 @@ fn collect(core: &mut Core) -> Result<u32, NoMemory>
 
 /// Commits the edit of the round behind so many.
 fn edit(alloc: Global, core: &mut Core, count: u32, passed: u32) -> Result<(), NoMemory>
-    requires count { count ≤ 4096 }
+    requires count { count ≤ MOST_SIZE }
     requires passed { passed < count }
     requires stands { StandsAfter count passed core.old }
     ensures { OnOk result (StandsEdited count passed core.new) }
@@ -98,7 +99,7 @@ fn edit(alloc: Global, core: &mut Core, count: u32, passed: u32) -> Result<(), N
 
 /// Ends the round behind so many: each sixteenth one by a collect.
 fn end_round(core: &mut Core, count: u32, passed: u32) -> Result<(), NoMemory>
-    requires count { count ≤ 4096 }
+    requires count { count ≤ MOST_SIZE }
     requires passed { passed < count }
     requires stands { StandsEdited count passed core.old }
     ensures { OnOk result (StandsAfter count (passed + 1) core.new) }
@@ -112,7 +113,7 @@ fn end_round(core: &mut Core, count: u32, passed: u32) -> Result<(), NoMemory>
 
 /// All rounds, one after the other.
 pub(crate) fn take_rounds(alloc: Global, core: &mut Core, count: u32) -> Result<(), NoMemory>
-    requires count { count ≤ 4096 }
+    requires count { count ≤ MOST_SIZE }
     requires stands { StandsAfter count 0 core.old }
     ensures { OnOk result (StandsAfter count count core.new) }
 {

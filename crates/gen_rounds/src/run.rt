@@ -2,6 +2,7 @@
 ghost use Rattle.std.specs.Prelude.{◌≡◌, ◌≤◌, IfOk};
 ghost use Rattle.gen_spec.specs.Generated.{generated};
 ghost use Rattle.gen_rounds.specs.Stand.{HasEnded, HasRun, IsPin, StandsAfter};
+ghost use Rattle.gen_spec.specs.declared.limits.TheConstants.{MOST_SIZE};
 
 use crate::rounds::{EDITOR, pin_head, take_rounds};
 use db_core::Core;
@@ -24,7 +25,7 @@ pub struct Run {
 
 /// A database with the generated design, of whose first version the reader has a pin.
 fn open(alloc: Global, count: u32) -> Result<(Core, Pin), NoMemory>
-    requires { (1 ≤ count) × (count ≤ 4096) }
+    requires { (1 ≤ count) × (count ≤ MOST_SIZE) }
     ensures stands { IfOk result (λ opened. StandsAfter count 0 opened.0) }
     ensures pin { IfOk result (λ opened. IsPin 0 1 0 (generated count) opened.1) }
 {
@@ -36,7 +37,7 @@ fn open(alloc: Global, count: u32) -> Result<(Core, Pin), NoMemory>
 
 /// The run up to the point where the editor has pinned the last version.
 pub fn go_through(alloc: Global, count: u32) -> Result<Run, NoMemory>
-    requires { (1 ≤ count) × (count ≤ 4096) }
+    requires { (1 ≤ count) × (count ≤ MOST_SIZE) }
     ensures count { IfOk result (λ run. run.count ≡ count) }
     ensures run { IfOk result (λ run. HasRun run.count run.core run.first run.last) }
 {

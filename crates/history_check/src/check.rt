@@ -12,6 +12,7 @@ ghost use Rattle.history_turns.specs.declared.seats.Seat.{Seat as SeatFacts};
 ghost use Rattle.history_check.specs.declared.check.CheckError.TheVariants.{NoMemory as OutOfMemory};
 ghost use Rattle.history_check.specs.Verdicts.{Checks};
 ghost use Rattle.history_check_spec.specs.Printed.{PrintsNone, PrintsOnly, PrintsSome};
+ghost use Rattle.script_spec.specs.declared.limits.TheConstants.{MOST_SCRIPTS};
 
 use crate::ends::finish;
 use crate::replay::{open_seats, replay};
@@ -103,7 +104,7 @@ fn check(
     scripts: &[Script],
     report: &[u8],
 ) -> Result<bool, NoMemory>
-    requires few { length scripts.now ≤ 64 }
+    requires few { length scripts.now ≤ MOST_SCRIPTS }
     requires fresh { core.old.events ≡ [] }
     requires top { CanWalk core.old.opening (all_steps scripts.now) }
     ensures { IfOk result (λ yes. MatchBool yes (PrintsSome core.old.opening (all_steps scripts.now) report.now) (PrintsNone core.old.opening (all_steps scripts.now) report.now)) }
@@ -131,7 +132,7 @@ pub fn check_report(
     scripts: &Row<Script>,
     report: &[u8],
 ) -> Result<Verdict, CheckError>
-    requires { length scripts.now ≤ 64 }
+    requires { length scripts.now ≤ MOST_SCRIPTS }
     ensures { Checks design (all_steps scripts.now) report.now result }
 {
     let rows = scripts.as_slice();

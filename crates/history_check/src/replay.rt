@@ -9,9 +9,10 @@ ghost use Rattle.script_run_spec.specs.Scripts.{all_steps};
 ghost use Rattle.history_check.specs.Follow.{AllStand, CallComes, IsBehind, IsRestOf, said_by};
 ghost use Rattle.history_turns.specs.Seats.{IsOpen};
 ghost use Rattle.history_check_spec.specs.Printed.{PrintsNone, PrintsOnly};
+ghost use Rattle.script_spec.specs.declared.limits.TheConstants.{MOST_SCRIPTS};
 
 use db_core::Core;
-use history_turns::{At, Seat, take_turn};
+use history_turns::{Asked, At, Seat, take_turn};
 use netlist_schema::NoMemory;
 use report_parts::{Next, after, next_caller};
 use script_lang::event_text;
@@ -81,7 +82,8 @@ fn call(
     let seat = swap_seat(seats, place, first_seat(alloc));
     let lines = scripts[place].lines();
     let left = spare(seats.as_slice(), most);
-    match take_turn(alloc, core, next.caller, lines, seat, next.release, left)? {
+    let Next { caller, release } = next;
+    match take_turn(alloc, core, Asked { caller, release }, lines, seat, left)? {
         Some(turned) => {
             swap_seat(seats, place, turned);
             Ok(true)
@@ -125,7 +127,7 @@ pub fn replay<'a>(
     text: &'a [u8],
     most: usize,
 ) -> Result<Option<&'a [u8]>, NoMemory>
-    requires few { length scripts.now ≤ 64 }
+    requires few { length scripts.now ≤ MOST_SCRIPTS }
     requires stands { AllStand core.old (all_steps scripts.now) seats.old.items }
     requires top { CanWalk core.old.opening (all_steps scripts.now) }
     ensures opening { IfOk result (λ rest. OnSome rest (core.new.opening ≡ core.old.opening)) }

@@ -10,4 +10,4 @@ mod within;
 
 pub use places::take_turn;
 pub use quiet::pass_quiet;
-pub use seats::{At, Block, Seat};
+pub use seats::{Asked, At, Block, Seat};

@@ -13,7 +13,7 @@ use crate::lines::{
     abandon_line, begin_line, collect_line, cut_off, pin_at_line, pin_line, release_line,
 };
 use crate::quiet::pass_quiet;
-use crate::seats::{At, Block, Seat};
+use crate::seats::{Asked, At, Block, Seat};
 use db_core::{Core, Pin};
 use netlist_schema::NoMemory;
 use script_spec::{ScriptLine, Step};
@@ -83,20 +83,19 @@ fn off_call(
 fn block_call(
     alloc: Global,
     core: &mut Core,
-    caller: u32,
+    asked: Asked,
     block: Block,
     step: &Step,
-    release: bool,
     said: &mut Vec<u8>,
 ) -> Result<Option<At>, NoMemory>
-    requires pin { IsPinBy core.old caller block.tx.pin }
+    requires pin { IsPinBy core.old asked.caller block.tx.pin }
     requires loud { IsLoud (phase_of (At.InBlock block)) step.now }
-    ensures { IfOk result (Comes core.old core.new caller release (phase_of (At.InBlock block)) step.now said.old.items said.new.items) }
+    ensures { IfOk result (Comes core.old core.new asked.caller asked.release (phase_of (At.InBlock block)) step.now said.old.items said.new.items) }
 {
     match step {
         Step::Abandon => Ok(Some(abandon_line(core, block, said)?)),
         Step::Commit => {
-            if release {
+            if asked.release {
                 return Ok(Some(cut_off(core, block.tx.abandon(), said)?));
             }
             commit_line(alloc, core, block, said)
@@ -109,22 +108,21 @@ fn block_call(
 fn step_call(
     alloc: Global,
     core: &mut Core,
-    caller: u32,
+    asked: Asked,
     at: At,
     step: &Step,
-    release: bool,
     said: &mut Vec<u8>,
 ) -> Result<Option<At>, NoMemory>
-    requires at { IsAt core.old caller at }
+    requires at { IsAt core.old asked.caller at }
     requires between { IsBetween at }
     requires loud { IsLoud (phase_of at) step.now }
-    ensures { IfOk result (Comes core.old core.new caller release (phase_of at) step.now said.old.items said.new.items) }
+    ensures { IfOk result (Comes core.old core.new asked.caller asked.release (phase_of at) step.now said.old.items said.new.items) }
 {
     match at {
-        At::Free => free_call(alloc, core, caller, step, said),
-        At::OnPin(pin) => pin_call(core, caller, pin, step, release, said),
-        At::OffPin => off_call(core, caller, step, said),
-        At::InBlock(block) => block_call(alloc, core, caller, block, step, release, said),
+        At::Free => free_call(alloc, core, asked.caller, step, said),
+        At::OnPin(pin) => pin_call(core, asked.caller, pin, step, asked.release, said),
+        At::OffPin => off_call(core, asked.caller, step, said),
+        At::InBlock(block) => block_call(alloc, core, asked, block, step, said),
         _ => Ok(None),
     }
 }
@@ -206,21 +204,20 @@ fn behind(at: &At, line: usize) -> usize
     }
 }
 
-/// Makes the next call of a caller, where it is asked for a release or for another call, and says what its lines say up to it. Nothing comes where
-/// there is no such call, or no room for it, or where the caller says more than so many bytes before it.
+/// Makes the next call of the caller that is asked, and says what its lines say up to it. Nothing comes where there is no such call, or no
+/// room for it, or where the caller says more than so many bytes before it.
 pub fn take_turn(
     alloc: Global,
     core: &mut Core,
-    caller: u32,
+    asked: Asked,
     lines: &[ScriptLine],
     seat: Seat,
-    release: bool,
     most: usize,
 ) -> Result<Option<Seat>, NoMemory>
-    requires at { IsAt core.old caller seat.at }
+    requires at { IsAt core.old asked.caller seat.at }
     requires line { seat.line ≤ length lines.now }
     requires top { HasWalk (steps_of lines.now) → HasPinnedTop seat.at }
-    ensures { IfOk result (λ next. MatchOption next (IsHalted core.old release (phase_of seat.at) (drop seat.line (steps_of lines.now)) seat.said.items most) (Turned core.old core.new caller release (steps_of lines.now) seat)) }
+    ensures { IfOk result (λ next. MatchOption next (IsHalted core.old asked.release (phase_of seat.at) (drop seat.line (steps_of lines.now)) seat.said.items most) (Turned core.old core.new asked.caller asked.release (steps_of lines.now) seat)) }
 {
     core.history_is_legal();
     let Seat { at, line, mut said } = seat;
@@ -228,19 +225,19 @@ pub fn take_turn(
         return Ok(None);
     };
     if !is_between(&at) {
-        let Some(at) = owed_call(alloc, core, caller, at, &mut said)? else {
+        let Some(at) = owed_call(alloc, core, asked.caller, at, &mut said)? else {
             return Ok(None);
         };
         return Ok(Some(Seat { at, line, said }));
     }
     if line == lines.len() {
-        let Some(at) = end_call(core, caller, at) else {
+        let Some(at) = end_call(core, asked.caller, at) else {
             return Ok(None);
         };
         return Ok(Some(Seat { at, line, said }));
     }
     let step = &lines[line].step;
-    let Some(at) = step_call(alloc, core, caller, at, step, release, &mut said)? else {
+    let Some(at) = step_call(alloc, core, asked, at, step, &mut said)? else {
         return Ok(None);
     };
     let line = behind(&at, line);

@@ -32,6 +32,13 @@ pub enum At {
     Over(u32),
 }
 
+/// What is asked of a report's next event: whose call it is, and whether it is a release.
+#[derive(Clone, Copy)]
+pub struct Asked {
+    pub caller: u32,
+    pub release: bool,
+}
+
 /// A caller on its way through a script: where it stands, the place of its next line, and what was said to it.
 #[derive(Drop)]
 pub struct Seat {

@@ -28,15 +28,20 @@ const RUN_WORD: u32 = 2;
 /// The position of the first script's name among the words of a check.
 const CHECK_WORD: u32 = 3;
 
+/// What goes along with a command: what starts threads, where memory comes from, and the gate that workers and callers tell.
+struct Along<'a, R, G> {
+    rt: &'a R,
+    alloc: Global,
+    gate: &'a G,
+}
+
 /// Reads a design file, and writes what is wanted of its design.
 fn show_file<R: Threads + Sync, F: Files, K: Sink, G: Gate + Sync>(
-    rt: &R,
-    alloc: Global,
+    along: &Along<'_, R, G>,
     name: &str,
     wanted: Wanted,
     files: &mut F,
     out: &mut K,
-    gate: &G,
 ) -> Status
     requires { IsGoodWanted wanted }
     ensures gives { Gives (Show name.now wanted) (F.told files.new) (K.written out.old) (K.written out.new) result }
@@ -45,21 +50,19 @@ fn show_file<R: Threads + Sync, F: Files, K: Sink, G: Gate + Sync>(
     ensures files { SameFiles (F.told files.old) (F.told files.new) }
     ensures visited { Adds (F.visits files.old) (F.visits files.new) (CommandReads (files_of (Show name.now wanted)) 1 result) }
 {
-    match read_design(alloc, files, name) {
-        Ok(design) => write_output(rt, alloc, &design, wanted, gate, out),
+    match read_design(along.alloc, files, name) {
+        Ok(design) => write_output(along.rt, along.alloc, &design, wanted, along.gate, out),
         Err(status) => status,
     }
 }
 
 /// Reads the files of scripts, runs them on a design, and writes the report.
 fn run_files<R: Threads + Wait + Sync, F: Files, K: Sink, G: Gate + Sync>(
-    rt: &R,
-    alloc: Global,
+    along: &Along<'_, R, G>,
     design: Design,
     names: &[String],
     files: &mut F,
     out: &mut K,
-    gate: &G,
 ) -> Status
     requires { (1 ≤ length names.now) × (length names.now ≤ MOST_SCRIPTS) }
     ensures gives { ReadRunGives design (spelled names.now) (F.told files.new) (K.written out.old) (K.written out.new) result }
@@ -68,21 +71,19 @@ fn run_files<R: Threads + Wait + Sync, F: Files, K: Sink, G: Gate + Sync>(
     ensures files { SameFiles (F.told files.old) (F.told files.new) }
     ensures visited { Adds (F.visits files.old) (F.visits files.new) (CommandReads (script_files (spelled names.now)) 2 result) }
 {
-    match read_scripts(alloc, files, names, RUN_WORD) {
-        Ok(scripts) => write_report(rt, alloc, design, &scripts, gate, out),
+    match read_scripts(along.alloc, files, names, RUN_WORD) {
+        Ok(scripts) => write_report(along.rt, along.alloc, design, &scripts, along.gate, out),
         Err(status) => status,
     }
 }
 
 /// Reads a design file and the files of scripts, runs these on the design, and writes the report.
 fn run_on_file<R: Threads + Wait + Sync, F: Files, K: Sink, G: Gate + Sync>(
-    rt: &R,
-    alloc: Global,
+    along: &Along<'_, R, G>,
     name: &str,
     names: &[String],
     files: &mut F,
     out: &mut K,
-    gate: &G,
 ) -> Status
     requires { (1 ≤ length names.now) × (length names.now ≤ MOST_SCRIPTS) }
     ensures gives { Gives (Run name.now (spelled names.now)) (F.told files.new) (K.written out.old) (K.written out.new) result }
@@ -91,21 +92,19 @@ fn run_on_file<R: Threads + Wait + Sync, F: Files, K: Sink, G: Gate + Sync>(
     ensures files { SameFiles (F.told files.old) (F.told files.new) }
     ensures visited { Adds (F.visits files.old) (F.visits files.new) (CommandReads (files_of (Run name.now (spelled names.now))) 1 result) }
 {
-    match read_design(alloc, files, name) {
-        Ok(design) => run_files(rt, alloc, design, names, files, out, gate),
+    match read_design(along.alloc, files, name) {
+        Ok(design) => run_files(along, design, names, files, out),
         Err(status) => status,
     }
 }
 
 /// Reads the files of scripts, runs them on a design, and writes the report and the uses of the last version.
 fn use_files<R: Threads + Wait + Sync, F: Files, K: Sink, G: Gate + Sync>(
-    rt: &R,
-    alloc: Global,
+    along: &Along<'_, R, G>,
     design: Design,
     names: &[String],
     files: &mut F,
     out: &mut K,
-    gate: &G,
 ) -> Status
     requires { (1 ≤ length names.now) × (length names.now ≤ MOST_SCRIPTS) }
     ensures gives { ReadUsesGive design (spelled names.now) (F.told files.new) (K.written out.old) (K.written out.new) result }
@@ -114,21 +113,19 @@ fn use_files<R: Threads + Wait + Sync, F: Files, K: Sink, G: Gate + Sync>(
     ensures files { SameFiles (F.told files.old) (F.told files.new) }
     ensures visited { Adds (F.visits files.old) (F.visits files.new) (CommandReads (script_files (spelled names.now)) 2 result) }
 {
-    match read_scripts(alloc, files, names, RUN_WORD) {
-        Ok(scripts) => write_with_uses(rt, alloc, design, &scripts, gate, out),
+    match read_scripts(along.alloc, files, names, RUN_WORD) {
+        Ok(scripts) => write_with_uses(along.rt, along.alloc, design, &scripts, along.gate, out),
         Err(status) => status,
     }
 }
 
 /// Reads a design file and the files of scripts, runs these on the design, and writes the report and the uses of the last version.
 fn uses_of_file<R: Threads + Wait + Sync, F: Files, K: Sink, G: Gate + Sync>(
-    rt: &R,
-    alloc: Global,
+    along: &Along<'_, R, G>,
     name: &str,
     names: &[String],
     files: &mut F,
     out: &mut K,
-    gate: &G,
 ) -> Status
     requires { (1 ≤ length names.now) × (length names.now ≤ MOST_SCRIPTS) }
     ensures gives { Gives (Uses name.now (spelled names.now)) (F.told files.new) (K.written out.old) (K.written out.new) result }
@@ -137,8 +134,8 @@ fn uses_of_file<R: Threads + Wait + Sync, F: Files, K: Sink, G: Gate + Sync>(
     ensures files { SameFiles (F.told files.old) (F.told files.new) }
     ensures visited { Adds (F.visits files.old) (F.visits files.new) (CommandReads (files_of (Uses name.now (spelled names.now))) 1 result) }
 {
-    match read_design(alloc, files, name) {
-        Ok(design) => use_files(rt, alloc, design, names, files, out, gate),
+    match read_design(along.alloc, files, name) {
+        Ok(design) => use_files(along, design, names, files, out),
         Err(status) => status,
     }
 }
@@ -214,12 +211,10 @@ fn check_files<F: Files, K: Sink>(
 
 /// Runs a command.
 fn run_command<R: Threads + Wait + Sync, F: Files, K: Sink, G: Gate + Sync>(
-    rt: &R,
-    alloc: Global,
+    along: &Along<'_, R, G>,
     command: Command<'_>,
     files: &mut F,
     out: &mut K,
-    gate: &G,
 ) -> Status
     requires { IsGood (request_of command) }
     ensures gives { Gives (request_of command.entry) (F.told files.new) (K.written out.old) (K.written out.new) result }
@@ -230,15 +225,15 @@ fn run_command<R: Threads + Wait + Sync, F: Files, K: Sink, G: Gate + Sync>(
     ensures untouched { LeavesFiles (request_of command.entry) (F.told files.old) (F.told files.new) (F.faults files.old) (F.faults files.new) }
 {
     match command {
-        Command::Show { name, wanted } => show_file(rt, alloc, name, wanted, files, out, gate),
-        Command::Run { name, scripts } => run_on_file(rt, alloc, name, scripts, files, out, gate),
-        Command::Generate { size } => write_summary(alloc, size, out),
-        Command::Uses { name, scripts } => uses_of_file(rt, alloc, name, scripts, files, out, gate),
+        Command::Show { name, wanted } => show_file(along, name, wanted, files, out),
+        Command::Run { name, scripts } => run_on_file(along, name, scripts, files, out),
+        Command::Generate { size } => write_summary(along.alloc, size, out),
+        Command::Uses { name, scripts } => uses_of_file(along, name, scripts, files, out),
         Command::Check {
             name,
             report,
             scripts,
-        } => check_files(alloc, name, report, scripts, files, out),
+        } => check_files(along.alloc, name, report, scripts, files, out),
     }
 }
 
@@ -304,7 +299,7 @@ pub fn run_netdb<R: Threads + Wait + Sync, F: Files, K: Sink, G: Gate + Sync>(
 {
     given_is_due();
     match command_of(words) {
-        Some(command) => run_command(rt, alloc, command, files, out, gate),
+        Some(command) => run_command(&Along { rt, alloc, gate }, command, files, out),
         None => Status::Usage,
     }
 }
