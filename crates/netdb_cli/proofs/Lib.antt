@@ -1,3 +1,4 @@
 pub mod OutcomeLemmas
+mod VerdictLemmas
 pub mod VisitLemmas
 pub mod WordLemmas

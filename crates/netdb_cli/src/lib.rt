@@ -3,6 +3,7 @@
 
 mod run;
 mod texts;
+mod verdict;
 
 pub use edif_file::fault_text;
 pub use edif_spec::EdifFault;

@@ -10,7 +10,7 @@ ghost use Rattle.netdb_spec.specs.Outcome.{Gives, ReadChecks, ReadRunGives, Read
 ghost use Rattle.netdb_spec.specs.Reads.{LeavesFiles, files_of};
 ghost use Rattle.script_spec.specs.declared.limits.TheConstants.{MOST_SCRIPTS};
 
-use call_check::write_verdict;
+use crate::verdict::write_verdict;
 use netdb_commands::{
     command_of, read_design, read_report, read_scripts, write_output, write_report, write_summary,
     write_with_uses,

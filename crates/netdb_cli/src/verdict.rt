@@ -1,4 +1,4 @@
-//! Whether a report is true, as a line.
+//! What a check of a report writes: whether it is true, as a line.
 ghost use Rattle.std.specs.Prelude.{◌≤◌, length};
 ghost use Rattle.script_run_spec.specs.Scripts.{all_steps};
 ghost use Rattle.netdb_spec.specs.Counts.{CountsWriting};
@@ -15,7 +15,7 @@ use std::alloc::Global;
 
 /// Writes the line `yes` where a text is the report of a run of scripts on a design, else the line `no`, unless one of the scripts walks
 /// and the design has no top.
-pub fn write_verdict<K: Sink>(
+pub(crate) fn write_verdict<K: Sink>(
     alloc: Global,
     design: Design,
     scripts: &Row<Script>,

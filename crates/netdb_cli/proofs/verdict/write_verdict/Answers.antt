@@ -1,7 +1,7 @@
 use Rattle.std.proofs.Common.{inl, inr}
 use Rattle.script_run_spec.specs.Scripts.{all_steps}
-use Rattle.call_check.proofs.Telling.{verdict_gives}
-use Rattle.call_check.proofs.verdict.write_verdict.Goals as goal
+use Rattle.netdb_cli.proofs.VerdictLemmas.{verdict_gives}
+use Rattle.netdb_cli.proofs.verdict.write_verdict.Goals as goal
 
 pub returns-in-Ok-Yes-clause-gives : goal.returns-in-Ok-Yes-clause-gives
 returns-in-Ok-Yes-clause-gives g c =
