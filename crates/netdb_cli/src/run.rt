@@ -29,6 +29,7 @@ const RUN_WORD: u32 = 2;
 const CHECK_WORD: u32 = 3;
 
 /// What goes along with a command: what starts threads, where memory comes from, and the gate that workers and callers tell.
+#[derive(Clone, Copy)]
 struct Along<'a, R, G> {
     rt: &'a R,
     alloc: Global,
