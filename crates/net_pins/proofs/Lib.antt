@@ -1,0 +1,16 @@
+mod BackLemmas
+mod CountLemmas
+mod DownLemmas
+mod IndexLemmas
+mod LeadLemmas
+mod LeftLemmas
+mod LevelLemmas
+mod ListLemmas
+mod MoveLemmas
+mod NestedLemmas
+mod OrderLemmas
+mod PassLemmas
+mod RowLemmas
+mod StandLemmas
+mod StartLemmas
+mod TopLemmas

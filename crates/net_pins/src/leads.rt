@@ -1,0 +1,82 @@
+//! Which joints lead to a pin.
+ghost use Rattle.std.specs.Prelude.{◌≡◌, option_and_then, slice_get};
+ghost use Rattle.net_pins.specs.Rows.{bit_leads, leads, port_stands};
+
+use crate::rows::Rows;
+use ask_spec::Role;
+use flat_lookup::inst_at;
+use net_classes::{Classes, Joint};
+use netlist_schema::{CellBody, CellId, Direction, Port, Shown};
+
+/// Whether a pin of a port with this direction stands as that at its net, at the top or at a leaf below it.
+pub(crate) fn stands_as(role: Role, at_top: bool, direction: Option<Direction>) -> bool
+    ensures { result ≡ port_stands role at_top direction }
+{
+    let strong = match direction {
+        Some(Direction::Input) => at_top,
+        Some(Direction::Output) => !at_top,
+        Some(Direction::Inout) => false,
+        None => false,
+    };
+    let either = match direction {
+        Some(Direction::Input) => false,
+        Some(Direction::Output) => false,
+        Some(Direction::Inout) => true,
+        None => true,
+    };
+    match role {
+        Role::Any => true,
+        Role::Driver => strong || either,
+        Role::Load => !strong,
+    }
+}
+
+/// The direction of a port.
+pub(crate) fn direction_of(ports: &[Port], port: u32) -> Option<Direction>
+    ensures { result ≡ option_and_then (λ p. p.direction) (slice_get ports.now port) }
+{
+    match ports.get(port as usize) {
+        Some(found) => found.direction,
+        None => None,
+    }
+}
+
+/// Whether an own bit of an instance's cell leads to a pin that stands as that: at a leaf the bit itself, else one below.
+fn leads_in(
+    classes: &Classes,
+    rows: &Rows,
+    role: Role,
+    of: CellId,
+    body: &CellBody,
+    joint: &Joint,
+) -> bool
+    ensures { result ≡ bit_leads role classes.now rows.now of body.now (record { port = joint.now.port; bit = joint.now.bit }) }
+{
+    if body.contents.is_none() {
+        return stands_as(role, false, direction_of(body.ports.as_slice(), joint.port));
+    }
+    match classes.first_at(of, joint.port, joint.bit) {
+        Some(first) => !rows.joints(of, first).is_empty(),
+        None => false,
+    }
+}
+
+/// Whether a joint of a cell leads to a pin that stands as that.
+pub(crate) fn leads<S: Shown>(
+    design: &S,
+    classes: &Classes,
+    rows: &Rows,
+    role: Role,
+    cell: CellId,
+    joint: &Joint,
+) -> bool
+    ensures { result ≡ leads role (S.design design.now) classes.now rows.now cell joint.now }
+{
+    let Some(inst) = inst_at(design, cell, joint.inst) else {
+        return false;
+    };
+    match design.cell(inst.of) {
+        Some(body) => leads_in(classes, rows, role, inst.of, body, joint),
+        None => false,
+    }
+}
