@@ -9,14 +9,16 @@ use Rattle.flat_spec.specs.Paths.{Bit, Reaches}
 use Rattle.flat_spec.proofs.ListLemmas.{last_cases}
 use Rattle.erc_spec.specs.Told.{PinBefore}
 use Rattle.net_classes.specs.declared.joints.Joint.{Joint}
+use Rattle.flat_items.specs.Stand.{top_of}
 use Rattle.net_pins.specs.Levels.{AreLevels, IsLevel, IsNextOf, leads_in}
-use Rattle.net_pins.specs.Moves.{HasLeft, NothingHere, at_next, bit_at, last_step}
+use Rattle.net_pins.specs.Moves.{CanLeave, HasLeft, NothingHere, at_next, bit_at, last_step}
 use Rattle.net_pins.specs.Order.{PinPlace, joint_before}
 use Rattle.net_pins.specs.Spots.{MayAsk, MayStand, Question, Stand, left, place_of}
 use Rattle.net_pins.specs.declared.levels.Level.{Level}
 use Rattle.net_pins.proofs.LeftLemmas.{place_in}
 use Rattle.net_pins.proofs.MoveLemmas.{first_bit, found}
 use Rattle.net_pins.proofs.OrderLemmas.{PathBefore-under, PinBefore-more, PinBefore-strip, PinBefore-under, between, none_before_first}
+use Rattle.net_pins.proofs.RoomLemmas.{step_small}
 use Rattle.net_pins.proofs.StandLemmas.{IsAsked, IsInside, inside_at, last_push, levels_push, levels_split, none_left, same_left, set_push}
 
 not_before_nil : (p : List ℕ) → PathBefore p [] → ⊥
@@ -91,7 +93,7 @@ module _ (q : Question) (asks : MayAsk q) (s : Stand) (inside : IsInside q asks 
       back_left = sym (same_left q asks s t goes_on none_between)
 
 -- what leaving the last occurrence for the instance behind it gives
-module _ (q : Question) (asks : MayAsk q) (s t : Stand) (stands : MayStand q s) (not_ready : s.ready ≡ false) (here : NothingHere q s) (gone : HasLeft s t) (deep : 2 ≤ length s.levels) where
+module _ (q : Question) (asks : MayAsk q) (s : Stand) (stands : MayStand q s) (here : NothingHere q s) (deep : 2 ≤ length s.levels) where
   not_empty : (init : List ℕ) (last : ℕ) → init ++ last ∷ [] ≡ [] → ⊥
   not_empty [] last e = cc e
   not_empty (k ∷ init) last e = cc e
@@ -129,40 +131,56 @@ module _ (q : Question) (asks : MayAsk q) (s t : Stand) (stands : MayStand q s) 
   init_is : inside.init ≡ front ++ step ∷ []
   init_is = above_split.2
 
-  gone_path : gone.path ≡ q.first.path ++ inside.init
-  gone_path = (same_from_push gone.path (q.first.path ++ inside.init) gone.step inside.last (sym gone.path_is ∙ inside.path_is)).0
-
-  gone_levels : gone.levels ≡ inside.levels
-  gone_levels = (same_from_push gone.levels inside.levels gone.level inside.level (sym gone.levels_are ∙ inside.levels_are)).0
-
-  whole : gone.path ≡ (q.first.path ++ front) ++ step ∷ []
-  whole = gone_path ∙ ap (λ v. q.first.path ++ v) init_is ∙ sym (append_assoc q.first.path front (step ∷ []))
-
-  new_path : t.path ≡ (q.first.path ++ front) ++ (step + 1) ∷ []
-  new_path =
-      ap (λ (v : Stand). v.path) gone.new_is
-      ∙ ap (λ p. set p (length p - 1) (last_step p + 1)) whole
-      ∙ set_push (q.first.path ++ front) step (last_step ((q.first.path ++ front) ++ step ∷ []) + 1)
-      ∙ ap (λ v. (q.first.path ++ front) ++ (v + 1) ∷ []) (last_push (q.first.path ++ front) step)
-
-  new_place : place_of t ≡ ((q.first.path ++ front) ++ (step + 1) ∷ [], first_bit)
-  new_place = λ k. (new_path k, record { port = (ap (λ (v : Stand). v.port) gone.new_is) k; bit = (ap (λ (v : Stand). v.bit) gone.new_is) k })
-
-  pub left_stays : left q t ≡ left q s
-  left_stays = back_left q asks s inside none front step init_is t new_place
-
-  pub back_ready : t.ready ≡ false
-  back_ready = ap (λ (v : Stand). v.ready) gone.new_is ∙ not_ready
-
-  pub back_stands : MayStand q t
-  back_stands = record {
-    steps = front ++ (step + 1) ∷ [];
-    path_is = new_path ∙ append_assoc q.first.path front ((step + 1) ∷ []);
-    levels = subst (AreLevels q.design q.facts q.cells q.first q.first.path (front ++ (step + 1) ∷ [])) (sym (ap (λ (v : Stand). v.levels) gone.new_is ∙ gone_levels ∙ above_split.3.2))
-        (levels_push q q.first.path front above_split.3.0 (step + 1) above_split.3.1 above_split.3.3 above_split.3.4);
-    lowest = inr (inl (ap (λ (v : Stand). v.port) gone.new_is, ap (λ (v : Stand). v.bit) gone.new_is));
-    ready = λ e. absurd (true≢false (sym e ∙ back_ready));
+  pub can_leave : CanLeave s
+  can_leave = record {
+    deep = deep;
+    long = let two = ap length inside.path_is in
+        let one = length_push (q.first.path ++ inside.init) inside.last in
+        let more = length-append q.first.path inside.init in
+        let some = ap length init_is ∙ length_push front step in
+        omega (arith, two, one, more, some);
+    room = λ path up last is.
+        let whole : (path ++ up ∷ []) ++ last ∷ [] ≡ (q.first.path ++ inside.init) ++ inside.last ∷ [] = append_assoc path (up ∷ []) (last ∷ []) ∙ sym is ∙ inside.path_is in
+        let parts = same_from_push (path ++ up ∷ []) (q.first.path ++ inside.init) last inside.last whole in
+        let small = step_small q.design asks.ground.valid (top_of q.design).cell inside.level.cell path up (subst (λ p. Reaches q.design (top_of q.design).cell p inside.level.cell) (sym parts.0) inside.here.reached) in
+        omega (arith, small);
   }
+
+  module _ (t : Stand) (not_ready : s.ready ≡ false) (gone : HasLeft s t) where
+    gone_path : gone.path ≡ q.first.path ++ inside.init
+    gone_path = (same_from_push gone.path (q.first.path ++ inside.init) gone.step inside.last (sym gone.path_is ∙ inside.path_is)).0
+
+    gone_levels : gone.levels ≡ inside.levels
+    gone_levels = (same_from_push gone.levels inside.levels gone.level inside.level (sym gone.levels_are ∙ inside.levels_are)).0
+
+    whole : gone.path ≡ (q.first.path ++ front) ++ step ∷ []
+    whole = gone_path ∙ ap (λ v. q.first.path ++ v) init_is ∙ sym (append_assoc q.first.path front (step ∷ []))
+
+    new_path : t.path ≡ (q.first.path ++ front) ++ (step + 1) ∷ []
+    new_path =
+        ap (λ (v : Stand). v.path) gone.new_is
+        ∙ ap (λ p. set p (length p - 1) (last_step p + 1)) whole
+        ∙ set_push (q.first.path ++ front) step (last_step ((q.first.path ++ front) ++ step ∷ []) + 1)
+        ∙ ap (λ v. (q.first.path ++ front) ++ (v + 1) ∷ []) (last_push (q.first.path ++ front) step)
+
+    new_place : place_of t ≡ ((q.first.path ++ front) ++ (step + 1) ∷ [], first_bit)
+    new_place = λ k. (new_path k, record { port = (ap (λ (v : Stand). v.port) gone.new_is) k; bit = (ap (λ (v : Stand). v.bit) gone.new_is) k })
+
+    pub left_stays : left q t ≡ left q s
+    left_stays = back_left q asks s inside none front step init_is t new_place
+
+    pub back_ready : t.ready ≡ false
+    back_ready = ap (λ (v : Stand). v.ready) gone.new_is ∙ not_ready
+
+    pub back_stands : MayStand q t
+    back_stands = record {
+      steps = front ++ (step + 1) ∷ [];
+      path_is = new_path ∙ append_assoc q.first.path front ((step + 1) ∷ []);
+      levels = subst (AreLevels q.design q.facts q.cells q.first q.first.path (front ++ (step + 1) ∷ [])) (sym (ap (λ (v : Stand). v.levels) gone.new_is ∙ gone_levels ∙ above_split.3.2))
+          (levels_push q q.first.path front above_split.3.0 (step + 1) above_split.3.1 above_split.3.3 above_split.3.4);
+      lowest = inr (inl (ap (λ (v : Stand). v.port) gone.new_is, ap (λ (v : Stand). v.bit) gone.new_is));
+      ready = λ e. absurd (true≢false (sym e ∙ back_ready));
+    }
 
 -- in the net's own occurrence nothing is left at all
 module _ (q : Question) (asks : MayAsk q) (s : Stand) (stands : MayStand q s) (here : NothingHere q s) where

@@ -1,6 +1,7 @@
 mod BackLemmas
 mod CountLemmas
 mod DownLemmas
+mod FoundLemmas
 mod IndexLemmas
 mod LeadLemmas
 mod LeftLemmas
@@ -10,6 +11,7 @@ mod MoveLemmas
 mod NestedLemmas
 mod OrderLemmas
 mod PassLemmas
+mod RoomLemmas
 mod RowLemmas
 mod StandLemmas
 mod StartLemmas

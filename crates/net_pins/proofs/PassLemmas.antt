@@ -22,6 +22,7 @@ use Rattle.net_pins.specs.Spots.{IsLowest, MayAsk, MayStand, Question, Stand, le
 use Rattle.net_pins.proofs.LeadLemmas.{body_of, shows_leaf}
 use Rattle.net_pins.proofs.LeftLemmas.{IsNextPin, all_asked, left-first, pins-in_order, place_in}
 use Rattle.net_pins.proofs.OrderLemmas.{PathBefore-more, PinBefore-more}
+use Rattle.net_pins.proofs.RoomLemmas.{bit_small}
 use Rattle.net_pins.proofs.StandLemmas.{IsAsked, is_asked}
 
 not_itself : (p : PinPlace) → PinBefore p p → ⊥
@@ -70,6 +71,13 @@ module _ (q : Question) (asks : MayAsk q) (s : Stand) (stands : MayStand q s) (r
 
   asked : IsAsked q asks s.path s.port s.bit
   asked = is_asked q asks s.path s.port s.bit (Some q.first) pin
+
+  -- one bit more fits
+  pub bit_has_room : s.bit < 4294967295
+  bit_has_room =
+      let told = pin_there q.design (top_of q.design) asks.ground.top asks.ground.valid.no_cycle s.path s.port s.bit (Some q.first) asked.item in
+      let less = bit_small q.design asks.ground.valid s.path told.0.0 s.port s.bit told.0.2 in
+      omega (arith, less)
 
   lowest : (up : List ℕ) (step : ℕ) → s.path ≡ up ++ step ∷ [] → IsLowest q.design s.path
   lowest up step is c body at body_is =

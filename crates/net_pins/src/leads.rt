@@ -1,5 +1,6 @@
 //! Which joints lead to a pin.
-ghost use Rattle.std.specs.Prelude.{◌≡◌, option_and_then, slice_get};
+ghost use Rattle.std.specs.Prelude.{◌≡◌, if◌then◌else◌, option_and_then, slice_get};
+ghost use Rattle.erc_spec.specs.Drives.{is_either, is_input, is_output};
 ghost use Rattle.net_pins.specs.Rows.{bit_leads, leads, port_stands};
 
 use crate::rows::Rows;
@@ -8,26 +9,61 @@ use flat_lookup::inst_at;
 use net_classes::{Classes, Joint};
 use netlist_schema::{CellBody, CellId, Direction, Port, Shown};
 
-/// Whether a pin of a port with this direction stands as that at its net, at the top or at a leaf below it.
-pub(crate) fn stands_as(role: Role, at_top: bool, direction: Option<Direction>) -> bool
-    ensures { result ≡ port_stands role at_top direction }
+/// Whether it is an input.
+fn is_input(direction: Option<Direction>) -> bool
+    ensures { result ≡ is_input direction }
 {
-    let strong = match direction {
-        Some(Direction::Input) => at_top,
-        Some(Direction::Output) => !at_top,
+    match direction {
+        Some(Direction::Input) => true,
+        Some(Direction::Output) => false,
         Some(Direction::Inout) => false,
         None => false,
-    };
-    let either = match direction {
+    }
+}
+
+/// Whether it is an output.
+fn is_output(direction: Option<Direction>) -> bool
+    ensures { result ≡ is_output direction }
+{
+    match direction {
+        Some(Direction::Input) => false,
+        Some(Direction::Output) => true,
+        Some(Direction::Inout) => false,
+        None => false,
+    }
+}
+
+/// Whether a pin of a port with this direction drives its net strongly, at the top or at a leaf below it.
+fn is_strong(at_top: bool, direction: Option<Direction>) -> bool
+    ensures { result ≡ (if at_top then is_input direction else is_output direction) }
+{
+    if at_top {
+        is_input(direction)
+    } else {
+        is_output(direction)
+    }
+}
+
+/// Whether a port with this direction leads both ways, or is not told which way it leads.
+fn is_either(direction: Option<Direction>) -> bool
+    ensures { result ≡ is_either direction }
+{
+    match direction {
         Some(Direction::Input) => false,
         Some(Direction::Output) => false,
         Some(Direction::Inout) => true,
         None => true,
-    };
+    }
+}
+
+/// Whether a pin of a port with this direction stands as that at its net, at the top or at a leaf below it.
+pub(crate) fn stands_as(role: Role, at_top: bool, direction: Option<Direction>) -> bool
+    ensures { result ≡ port_stands role at_top direction }
+{
     match role {
         Role::Any => true,
-        Role::Driver => strong || either,
-        Role::Load => !strong,
+        Role::Driver => is_strong(at_top, direction) || is_either(direction),
+        Role::Load => !is_strong(at_top, direction),
     }
 }
 
