@@ -26,6 +26,14 @@ set_other (y ∷ xs) zero (suc j) x n = refl
 set_other (y ∷ xs) (suc i) zero x n = refl
 set_other (y ∷ xs) (suc i) (suc j) x n = set_other xs i j x (λ e. n (ap suc e))
 
+-- what holds of each row by its place, one row more
+pub each_push : {R : Type 0} (P : ℕ → R → Type 0) (rows : List R) (row : R) → ((k : ℕ) → IfSome (slice_get rows k) (P k)) → P (length rows) row
+    → (k : ℕ) → IfSome (slice_get (rows ++ row ∷ []) k) (P k)
+each_push P [] row each here zero = here
+each_push P [] row each here (suc k) = tt
+each_push P (r ∷ rows) row each here zero = each 0
+each_push P (r ∷ rows) row each here (suc k) = each_push (λ n. P (suc n)) rows row (λ n. each (suc n)) here k
+
 module _ {R T : Type 0} (items : R → List T) (lists : T → List (List Joint)) where
   abbrev pub table : List R → Table
   table rows = map (λ row. map lists (items row)) rows

@@ -46,6 +46,11 @@ entered s level =
 abbrev pub passed_by : Stand → Stand
 passed_by s = if s.ready then passed s else s
 
+-- the last element was dropped
+pub record IsDropped {A : Type 0} (old new : List A) : Type 0 where
+  pub last : A
+  pub is : old ≡ new ++ last ∷ []
+
 -- the last occurrence was left for the instance behind it
 pub record HasLeft (old new : Stand) : Type 0 where
   pub levels : List Level

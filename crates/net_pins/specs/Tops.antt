@@ -27,9 +27,13 @@ bits_in lists f = option_map_or (λ bits. bits) (slice_get lists f) []
 abbrev pub bit_stands : Role → Design → CellId → Bit → Bool
 bit_stands role d top b = option_map_or (λ body. port_stands role true (direction_in body b.port)) (cell_at d top) false
 
+-- a bit of a port
+abbrev pub bit_at : ℕ → ℕ → Bit
+bit_at port bit = record { port = port; bit = bit }
+
 -- the bits of a port with that place
 abbrev pub port_bits : ℕ → Port → List Bit
-port_bits place port = map (λ bit. record { port = place; bit = bit }) (range_with_len 0 (port_width port))
+port_bits place port = map (bit_at place) (range_with_len 0 (port_width port))
 
 -- the bit stands so, and is connected with that first net
 abbrev pub bit_is_in : Role → Facts → CellId → CellBody → ℕ → OwnBit → Bool

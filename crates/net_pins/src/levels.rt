@@ -1,5 +1,5 @@
 //! Where a net leads from the contents of an occurrence: to pins of leaves, and into other cells.
-ghost use Rattle.std.specs.Prelude.{◌≡◌, ◌≤◌, ◌↔◌, ◌++◌, ℕ, List, IfOk, OnOk};
+ghost use Rattle.std.specs.Prelude.{◌≡◌, ◌≤◌, ◌↔◌, ◌++◌, ℕ, List, IfOk, OnOk, Some, slice_get, true};
 ghost use Rattle.flat_spec.specs.Paths.{Bit};
 ghost use Rattle.std.specs.List.{All, AllPairs, Contains};
 ghost use Rattle.net_classes.specs.Joints.{IsNotBehind};
@@ -46,12 +46,20 @@ fn count_before(joints: &[Joint], inst: u32, port: u32, bit: u32) -> usize
     )
 }
 
+/// The joint at a place, where there is one.
+fn joint_in(joints: &[Joint], place: usize) -> Option<Joint>
+    ensures { result ≡ slice_get joints.now place }
+{
+    joints.get(place).copied()
+}
+
 /// The first of the joints that does not come before this bit of an instance, where there is one.
 fn joint_from(joints: &[Joint], inst: u32, port: u32, bit: u32) -> Option<Joint>
     requires { AllPairs IsNotBehind joints.now }
     ensures { IsNextOf joints.now inst (record { port = port; bit = bit }) result }
 {
-    joints.get(count_before(joints, inst, port, bit)).copied()
+    let count = count_before(joints, inst, port, bit);
+    joint_in(joints, count)
 }
 
 /// The earlier of two joints, where there is one; of the same bit the first one.
@@ -104,17 +112,35 @@ fn from_inst(joints: &[Joint], inst: u32) -> &[Joint]
     on
 }
 
+/// Whether the number is the last; then it is among them.
+fn is_last(firsts: &[u32], first: u32) -> bool
+    ensures { result ≡ true → Contains firsts.now first }
+{
+    match firsts.last() {
+        Some(last) => *last == first,
+        None => false,
+    }
+}
+
+/// Adds a number that is not the last.
+fn add_first(firsts: &mut Vec<u32>, first: u32) -> Result<(), NoMemory>
+    ensures { OnOk result (IsLeadAdded (Some first) firsts.old.items firsts.new.items) }
+{
+    if is_last(firsts.as_slice(), first) {
+        return Ok(());
+    }
+    firsts.push(first)?;
+    Ok(())
+}
+
 /// Adds a number, where there is one and it is not the last.
 fn add_lead(firsts: &mut Vec<u32>, first: Option<u32>) -> Result<(), NoMemory>
     ensures { OnOk result (IsLeadAdded first firsts.old.items firsts.new.items) }
 {
-    let Some(first) = first else {
-        return Ok(());
-    };
-    if firsts.as_slice().last() != Some(&first) {
-        firsts.push(first)?;
+    match first {
+        Some(first) => add_first(firsts, first),
+        None => Ok(()),
     }
-    Ok(())
 }
 
 /// Adds the first nets inside a cell to which those of the joints lead that are on its instance, which stand in front.
@@ -131,7 +157,7 @@ fn add_leads(
 {
     for joint in joints {
         if joint.inst != inst {
-            break;
+            return Ok(());
         }
         add_lead(firsts, classes.first_at(of, joint.port, joint.bit))?;
     }

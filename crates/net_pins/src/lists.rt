@@ -22,9 +22,10 @@ pub(crate) fn no_lists<T: Drop>(alloc: Global, count: usize) -> Result<Vec<Vec<T
 fn add_at<T: Drop>(lists: &mut Vec<Vec<T>>, number: u32, item: T) -> Result<(), NoMemory>
     ensures { OnOk result (IsAdded number item (map (λ list. list.items) lists.old.items) (map (λ list. list.items) lists.new.items)) }
 {
-    if (number as usize) < lists.len() {
-        lists[number as usize].push(item)?;
+    if (number as usize) >= lists.len() {
+        return Ok(());
     }
+    lists[number as usize].push(item)?;
     Ok(())
 }
 

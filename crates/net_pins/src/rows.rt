@@ -109,7 +109,9 @@ fn no_rows<S: Shown>(alloc: Global, design: &S) -> Result<Rows, NoMemory>
 {
     let mut cells = Vec::new(alloc);
     for lib in 0..design.lib_count() {
-        cells.push(blank_row(alloc, design.cell_count(LibId(lib)))?)?;
+        let count = design.cell_count(LibId(lib));
+        let row = blank_row(alloc, count)?;
+        cells.push(row)?;
     }
     Ok(Rows { cells })
 }
@@ -118,9 +120,10 @@ fn no_rows<S: Shown>(alloc: Global, design: &S) -> Result<Rows, NoMemory>
 fn set_in(row: &mut Vec<CellRows>, slot: u32, made: CellRows)
     ensures { row.new.items ≡ set row.old.items slot made }
 {
-    if (slot as usize) < row.len() {
-        row[slot as usize] = made;
+    if (slot as usize) >= row.len() {
+        return;
     }
+    row[slot as usize] = made;
 }
 
 impl Rows {
@@ -152,9 +155,10 @@ impl Rows {
     fn set(&mut self, cell: CellId, made: CellRows)
         ensures { AreSetAt self.old cell (lists_of made) self.new }
     {
-        if (cell.lib.0 as usize) < self.cells.len() {
-            set_in(&mut self.cells[cell.lib.0 as usize], cell.slot, made);
+        if (cell.lib.0 as usize) >= self.cells.len() {
+            return;
         }
+        set_in(&mut self.cells[cell.lib.0 as usize], cell.slot, made);
     }
 
     /// The joints of those nets of a cell whose first net inside this is which lead to pins, by instance, port and bit. Takes no memory.

@@ -1,7 +1,8 @@
 //! Where one stands among the pins of a net.
-ghost use Rattle.std.specs.Prelude.{◌≡◌, ◌≢◌, ◌<◌, [], IfOk, Ok, OnErr, OnOk, false, true};
-ghost use Rattle.net_pins.specs.Levels.{AreInOrder, IsNextOf, leads_in};
-ghost use Rattle.net_pins.specs.Moves.{CanLeave, HasLeft, IsBelowAt, IsBlock, IsLeadAt, NothingHere, IsOwnBit, IsOwnLevel, at_bit, at_next, entered, last_step, made_ready, moved, passed_by};
+ghost use Rattle.std.specs.Prelude.{◌≡◌, ◌≢◌, ◌<◌, ◌≤◌, ◌-◌, ◌↔◌, [], ℕ, IfOk, Ok, OnErr, OnOk, false, length, set, true};
+ghost use Rattle.std.specs.List.{Contains};
+ghost use Rattle.net_pins.specs.Levels.{AreInOrder, IsNextOf, LeadsTo, leads_in};
+ghost use Rattle.net_pins.specs.Moves.{CanLeave, HasLeft, IsBelowAt, IsBlock, IsDropped, IsLeadAt, NothingHere, IsOwnBit, IsOwnLevel, at_bit, at_next, entered, last_step, made_ready, moved, passed_by};
 ghost use Rattle.net_pins.specs.Spots.{IsFound, IsLent, MayAsk, MayStand, left, rest_of, stand_of};
 
 use crate::levels::{Level, level_below, next_lead};
@@ -67,6 +68,25 @@ impl Drop for Spot {
     }
 }
 
+/// Drops the last element.
+fn drop_last<T: Drop>(xs: &mut Vec<T>)
+    requires { 1 ≤ length xs.old.items }
+    ensures { IsDropped xs.old.items xs.new.items }
+{
+    xs.pop();
+}
+
+/// Sets the last step, where there is one.
+fn set_last(path: &mut Vec<u32>, step: u32)
+    ensures { path.new.items ≡ set path.old.items (length path.old.items - 1) step }
+{
+    let count = path.len();
+    if count == 0 {
+        return;
+    }
+    path[count - 1] = step;
+}
+
 impl Spot {
     /// Enters an occurrence below that at the path, whose level this is: one stands before its first instance. After `NoMemory` all is as
     /// before.
@@ -87,8 +107,8 @@ impl Spot {
         requires { CanLeave (stand_of self.old) }
         ensures { HasLeft (stand_of self.old) (stand_of self.new) }
     {
-        self.levels.pop();
-        self.path.pop();
+        drop_last(&mut self.levels);
+        drop_last(&mut self.path);
         self.go_to_next();
     }
 
@@ -105,10 +125,7 @@ impl Spot {
     fn go_to(&mut self, inst: u32, port: u32, bit: u32)
         ensures { stand_of self.new ≡ moved (stand_of self.old) inst port bit }
     {
-        let count = self.path.len();
-        if count > 0 {
-            self.path[count - 1] = inst;
-        }
+        set_last(&mut self.path, inst);
         self.port = port;
         self.bit = bit;
     }
@@ -123,23 +140,16 @@ impl Spot {
         }
     }
 
-    /// The first joint of the last occurrence that leads to a pin and at which one may stand, where there is one.
-    fn lead(&self, rows: &Rows, level: &Level) -> Option<Joint>
-        requires { AreInOrder rows.now level.now.cell }
-        ensures { IsNextOf (leads_in rows.now level.now.cell level.now.firsts.items) (last_step self.now.path.items) (record { port = self.now.port; bit = self.now.bit }) result }
-    {
-        next_lead(rows, level, self.step(), self.port, self.bit)
-    }
-
     /// Passes over the pin at which one stands, where it is ready.
     pub fn pass(&mut self)
         requires { self.old.ready ≡ true → self.old.bit < 4294967295 }
         ensures { stand_of self.new ≡ passed_by (stand_of self.old) }
     {
-        if self.ready {
-            self.bit += 1;
-            self.ready = false;
+        if !self.ready {
+            return;
         }
+        self.bit += 1;
+        self.ready = false;
     }
 
     /// Goes on to the pin of a bit of the occurrence at the path.
@@ -168,7 +178,7 @@ struct Below {
 }
 
 /// The cell of an instance, and whether it is a leaf: `None` exactly where there is none.
-fn below_at<S: Shown>(design: &S, cell: CellId, inst: u32) -> Option<Below>
+fn below_in<S: Shown>(design: &S, cell: CellId, inst: u32) -> Option<Below>
     ensures { IsBelowAt (S.design design.now) cell inst result }
 {
     let of = inst_at(design, cell, inst)?.of;
@@ -177,6 +187,35 @@ fn below_at<S: Shown>(design: &S, cell: CellId, inst: u32) -> Option<Below>
         of,
         leaf: body.contents.is_none(),
     })
+}
+
+/// The same in the design that is asked.
+fn below_at<S: Shown + Drop>(asked: &Asked<'_, S>, cell: CellId, inst: u32) -> Option<Below>
+    ensures { IsBelowAt asked.now.design cell inst result }
+{
+    below_in(&asked.ground.design, cell, inst)
+}
+
+/// The first joint of the last occurrence, whose level this is, that leads to a pin and at which one may stand, where there is one.
+fn lead<S: Shown + Drop>(asked: &Asked<'_, S>, spot: &Spot, level: &Level) -> Option<Joint>
+    requires { AreInOrder asked.now.cells level.now.cell }
+    ensures { IsNextOf (leads_in asked.now.cells level.now.cell level.now.firsts.items) (last_step spot.now.path.items) (record { port = spot.now.port; bit = spot.now.bit }) result }
+{
+    next_lead(asked.rows, level, spot.step(), spot.port, spot.bit)
+}
+
+/// The level of an instance of a level, which is of that cell.
+fn made_below<S: Shown + Drop>(
+    asked: &Asked<'_, S>,
+    level: &Level,
+    inst: u32,
+    of: CellId,
+) -> Result<Level, NoMemory>
+    requires { AreInOrder asked.now.cells level.now.cell }
+    ensures cell { IfOk result (λ made. made.cell ≡ of) }
+    ensures firsts { IfOk result (λ made. (f : ℕ) → Contains made.firsts.items f ↔ LeadsTo asked.now.facts of inst (leads_in asked.now.cells level.now.cell level.now.firsts.items) f) }
+{
+    level_below(asked.ground.alloc, &asked.ground.classes, asked.rows, level, inst, of)
 }
 
 /// The next bit of the top that is a pin of the net, where the net is of the top and one is left.
@@ -223,11 +262,10 @@ fn go_in<S: Shown + Drop>(
     ensures left { left asked.now (stand_of spot.new) ≡ left asked.now (stand_of spot.old) }
     ensures over { spot.new.ready ≡ false }
 {
-    let ground = asked.ground;
     let Some(level) = spot.levels.as_slice().last() else {
         return Ok(());
     };
-    let made = level_below(ground.alloc, &ground.classes, asked.rows, level, joint.inst, of)?;
+    let made = made_below(asked, level, joint.inst, of)?;
     spot.go_to(joint.inst, 0, 0);
     spot.enter(made)
 }
@@ -284,7 +322,7 @@ fn look_at<S: Shown + Drop>(
     ensures found { IfOk result (IsFound asked.now (stand_of spot.new)) }
     ensures err { OnErr result (spot.new.ready ≡ false) }
 {
-    let Some(below) = below_at(&asked.ground.design, cell, joint.inst) else {
+    let Some(below) = below_at(asked, cell, joint.inst) else {
         return Ok(Found::Nothing);
     };
     if below.leaf {
@@ -330,7 +368,7 @@ fn look_in<S: Shown + Drop>(
         return Ok(Found::Nothing);
     };
     let cell = level.cell;
-    match spot.lead(asked.rows, level) {
+    match lead(asked, spot, level) {
         Some(joint) => look_at(asked, spot, cell, joint),
         None => Ok(look_above(asked, spot)),
     }

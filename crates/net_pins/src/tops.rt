@@ -1,7 +1,8 @@
 //! `TopRows`: the bits of the top by the nets that join them.
-ghost use Rattle.std.specs.Prelude.{◌≡◌, ◌++◌, IfOk, None, OnOk, if◌then◌else◌, length, map};
-ghost use Rattle.std.specs.List.{AllPairs};
+ghost use Rattle.std.specs.Prelude.{◌≡◌, ◌≤◌, ◌++◌, IfOk, None, OnOk, if◌then◌else◌, length, map, slice_get};
+ghost use Rattle.std.specs.List.{AllPairs, range_with_len};
 ghost use Rattle.erc_spec.specs.Told.{BitBefore};
+ghost use Rattle.netlist_schema.specs.declared.limits.TheConstants.{MOST_PORTS};
 ghost use Rattle.flat_spec.specs.Pins.{bits_of};
 ghost use Rattle.net_classes.specs.Facts.{first_at};
 ghost use Rattle.flat_items.specs.Stand.{IsGround, top_of};
@@ -9,7 +10,7 @@ ghost use Rattle.net_ways.specs.Counts.{IsCountOf};
 ghost use Rattle.net_pins.specs.Order.{bit_before};
 ghost use Rattle.net_pins.specs.Rows.{direction_in, port_stands};
 ghost use Rattle.net_pins.specs.Lists.{AreParted};
-ghost use Rattle.net_pins.specs.Tops.{AreTops, IsNextBit, bit_is_in, bit_of, bits_in, port_bits};
+ghost use Rattle.net_pins.specs.Tops.{AreTops, IsNextBit, bit_at, bit_is_in, bit_of, bits_in};
 ghost use Rattle.net_ways.specs.Ways.{firsts_in};
 
 use crate::leads::{direction_of, stands_as};
@@ -18,7 +19,7 @@ use ask_spec::Role;
 use bus_members::width;
 use flat_items::Ground;
 use net_classes::Classes;
-use netlist_schema::{CellBody, CellId, NoMemory, Port, Shown};
+use netlist_schema::{CellBody, CellId, NoMemory, Shown};
 use std::alloc::Global;
 use std::marker::Model;
 
@@ -50,11 +51,11 @@ impl Model for TopRows {
     ghost view = { λ s. map (λ bits. bits.items) s.by_first.items };
 }
 
-/// Adds the bits of a port.
-fn add_port(place: u32, port: &Port, bits: &mut Vec<OwnBit>) -> Result<(), NoMemory>
-    ensures { OnOk result (map bit_of bits.new.items ≡ map bit_of bits.old.items ++ port_bits place port.now) }
+/// Adds so many bits of a port.
+fn add_port(place: u32, count: u32, bits: &mut Vec<OwnBit>) -> Result<(), NoMemory>
+    ensures { OnOk result (map bit_of bits.new.items ≡ map bit_of bits.old.items ++ map (bit_at place) (range_with_len 0 count)) }
 {
-    for bit in 0..width(port) {
+    for bit in 0..count {
         bits.push(OwnBit { port: place, bit })?;
     }
     Ok(())
@@ -62,11 +63,13 @@ fn add_port(place: u32, port: &Port, bits: &mut Vec<OwnBit>) -> Result<(), NoMem
 
 /// The bits of a cell.
 fn all_bits(alloc: Global, body: &CellBody) -> Result<Vec<OwnBit>, NoMemory>
+    requires { length body.now.ports ≤ MOST_PORTS }
     ensures { IfOk result (λ bits. map bit_of bits.items ≡ bits_of body.now) }
 {
     let mut bits = Vec::new(alloc);
-    for (place, port) in body.ports.as_slice().iter().enumerate() {
-        add_port(place as u32, port, &mut bits)?;
+    let ports = body.ports.as_slice();
+    for (place, port) in ports.iter().enumerate() {
+        add_port(place as u32, width(port), &mut bits)?;
     }
     Ok(bits)
 }
@@ -147,8 +150,16 @@ impl TopRows {
         ensures { IsNextBit (bits_in self.now first) (record { port = port; bit = bit }) result }
     {
         let bits = self.bits(first);
-        bits.get(count_before(bits, port, bit)).copied()
+        let count = count_before(bits, port, bit);
+        bit_in(bits, count)
     }
+}
+
+/// The bit at a place, where there is one.
+fn bit_in(bits: &[OwnBit], place: usize) -> Option<OwnBit>
+    ensures { result ≡ slice_get bits.now place }
+{
+    bits.get(place).copied()
 }
 
 /// How many of the bits, which are in order, come before this one.

@@ -5,4 +5,4 @@ use Rattle.net_pins.specs.Tops.{bit_of, port_bits}
 use Rattle.net_pins.proofs.tops.all_bits.Given as goal
 
 abbrev pub invariant-loop-place : goal.invariant-loop-place
-invariant-loop-place l = map bit_of l.bits.items ≡ flat_map (λ (p : ℕ × Port). port_bits p.0 p.1) (enumerate_from 0 (take l.place l.body.ports))
+invariant-loop-place l = map bit_of l.bits.items ≡ flat_map (λ (p : ℕ × Port). port_bits p.0 p.1) (enumerate_from 0 (take l.place l.ports))
