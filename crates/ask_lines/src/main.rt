@@ -113,7 +113,7 @@ fn write_net<W: Write>(out: &mut W, net: Option<NetRef<'_>>) -> Result<(), Stop>
 /// Writes all pins of a net.
 fn write_pins<W: Write>(out: &mut W, mut pins: Pins<'_, Design>) -> Result<(), Stop> {
     for _ in 0..u64::MAX {
-        if !pins.settle()? {
+        if !pins.advance()? {
             break;
         }
         if let Some(ItemRef::Pin {
@@ -121,13 +121,13 @@ fn write_pins<W: Write>(out: &mut W, mut pins: Pins<'_, Design>) -> Result<(), S
             port,
             bit,
             first: _,
-        }) = pins.peek()
+        }) = pins.current()
         {
             write!(out, "pin ")?;
             write_path(out, path)?;
             writeln!(out, " {port} {bit}")?;
         }
-        pins.pass();
+        pins.skip();
     }
     writeln!(out, "end")?;
     Ok(())
@@ -135,13 +135,13 @@ fn write_pins<W: Write>(out: &mut W, mut pins: Pins<'_, Design>) -> Result<(), S
 
 /// Writes the first pin of a net, where it has one.
 fn write_first_pin<W: Write>(out: &mut W, mut pins: Pins<'_, Design>) -> Result<(), Stop> {
-    pins.settle()?;
+    pins.advance()?;
     if let Some(ItemRef::Pin {
         path,
         port,
         bit,
         first: _,
-    }) = pins.peek()
+    }) = pins.current()
     {
         write!(out, "pin ")?;
         write_path(out, path)?;
@@ -168,10 +168,10 @@ fn write_fan_out<W: Write>(out: &mut W, ask: &Ask<Design>, path: &[u32]) -> Resu
 /// How many pins these are.
 fn count_of(mut pins: Pins<'_, Design>) -> Result<u64, NoMemory> {
     for count in 0..u64::MAX {
-        if !pins.settle()? {
+        if !pins.advance()? {
             return Ok(count);
         }
-        pins.pass();
+        pins.skip();
     }
     Ok(u64::MAX)
 }

@@ -1,6 +1,6 @@
 -- What each step towards the next pin comes to.
 use Rattle.std.proofs.Common.{◌≡◌, ◌≢◌, ◌⊎◌, ◌<◌, ◌≤◌, ◌+◌, ◌-◌, ℕ, List, [], ◌∷◌, ◌++◌, length, drop, Bool, true, false, cond, refl, sym, ap, subst, ◌∙◌, inl, inr, arith, Some, None, Option, slice_get, get_or, append_assoc, append-nil}
-use Rattle.std.specs.Prelude.{◌↔◌, IsSome, is_none, OnErr, OnOk, Result, Ok, Err}
+use Rattle.std.specs.Prelude.{◌↔◌, IfOk, IsSome, is_none, OnErr, OnOk, Result, Ok, Err}
 use Rattle.std.specs.List.{Contains}
 use Rattle.std.specs.Option.{option_map_or, option_to_list}
 use Rattle.std.proofs.lemmas.Bool.{cases_Bool, false≢true}
@@ -32,6 +32,11 @@ use Rattle.net_pins.proofs.StartLemmas.{into_left, into_stands, nowhere_left, ow
 pub either_way : {A E : Type 0} {P Q R : Type 0} (r : Result A E) → OnOk r P → OnErr r Q → (P → R) → (Q → R) → R
 either_way (Ok a) ok err p q = p ok
 either_way (Err e) ok err p q = q err
+
+-- what holds of what a call gave
+pub if_ok_more : {A E : Type 0} {P Q : A → Type 0} (r : Result A E) → ((a : A) → P a → Q a) → IfOk r P → IfOk r Q
+if_ok_more (Ok a) more is = more a is
+if_ok_more (Err e) more is = tt
 
 -- a list with a last element ends in it
 pub last_split : {A : Type 0} (xs : List A) (x : A) → slice_get xs (length xs - 1) ≡ Some x → (init : List A) × (xs ≡ init ++ x ∷ [])

@@ -3,6 +3,7 @@ mod CountLemmas
 mod DownLemmas
 mod FoundLemmas
 mod IndexLemmas
+mod KeptLemmas
 mod LeadLemmas
 mod LeftLemmas
 mod LevelLemmas

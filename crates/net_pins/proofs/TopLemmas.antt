@@ -23,6 +23,7 @@ use Rattle.net_pins.specs.Rows.{direction_in, port_stands}
 use Rattle.net_pins.specs.Tops.{AreTops, TopTable, bit_is_in, bit_of, bit_stands, bits_in, port_bits}
 use Rattle.net_ways.specs.Ways.{firsts_in}
 use Rattle.net_pins.specs.declared.tops.OwnBit.{OwnBit}
+use Rattle.net_ways.proofs.JoinedLemmas.{no_bits}
 use Rattle.net_ways.proofs.ClimbLemmas.{first_at_is, first_net, net_has_first, told_at}
 
 same_option : (o : Option ℕ) (f : ℕ) → option_eq nat_eq o (Some f) ≡ true → o ≡ Some f
@@ -64,6 +65,13 @@ bits_more place (p ∷ ports) (suc k) port at =
     ap (λ v. port_bits place p ++ v) more
     ∙ sym (append_assoc (port_bits place p) (flat_map (λ (p : ℕ × Port). port_bits p.0 p.1) (enumerate_from (place + 1) (take k ports))) (port_bits ((place + 1) + k) port))
     ∙ ap (λ n. (port_bits place p ++ flat_map (λ (p : ℕ × Port). port_bits p.0 p.1) (enumerate_from (place + 1) (take k ports))) ++ port_bits n port) step
+
+-- without such a cell there are none
+pub no_tops : (role : Role) (d : Design) (facts : Facts) (top : CellId) → cell_at d top ≡ None → AreTops role d facts top []
+no_tops role d facts top is = record {
+  each = λ f v. (λ has. absurd (Contains-member [] v has), λ h. absurd (no_bits d top (bit_of v) is h.0));
+  in_order = λ f. Ascends-pairs (λ v w. BitBefore (bit_of v) (bit_of w)) [] tt;
+}
 
 module _ (role : Role) (d : Design) (facts : Facts) (notes : PlacedNotes) (ground : IsGround d facts notes) (body : CellBody) (is : cell_at d (top_of d).cell ≡ Some body)
     (bits : List OwnBit) (all : map bit_of bits ≡ bits_of body) (lists : TopTable)

@@ -3,7 +3,7 @@ ghost use Rattle.std.specs.Prelude.{◌≡◌, ◌≢◌, ◌∷◌, [], IfNone,
 ghost use Rattle.ask_spec.specs.Roles.{pins_as};
 ghost use Rattle.net_pins.specs.Spots.{GivesNext, IsLent, MayAsk};
 
-use crate::spot::{Asked, Spot, peek, settle};
+use crate::spot::{Asked, Spot, advance, current, next_pin, start};
 use flat_items::ItemRef;
 use flat_spec::Item;
 use netlist_schema::{NoMemory, Shown};
@@ -36,58 +36,44 @@ pub(crate) fn begin<'a, S: Shown + Drop>(asked: Asked<'a, S>) -> Result<Pins<'a,
     requires { MayAsk asked }
     ensures { IfOk result (λ pins. pins.left ≡ pins_as asked.role asked.design asked.first) }
 {
-    let path = Vec::from_slice(asked.ground.alloc, asked.first.path)?;
-    let levels = Vec::new(asked.ground.alloc);
-    let spot = Spot {
-        levels,
-        path,
-        port: 0,
-        bit: 0,
-        ready: false,
-    };
+    let spot = start(&asked)?;
     Ok(Pins { asked, spot })
 }
 
 impl<'a, S: Shown + Drop> Pins<'a, S> {
-    /// Goes on to the next pin: `true` where one is left, `false` where none is. After `NoMemory` it stands where it stood.
-    pub fn settle(&mut self) -> Result<bool, NoMemory>
-        ensures left { self.new.left ≡ self.old.left }
-        ensures ready { IfOk result (λ more. self.new.ready ≡ more) }
-        ensures some { result ≡ Ok true → self.new.left ≢ [] }
-        ensures none { result ≡ Ok false → self.new.left ≡ [] }
-    {
-        settle(&self.asked, &mut self.spot)
-    }
-
-    /// Lends the next pin, where one has gone on to it: `None` elsewhere. It takes no memory.
-    pub fn peek(&self) -> Option<ItemRef<'_>>
-        ensures { IsLent self.now result }
-    {
-        peek(&self.asked, &self.spot)
-    }
-
-    /// Passes over the next pin, where one has gone on to it; else it leaves what is left. It takes no memory.
-    pub fn pass(&mut self)
-        ensures passed { self.old.ready ≡ true → self.new.left ≡ drop 1 self.old.left }
-        ensures stays { self.old.ready ≡ false → self.new.left ≡ self.old.left }
-        ensures over { self.new.ready ≡ false }
-    {
-        self.spot.pass();
-    }
-
-    /// The next pin: `None` exactly where none is left. After `NoMemory` it stands where it stood.
+    /// The next pin: `None` exactly where none is left, and from then on. After `NoMemory` it stands where it stood.
     pub fn next(&mut self) -> Result<Option<Item>, NoMemory>
         ensures none { IfOk result (λ item. IfNone item ((self.old.left ≡ []) × (self.new.left ≡ []))) }
         ensures some { IfOk result (λ item. IfSome item (λ first. self.old.left ≡ first ∷ self.new.left)) }
         ensures err { OnErr result (self.new.left ≡ self.old.left) }
     {
-        self.settle()?;
-        let Some(ahead) = self.peek() else {
-            return Ok(None);
-        };
-        let item = ahead.made(self.asked.ground.alloc)?;
-        self.pass();
-        Ok(Some(item))
+        next_pin(&self.asked, &mut self.spot)
+    }
+
+    /// Goes on to the next pin: `true` where one is left, `false` where none is. After `NoMemory` it stands where it stood.
+    pub fn advance(&mut self) -> Result<bool, NoMemory>
+        ensures left { self.new.left ≡ self.old.left }
+        ensures ready { IfOk result (λ more. self.new.ready ≡ more) }
+        ensures some { result ≡ Ok true → self.new.left ≢ [] }
+        ensures none { result ≡ Ok false → self.new.left ≡ [] }
+    {
+        advance(&self.asked, &mut self.spot)
+    }
+
+    /// Lends the next pin, where one has gone on to it: `None` elsewhere. It takes no memory.
+    pub fn current(&self) -> Option<ItemRef<'_>>
+        ensures { IsLent self.now result }
+    {
+        current(&self.asked, &self.spot)
+    }
+
+    /// Passes over the next pin, where one has gone on to it; else it leaves what is left. It takes no memory.
+    pub fn skip(&mut self)
+        ensures passed { self.old.ready ≡ true → self.new.left ≡ drop 1 self.old.left }
+        ensures stays { self.old.ready ≡ false → self.new.left ≡ self.old.left }
+        ensures over { self.new.ready ≡ false }
+    {
+        self.spot.skip();
     }
 }
 
@@ -98,7 +84,7 @@ impl<'a, S: Shown + Drop> Iterator for Pins<'a, S> {
 
     /// The next pin as `Pins::next` gives it, or want of memory, after which it stands where it stood.
     fn next(&mut self) -> Option<Result<Item, NoMemory>> {
-        match Pins::next(self) {
+        match next_pin(&self.asked, &mut self.spot) {
             Ok(Some(item)) => Some(Ok(item)),
             Ok(None) => None,
             Err(error) => Some(Err(error)),

@@ -1,6 +1,8 @@
 //! Where one stands among the pins of a net.
-ghost use Rattle.std.specs.Prelude.{◌≡◌, ◌≢◌, ◌<◌, ◌≤◌, ◌-◌, ◌↔◌, [], ℕ, IfOk, Ok, OnErr, OnOk, false, length, set, true};
+ghost use Rattle.std.specs.Prelude.{◌≡◌, ◌≢◌, ◌<◌, ◌≤◌, ◌-◌, ◌↔◌, [], ◌∷◌, ℕ, IfNone, IfOk, IfSome, Ok, OnErr, OnOk, drop, false, length, set, true};
 ghost use Rattle.std.specs.List.{Contains};
+ghost use Rattle.flat_items.specs.Lent.{item_of};
+ghost use Rattle.ask_spec.specs.Roles.{pins_as};
 ghost use Rattle.net_pins.specs.Levels.{AreInOrder, IsNextOf, LeadsTo, leads_in};
 ghost use Rattle.net_pins.specs.Moves.{CanLeave, HasLeft, IsBelowAt, IsBlock, IsDropped, IsLeadAt, NothingHere, IsOwnBit, IsOwnLevel, at_bit, at_next, entered, last_step, made_ready, moved, passed_by};
 ghost use Rattle.net_pins.specs.Spots.{IsFound, IsLent, MayAsk, MayStand, left, rest_of, stand_of};
@@ -10,6 +12,7 @@ use crate::rows::Rows;
 use crate::tops::{OwnBit, TopRows};
 use ask_spec::Role;
 use flat_items::{Ground, ItemRef, NetRef};
+use flat_spec::Item;
 use flat_lookup::{cell_along, inst_at};
 use net_classes::Joint;
 use net_ways::top_cell;
@@ -141,7 +144,7 @@ impl Spot {
     }
 
     /// Passes over the pin at which one stands, where it is ready.
-    pub fn pass(&mut self)
+    pub fn skip(&mut self)
         requires { self.old.ready ≡ true → self.old.bit < 4294967295 }
         ensures { stand_of self.new ≡ passed_by (stand_of self.old) }
     {
@@ -391,8 +394,25 @@ fn look<S: Shown + Drop>(asked: &Asked<'_, S>, spot: &mut Spot) -> Result<Found,
     }
 }
 
+/// Before the first pin of what is asked.
+pub(crate) fn start<S: Shown + Drop>(asked: &Asked<'_, S>) -> Result<Spot, NoMemory>
+    requires { MayAsk asked.now }
+    ensures stands { IfOk result (λ spot. MayStand asked.now (stand_of spot)) }
+    ensures left { IfOk result (λ spot. left asked.now (stand_of spot) ≡ pins_as asked.now.role asked.now.design asked.now.first) }
+{
+    let path = Vec::from_slice(asked.ground.alloc, asked.first.path)?;
+    let levels = Vec::new(asked.ground.alloc);
+    Ok(Spot {
+        levels,
+        path,
+        port: 0,
+        bit: 0,
+        ready: false,
+    })
+}
+
 /// Goes on to the next pin, where one is left: whether one is.
-pub(crate) fn settle<S: Shown + Drop>(
+pub(crate) fn advance<S: Shown + Drop>(
     asked: &Asked<'_, S>,
     spot: &mut Spot,
 ) -> Result<bool, NoMemory>
@@ -416,8 +436,23 @@ pub(crate) fn settle<S: Shown + Drop>(
     Err(NoMemory)
 }
 
+/// Lends the pin to which one has gone on.
+fn lent<'a, S: Shown + Drop>(asked: &'a Asked<'_, S>, spot: &'a Spot) -> ItemRef<'a>
+    requires asks { MayAsk asked.now }
+    requires stands { MayStand asked.now (stand_of spot.now) }
+    requires ready { spot.now.ready ≡ true }
+    ensures { left asked.now (stand_of spot.now) ≡ item_of result ∷ drop 1 (left asked.now (stand_of spot.now)) }
+{
+    ItemRef::Pin {
+        path: spot.path.as_slice(),
+        port: spot.port,
+        bit: spot.bit,
+        first: Some(asked.first),
+    }
+}
+
 /// Lends the next pin, where one has gone on to it.
-pub(crate) fn peek<'a, S: Shown + Drop>(
+pub(crate) fn current<'a, S: Shown + Drop>(
     asked: &'a Asked<'_, S>,
     spot: &'a Spot,
 ) -> Option<ItemRef<'a>>
@@ -425,13 +460,40 @@ pub(crate) fn peek<'a, S: Shown + Drop>(
     requires stands { MayStand asked.now (stand_of spot.now) }
     ensures { IsLent (rest_of asked.now (stand_of spot.now)) result }
 {
-    if !spot.ready {
-        return None;
+    if spot.ready {
+        Some(lent(asked, spot))
+    } else {
+        None
     }
-    Some(ItemRef::Pin {
-        path: spot.path.as_slice(),
-        port: spot.port,
-        bit: spot.bit,
-        first: Some(asked.first),
-    })
+}
+
+/// The pin to which one has gone on.
+fn pin_made<S: Shown + Drop>(asked: &Asked<'_, S>, spot: &Spot) -> Result<Item, NoMemory>
+    requires asks { MayAsk asked.now }
+    requires stands { MayStand asked.now (stand_of spot.now) }
+    requires ready { spot.now.ready ≡ true }
+    ensures { IfOk result (λ item. left asked.now (stand_of spot.now) ≡ item ∷ drop 1 (left asked.now (stand_of spot.now))) }
+{
+    lent(asked, spot).made(asked.ground.alloc)
+}
+
+/// The next pin, which is passed.
+pub(crate) fn next_pin<S: Shown + Drop>(
+    asked: &Asked<'_, S>,
+    spot: &mut Spot,
+) -> Result<Option<Item>, NoMemory>
+    requires asks { MayAsk asked.now }
+    requires stands { MayStand asked.now (stand_of spot.old) }
+    ensures stands { MayStand asked.now (stand_of spot.new) }
+    ensures none { IfOk result (λ item. IfNone item ((left asked.now (stand_of spot.old) ≡ []) × (left asked.now (stand_of spot.new) ≡ []))) }
+    ensures some { IfOk result (λ item. IfSome item (λ first. left asked.now (stand_of spot.old) ≡ first ∷ left asked.now (stand_of spot.new))) }
+    ensures err { OnErr result (left asked.now (stand_of spot.new) ≡ left asked.now (stand_of spot.old)) }
+{
+    let more = advance(asked, spot)?;
+    if !more {
+        return Ok(None);
+    }
+    let item = pin_made(asked, spot)?;
+    spot.skip();
+    Ok(Some(item))
 }

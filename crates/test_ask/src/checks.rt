@@ -71,8 +71,8 @@ pub fn check_pins(
 ) -> Result<(), Fail> {
     let mut pins = pins?;
     for (path, port, bit) in want {
-        assert!(rt; pins.settle()?);
-        match pins.peek() {
+        assert!(rt; pins.advance()?);
+        match pins.current() {
             Some(ItemRef::Pin {
                 path: at,
                 port: found,
@@ -87,8 +87,8 @@ pub fn check_pins(
         }
         assert!(rt; Pins::next(&mut pins)?.is_some());
     }
-    assert!(rt; !pins.settle()?);
-    assert!(rt; pins.peek().is_none());
+    assert!(rt; !pins.advance()?);
+    assert!(rt; pins.current().is_none());
     assert!(rt; Pins::next(&mut pins)?.is_none());
     Ok(())
 }

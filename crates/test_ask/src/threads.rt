@@ -10,13 +10,13 @@ use std::thread;
 fn finds(ask: &Ask<Design>) -> Result<bool, NoMemory> {
     let mut pins = ask.pins_of(&[], 0)?;
     for _ in 0..4 {
-        if !pins.settle()? {
+        if !pins.advance()? {
             return Ok(false);
         }
-        pins.pass();
+        pins.skip();
     }
     match ask.net_of(&[0, 2], 0, 0)? {
-        Some(net) => Ok(net.path.is_empty() && net.net == 0 && !pins.settle()?),
+        Some(net) => Ok(net.path.is_empty() && net.net == 0 && !pins.advance()?),
         None => Ok(false),
     }
 }

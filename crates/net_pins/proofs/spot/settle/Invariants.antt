@@ -1,6 +1,0 @@
-use Rattle.std.proofs.Common.{◌≡◌, false}
-use Rattle.net_pins.specs.Spots.{MayStand, left, stand_of}
-use Rattle.net_pins.proofs.spot.settle.Given as goal
-
-abbrev pub invariant-loop : goal.invariant-loop
-invariant-loop g l = MayStand l.asked (stand_of l.spot) × (left l.asked (stand_of l.spot) ≡ left l.asked (stand_of l.fn.spot)) × (l.spot.ready ≡ false)
