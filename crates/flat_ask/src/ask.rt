@@ -82,9 +82,10 @@ fn ready<S: Shown + Drop>(alloc: Global, design: S, top: CellId) -> Result<Ask<S
     let ground = Ground::of(alloc, design, top)?;
     let below = cells_below(alloc, &ground.design, top)?;
     let ways = Ways::of(alloc, &ground.design, &ground.classes)?;
-    let any = keep(&ground, top, below.as_slice(), Role::Any)?;
-    let drivers = keep(&ground, top, below.as_slice(), Role::Driver)?;
-    let loads = keep(&ground, top, below.as_slice(), Role::Load)?;
+    let cells = below.as_slice();
+    let any = keep(&ground, top, cells, Role::Any)?;
+    let drivers = keep(&ground, top, cells, Role::Driver)?;
+    let loads = keep(&ground, top, cells, Role::Load)?;
     Ok(Ask {
         ground,
         ways,

@@ -26,7 +26,7 @@ below_is_cell : (d : Design) → IsValid d → {inner outer : CellId} → IsBelo
 below_is_cell d valid (placed {id} inst has) = (inst_there d id inst valid has).0
 below_is_cell d valid (deeper {inner} {id} inst has below) = below_is_cell d valid below
 
-top_is_cell : (d : Design) (facts : Facts) (notes : PlacedNotes) → IsGround d facts notes → IsCell d (top_of d).cell
+pub top_is_cell : (d : Design) (facts : Facts) (notes : PlacedNotes) → IsGround d facts notes → IsCell d (top_of d).cell
 top_is_cell d facts notes ground = (subst (λ o. IfSome o (λ (top : TopHead). IsCell d top.cell × HasDistinctKeys top.properties)) ground.top ground.valid.top).0
 
 pub all_there : (d : Design) (facts : Facts) (notes : PlacedNotes) → IsGround d facts notes → (below : List CellId) → AreCellsBelow d (top_of d).cell below → All (IsCell d) below

@@ -3,7 +3,7 @@ mod CountLemmas
 mod DownLemmas
 mod FoundLemmas
 mod IndexLemmas
-mod KeptLemmas
+pub mod KeptLemmas
 mod LeadLemmas
 mod LeftLemmas
 mod LevelLemmas

@@ -1,15 +1,16 @@
 -- A number more than that of an instance on a path, or of a bit, fits.
-use Rattle.std.proofs.Common.{◌≡◌, ◌<◌, ◌≤◌, ◌+◌, ℕ, zero, suc, List, [], ◌∷◌, ◌++◌, length, Bool, true, false, cond, refl, sym, ap, subst, ◌∙◌, arith, Some, None, Option, slice_get}
+use Rattle.std.proofs.Common.{◌≡◌, ◌<◌, ◌≤◌, ◌+◌, ℕ, zero, suc, List, [], ◌∷◌, ◌++◌, length, take, Bool, true, false, cond, refl, sym, ap, subst, ◌∙◌, arith, Some, None, Option, slice_get}
 use Rattle.std.specs.Prelude.{is_none}
 use Rattle.std.specs.List.{Contains, sum_by}
 use Rattle.std.specs.Option.{option_map_or}
-use Rattle.std.proofs.lemmas.Option.{none-some, same_Some, slice_get_within}
+use Rattle.std.proofs.lemmas.Option.{slice_get_within}
 use Rattle.netlist_schema.specs.Design.{Design, bit_count, cell_at, insts_of, port_width}
 use Rattle.netlist_schema.specs.Hierarchy.{insts_at}
-use Rattle.netlist_schema.specs.Types.{CellBody, CellId, Port}
+use Rattle.netlist_schema.specs.Types.{CellBody, CellId}
 use Rattle.netlist_schema.specs.Valid.{IsValid}
 use Rattle.flat_spec.specs.Paths.{Bit, Reaches}
 use Rattle.flat_spec.specs.Pins.{bits_of, own_bits, shown_bits}
+use Rattle.flat_spec.proofs.BitLemmas.{bits_from, bits_from-length, number_at}
 use Rattle.flat_spec.proofs.ListLemmas.{Contains-member}
 use Rattle.flat_spec.proofs.PathLemmas.{Reaches-front, Reaches-parts}
 use Rattle.erc_spec.specs.Told.{pin_bits}
@@ -31,14 +32,6 @@ step_small d valid root c path i at =
     let few = insts_few d valid front.0 in
     omega (arith, within, few)
 
-width_in : (ports : List Port) (k : ℕ) (p : Port) → slice_get ports k ≡ Some p → port_width p ≤ sum_by port_width ports
-width_in [] k p is = absurd (none-some p is)
-width_in (q ∷ ports) zero p is =
-    let same : q ≡ p = same_Some q p is in
-    let wide : port_width q ≡ port_width p = ap (λ (v : Port). port_width v) same in
-    omega (arith, wide)
-width_in (q ∷ ports) (suc k) p is = let more = width_in ports k p is in omega (arith, more)
-
 own_small : (d : Design) → IsValid d → (c : CellId) (port bit : ℕ) → Contains (own_bits d c) (record { port = port; bit = bit }) → bit < 1048576
 own_small d valid c port bit has = go (cell_at d c) refl has
   where
@@ -49,10 +42,11 @@ own_small d valid c port bit has = go (cell_at d c) refl has
     go None is none = absurd (Contains-member [] b none)
     go (Some body) is inside =
         let there = there_bit d c body is port bit has in
-        let wide = width_in body.ports port there.0 there.1 in
+        let found = number_at body.ports 0 port bit there.0 there.1 there.2 in
+        let within = slice_get_within (bits_from 0 body.ports) (sum_by port_width (take port body.ports) + bit) _ found in
+        let long = bits_from-length 0 body.ports in
         let most : bit_count body ≤ 1048576 = (valid.cells c body is).limits.bits in
-        let less = there.2 in
-        omega (arith, wide, most, less)
+        omega (arith, within, long, most)
 
 -- a bit whose pin is shown
 pub bit_small : (d : Design) → IsValid d → (path : List ℕ) (c : CellId) (port bit : ℕ) → Contains (pin_bits d path c) (record { port = port; bit = bit }) → bit < 1048576
