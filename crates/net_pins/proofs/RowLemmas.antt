@@ -31,13 +31,26 @@ same_option (Some g) f e = ap Some (eqb-true g f e)
 option_same : (o : Option ℕ) (f : ℕ) → o ≡ Some f → option_eq nat_eq o (Some f) ≡ true
 option_same o f is = ap (λ v. option_eq nat_eq v (Some f)) is ∙ eq-eqb f f refl
 
+-- whether there is a joint
+pub not_empty : (js : List Joint) → not (nat_eq (length js) 0) ≡ has_joints js
+not_empty [] = refl
+not_empty (j ∷ js) = refl
+
+-- an own bit of a leaf leads by its port, and of another cell by what is kept
+module _ (role : Role) (facts : Facts) (cells : Table) (c : CellId) (body : CellBody) (b : Bit) where
+  pub leaf_bit : is_none body.contents ≡ true → bit_leads role facts cells c body b ≡ port_stands role false (direction_in body b.port)
+  leaf_bit leaf = ap (λ v. cond v (port_stands role false (direction_in body b.port)) (option_map_or (λ first. has_joints (joints_of cells c first)) (first_at facts c b) false)) leaf
+
+  pub block_bit : is_none body.contents ≡ false → bit_leads role facts cells c body b ≡ option_map_or (λ first. has_joints (joints_of cells c first)) (first_at facts c b) false
+  block_bit block = ap (λ v. cond v (port_stands role false (direction_in body b.port)) (option_map_or (λ first. has_joints (joints_of cells c first)) (first_at facts c b) false)) block
+
 -- a joint of a leaf, or one that a row holds, leads
 module _ (role : Role) (d : Design) (facts : Facts) (cells : Table) (c : CellId) (j : Joint) (inst : Inst) (there : slice_get (insts_at d c) j.inst ≡ Some inst)
     (body : CellBody) (body_is : cell_at d inst.of ≡ Some body) where
   abbrev b : Bit
   b = record { port = j.port; bit = j.bit }
 
-  leads_is : leads role d facts cells c j ≡ bit_leads role facts cells inst.of body b
+  pub leads_is : leads role d facts cells c j ≡ bit_leads role facts cells inst.of body b
   leads_is =
       ap (λ o. option_map_or (λ (i : Inst). option_map_or (λ (v : CellBody). bit_leads role facts cells i.of v b) (cell_at d i.of) false) o false) there
       ∙ ap (λ o. option_map_or (λ (v : CellBody). bit_leads role facts cells inst.of v b) o false) body_is

@@ -1,7 +1,9 @@
 //! Which joints lead to a pin.
-ghost use Rattle.std.specs.Prelude.{◌≡◌, if◌then◌else◌, option_and_then, slice_get};
+ghost use Rattle.std.specs.Prelude.{◌≡◌, false, if◌then◌else◌, option_and_then, slice_get};
 ghost use Rattle.erc_spec.specs.Drives.{is_either, is_input, is_output};
-ghost use Rattle.net_pins.specs.Rows.{bit_leads, leads, port_stands};
+ghost use Rattle.std.specs.Option.{option_map_or};
+ghost use Rattle.net_classes.specs.Facts.{first_at};
+ghost use Rattle.net_pins.specs.Rows.{bit_leads, has_joints, joints_of, leads, port_stands};
 
 use crate::rows::Rows;
 use ask_spec::Role;
@@ -77,6 +79,16 @@ pub(crate) fn direction_of(ports: &[Port], port: u32) -> Option<Direction>
     }
 }
 
+/// Whether a net of a cell that joins its own bit inside has a joint that leads to a pin.
+fn leads_inside(classes: &Classes, rows: &Rows, of: CellId, port: u32, bit: u32) -> bool
+    ensures { result ≡ option_map_or (λ first. has_joints (joints_of rows.now of first)) (first_at classes.now of (record { port = port; bit = bit })) false }
+{
+    match classes.first_at(of, port, bit) {
+        Some(first) => !rows.joints(of, first).is_empty(),
+        None => false,
+    }
+}
+
 /// Whether an own bit of an instance's cell leads to a pin that stands as that: at a leaf the bit itself, else one below.
 fn leads_in(
     classes: &Classes,
@@ -91,10 +103,7 @@ fn leads_in(
     if body.contents.is_none() {
         return stands_as(role, false, direction_of(body.ports.as_slice(), joint.port));
     }
-    match classes.first_at(of, joint.port, joint.bit) {
-        Some(first) => !rows.joints(of, first).is_empty(),
-        None => false,
-    }
+    leads_inside(classes, rows, of, joint.port, joint.bit)
 }
 
 /// Whether a joint of a cell leads to a pin that stands as that.

@@ -1,5 +1,5 @@
 //! Where one stands among the pins of a net.
-ghost use Rattle.std.specs.Prelude.{◌≡◌, ◌≢◌, ◌<◌, ◌≤◌, ◌-◌, ◌↔◌, [], ◌∷◌, ℕ, IfNone, IfOk, IfSome, Ok, OnErr, OnOk, drop, false, length, set, true};
+ghost use Rattle.std.specs.Prelude.{◌≡◌, ◌≢◌, ◌<◌, ◌≤◌, ◌-◌, ◌↔◌, [], ◌∷◌, ℕ, IfNone, IfOk, IfSome, None, Ok, OnErr, OnOk, drop, false, length, set, true};
 ghost use Rattle.std.specs.List.{Contains};
 ghost use Rattle.flat_items.specs.Lent.{item_of};
 ghost use Rattle.ask_spec.specs.Roles.{pins_as};
@@ -284,6 +284,25 @@ enum Found {
     Nothing,
 }
 
+/// Goes to the contents of the net's own occurrence, where no bit of the top is left.
+fn enter_own<S: Shown + Drop>(asked: &Asked<'_, S>, spot: &mut Spot) -> Result<Found, NoMemory>
+    requires asks { MayAsk asked.now }
+    requires stands { MayStand asked.now (stand_of spot.old) }
+    requires looks { spot.old.ready ≡ false }
+    requires own { spot.old.levels.items ≡ [] }
+    requires none { IsOwnBit asked.now (stand_of spot.old) None }
+    ensures stands { MayStand asked.now (stand_of spot.new) }
+    ensures left { left asked.now (stand_of spot.new) ≡ left asked.now (stand_of spot.old) }
+    ensures found { IfOk result (IsFound asked.now (stand_of spot.new)) }
+    ensures err { OnErr result (spot.new.ready ≡ false) }
+{
+    let Some(level) = own_level(asked)? else {
+        return Ok(Found::Nothing);
+    };
+    spot.enter(level)?;
+    Ok(Found::Occurrence)
+}
+
 /// Looks among the bits of the top, and else goes to the contents of the net's own occurrence.
 fn look_at_own<S: Shown + Drop>(
     asked: &Asked<'_, S>,
@@ -298,15 +317,13 @@ fn look_at_own<S: Shown + Drop>(
     ensures found { IfOk result (IsFound asked.now (stand_of spot.new)) }
     ensures err { OnErr result (spot.new.ready ≡ false) }
 {
-    if let Some(own) = own_bit(asked, spot) {
-        spot.stand_at_own(own);
-        return Ok(Found::ThePin);
+    match own_bit(asked, spot) {
+        Some(own) => {
+            spot.stand_at_own(own);
+            Ok(Found::ThePin)
+        }
+        None => enter_own(asked, spot),
     }
-    let Some(level) = own_level(asked)? else {
-        return Ok(Found::Nothing);
-    };
-    spot.enter(level)?;
-    Ok(Found::Occurrence)
 }
 
 /// Goes to a joint that leads to a pin.

@@ -29,3 +29,6 @@ go_in-requires-clause-block g c =
     let q = c.args.asked.now in
     is_block q c.requires.asks (stand_of c.args.spot.now) c.requires.stands c.requires.looks c.args.cell c.args.joint c.requires.lead c.in-Some.below
     (subst (IsBelowAt q.design c.args.cell c.args.joint.inst) c.in-Some.is c.below_at.ensures) c.if-leaf.false
+
+pub returns-then-leaf-clause-found : goal.returns-then-leaf-clause-found
+returns-then-leaf-clause-found g c = ap (λ (v : Stand). v.ready) c.stand_at.ensures
