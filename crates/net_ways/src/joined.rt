@@ -88,24 +88,30 @@ pub fn net_inside<'a, S: Shown + Drop>(
     }
 }
 
-/// The first net of the design that is connected with the net which joins a bit of an instance in the occurrence at the path, by the cells
+/// A bit of a port of an instance, by their places.
+#[derive(Clone, Copy)]
+struct InstPin {
+    inst: u32,
+    port: u32,
+    bit: u32,
+}
+
+/// The first net of the design that is connected with the net which joins a pin of an instance in the occurrence at the path, by the cells
 /// on the path: `None` exactly where none does.
 fn outer_first<'a, S: Shown + Drop>(
     ground: &Ground<S>,
     ways: &Ways,
     cells: &[CellId],
     above: &'a [u32],
-    step: u32,
-    port: u32,
-    bit: u32,
+    pin: InstPin,
 ) -> Option<NetRef<'a>>
     requires ground { IsGround (S.design ground.now.design) ground.now.classes ground.now.notes }
     requires ways { AreWays (S.design ground.now.design) ground.now.classes ways.now }
     requires cells { AreCellsOn (S.design ground.now.design) (top_of (S.design ground.now.design)).cell above.now cells.now }
-    ensures { option_map net_lent result ≡ net_of (S.design ground.now.design) (above.now ++ step ∷ []) port bit }
+    ensures { option_map net_lent result ≡ net_of (S.design ground.now.design) (above.now ++ pin.inst ∷ []) pin.port pin.bit }
 {
     let cell = cell_on(cells, above.len());
-    match joined_net(ground.classes.joints(cell), 0, step, port, bit) {
+    match joined_net(ground.classes.joints(cell), 0, pin.inst, pin.port, pin.bit) {
         Some(net) => Some(climb(ground, ways, cells, above, net)),
         None => None,
     }
@@ -125,9 +131,14 @@ fn net_on<'a, S: Shown + Drop>(
     requires ways { AreWays (S.design ground.now.design) ground.now.classes ways.now }
     ensures { IfOk result (λ found. option_map net_lent found ≡ net_of (S.design ground.now.design) (above.now ++ step ∷ []) port bit) }
 {
+    let pin = InstPin {
+        inst: step,
+        port,
+        bit,
+    };
     let found = cells_from_top(ground, above)?;
     match found {
-        Some(cells) => Ok(outer_first(ground, ways, cells.as_slice(), above, step, port, bit)),
+        Some(cells) => Ok(outer_first(ground, ways, cells.as_slice(), above, pin)),
         None => Ok(None),
     }
 }

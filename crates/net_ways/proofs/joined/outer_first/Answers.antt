@@ -19,28 +19,28 @@ pub climb-requires-clause-net : goal.climb-requires-clause-net
 climb-requires-clause-net g c =
     let d = g.S.Shown.design c.args.ground.now.design in
     let at = reached_whole d c.args.ground.now.classes c.args.ground.now.notes c.requires.ground c.args.above.now c.args.cells.now c.requires.cells 0 c.cell_on-cell.result c.cell_on-cell.ensures in
-    let b : Bit = record { port = c.args.port; bit = c.args.bit } in
-    let found = subst (λ js. IsNetFound js c.args.step b c.joined_net.result) c.joints.ensures c.joined_net.ensures in (
+    let b : Bit = record { port = c.args.pin.port; bit = c.args.pin.bit } in
+    let found = subst (λ js. IsNetFound js c.args.pin.inst b c.joined_net.result) c.joints.ensures c.joined_net.ensures in (
       c.cell_on-cell.result,
       c.cell_on-cell.ensures,
-      (one_on d c.args.ground.now.classes c.args.ground.now.notes c.requires.ground c.args.above.now c.args.step c.args.port c.args.bit c.cell_on-cell.result at c.in-Some.net
-          (subst (λ o. IsNetFound (joints_in c.args.ground.now.classes c.cell_on-cell.result) c.args.step b o) c.in-Some.is found)).0,
+      (one_on d c.args.ground.now.classes c.args.ground.now.notes c.requires.ground c.args.above.now c.args.pin.inst c.args.pin.port c.args.pin.bit c.cell_on-cell.result at c.in-Some.net
+          (subst (λ o. IsNetFound (joints_in c.args.ground.now.classes c.cell_on-cell.result) c.args.pin.inst b o) c.in-Some.is found)).0,
     )
 
 pub returns-in-Some : goal.returns-in-Some
 returns-in-Some g c =
     let d = g.S.Shown.design c.args.ground.now.design in
     let at = reached_whole d c.args.ground.now.classes c.args.ground.now.notes c.requires.ground c.args.above.now c.args.cells.now c.requires.cells 0 c.cell_on-cell.result c.cell_on-cell.ensures in
-    let b : Bit = record { port = c.args.port; bit = c.args.bit } in
-    let found = subst (λ js. IsNetFound js c.args.step b c.joined_net.result) c.joints.ensures c.joined_net.ensures in
-    (one_on d c.args.ground.now.classes c.args.ground.now.notes c.requires.ground c.args.above.now c.args.step c.args.port c.args.bit c.cell_on-cell.result at c.in-Some.net
-    (subst (λ o. IsNetFound (joints_in c.args.ground.now.classes c.cell_on-cell.result) c.args.step b o) c.in-Some.is found)).1 (net_of c.climb.result) c.climb.ensures
+    let b : Bit = record { port = c.args.pin.port; bit = c.args.pin.bit } in
+    let found = subst (λ js. IsNetFound js c.args.pin.inst b c.joined_net.result) c.joints.ensures c.joined_net.ensures in
+    (one_on d c.args.ground.now.classes c.args.ground.now.notes c.requires.ground c.args.above.now c.args.pin.inst c.args.pin.port c.args.pin.bit c.cell_on-cell.result at c.in-Some.net
+    (subst (λ o. IsNetFound (joints_in c.args.ground.now.classes c.cell_on-cell.result) c.args.pin.inst b o) c.in-Some.is found)).1 (net_of c.climb.result) c.climb.ensures
 
 pub returns-in-None : goal.returns-in-None
 returns-in-None g c =
     let d = g.S.Shown.design c.args.ground.now.design in
     let at = reached_whole d c.args.ground.now.classes c.args.ground.now.notes c.requires.ground c.args.above.now c.args.cells.now c.requires.cells 0 c.cell_on-cell.result c.cell_on-cell.ensures in
-    let b : Bit = record { port = c.args.port; bit = c.args.bit } in
-    let found = subst (λ js. IsNetFound js c.args.step b c.joined_net.result) c.joints.ensures c.joined_net.ensures in
-    none_on d c.args.ground.now.classes c.args.ground.now.notes c.requires.ground c.args.above.now c.args.step c.args.port c.args.bit c.cell_on-cell.result at
-    (subst (λ o. IsNetFound (joints_in c.args.ground.now.classes c.cell_on-cell.result) c.args.step b o) c.in-None.is found)
+    let b : Bit = record { port = c.args.pin.port; bit = c.args.pin.bit } in
+    let found = subst (λ js. IsNetFound js c.args.pin.inst b c.joined_net.result) c.joints.ensures c.joined_net.ensures in
+    none_on d c.args.ground.now.classes c.args.ground.now.notes c.requires.ground c.args.above.now c.args.pin.inst c.args.pin.port c.args.pin.bit c.cell_on-cell.result at
+    (subst (λ o. IsNetFound (joints_in c.args.ground.now.classes c.cell_on-cell.result) c.args.pin.inst b o) c.in-None.is found)
