@@ -91,7 +91,7 @@ module _ (q : Question) (asks : MayAsk q) (s : Stand) (stands : MayStand q s) wh
   last_order levels level is =
       let at = inside_at q asks s stands levels level is in
       subst (λ (l : Level). AreInOrder q.cells l.cell) at.2
-      (λ f. row_order q.role q.design q.facts q.notes asks.ground q.cells asks.kept.below asks.kept.are_below asks.kept.rows (q.first.path ++ at.0.init) at.0.level.cell at.0.here.reached f)
+      (λ f. row_order q.role q.design q.facts asks.notes asks.ground q.cells asks.kept.below asks.kept.are_below asks.kept.rows (q.first.path ++ at.0.init) at.0.level.cell at.0.here.reached f)
 
   module _ (not_ready : s.ready ≡ false) where
     -- at the net's own occurrence
@@ -154,8 +154,8 @@ module _ (q : Question) (asks : MayAsk q) (s : Stand) (stands : MayStand q s) wh
       pub below_there : IsBelowAt q.design cell joint.inst None → ⊥
       below_there none =
           let b : Bit = record { port = joint.port; bit = joint.bit } in
-          let led = lead_of_level q.role q.design q.facts q.notes asks.ground q.cells asks.kept.below asks.kept.are_below asks.kept.rows q.first up inside.level inside.here joint next.0 in
-          let inst = joint_inst q.role q.design q.facts q.notes asks.ground q.cells asks.kept.below asks.kept.are_below asks.kept.rows q.first up inside.level inside.here joint led.joint in
+          let led = lead_of_level q.role q.design q.facts asks.notes asks.ground q.cells asks.kept.below asks.kept.are_below asks.kept.rows q.first up inside.level inside.here joint next.0 in
+          let inst = joint_inst q.role q.design q.facts asks.notes asks.ground q.cells asks.kept.below asks.kept.are_below asks.kept.rows q.first up inside.level inside.here joint led.joint in
           let body = own_body q.design inst.0.of b inst.2 in
           none inst.0 body.0 (sym (ap (λ (c : CellId). slice_get (insts_at q.design c) joint.inst) cell_is) ∙ inst.1) body.1
 

@@ -4,7 +4,7 @@ use Rattle.std.specs.Prelude.{filter, nat_eq, unwrap_or}
 use Rattle.std.specs.List.{All}
 use Rattle.std.specs.Option.{option_eq}
 use Rattle.std.proofs.lemmas.Bool.{cases_eq, eq-eqb, eqb-true}
-use Rattle.std.proofs.lemmas.List.{length-set, map-set, take_all, take_more}
+use Rattle.std.proofs.lemmas.List.{length-map, length-set, map-set, take_all, take_more}
 use Rattle.std.proofs.lemmas.List.Elements.{filter-append}
 use Rattle.net_pins.specs.Lists.{AreParted, IsAdded, IsPut}
 use Rattle.net_pins.proofs.NestedLemmas.{set_here, set_other}
@@ -14,7 +14,7 @@ get_map f [] k d less = absurd (omega (arith, less))
 get_map f (x ∷ xs) zero d less = refl
 get_map f (x ∷ xs) (suc k) d less = get_map f xs k d (omega (arith, less))
 
--- a joint was added to the list at a place
+-- an element was added to the list at a place
 pub added_at : {A R : Type 0} (items : R → List A) (rows : List R) (first : ℕ) (row new : R) (x : A) → first < length rows → items new ≡ items (get_or rows first row) ++ x ∷ []
     → IsAdded first x (map items rows) (map items (set rows first new))
 added_at items rows first row new joint less is =
@@ -24,14 +24,10 @@ added_at items rows first row new joint less is =
 pub none_yet : {A R : Type 0} (items : R → List A) (test : ℕ → A → Bool) (count : ℕ) (xs : List A) (rows : List R) → length rows ≡ count → All (λ row. items row ≡ []) rows
     → AreParted test count (take 0 xs) (map items rows)
 none_yet {R = R} items test count xs rows long none = record {
-  long = map_long rows ∙ long;
+  long = length-map rows items ∙ long;
   each = λ f less. at rows f (omega (arith, less, long)) none;
 }
   where
-    map_long : (rows : List R) → length (map items rows) ≡ length rows
-    map_long [] = refl
-    map_long (r ∷ rows) = ap suc (map_long rows)
-
     at : (rows : List R) (f : ℕ) → f < length rows → All (λ row. items row ≡ []) rows → slice_get (map items rows) f ≡ Some []
     at [] f less none = absurd (omega (arith, less))
     at (r ∷ rows) zero less none = ap Some (none 0 r (omega arith))

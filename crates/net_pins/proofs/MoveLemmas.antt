@@ -78,7 +78,7 @@ module _ (q : Question) (asks : MayAsk q) (s : Stand) (inside : IsInside q asks 
       → IsFound rest (record { port = port; bit = bit })
   found [] port bit asked behind = absurd (behind (inl tt))
   found (i ∷ r) port bit asked behind =
-      let lead = pin_has_lead q.role q.design q.facts q.notes asks.ground q.cells asks.kept.below asks.kept.are_below asks.kept.rows q.first up inside.level inside.here (inside.init, refl) i r port bit asked.item asked.stands in
+      let lead = pin_has_lead q.role q.design q.facts asks.notes asks.ground q.cells asks.kept.below asks.kept.are_below asks.kept.rows q.first up inside.level inside.here (inside.init, refl) i r port bit asked.item asked.stands in
       record {
         step = i;
         more = r;
@@ -236,7 +236,7 @@ module _ (q : Question) (asks : MayAsk q) (s : Stand) (inside : IsInside q asks 
       leaf_stands not_ready =
           let h = moved_stands joint next (bit_of joint) leaf_not_before (λ v k. k) not_ready (inr is_lowest) in
           let path_is : (moved s joint.inst joint.port joint.bit).path ≡ up ++ joint.inst ∷ [] = ap (λ (p : PinPlace). p.0) (moved_place joint next (bit_of joint) leaf_not_before (λ v k. k)) in
-          let pin = lead_is_pin q.role q.design q.facts q.notes asks.ground q.cells asks.kept.below asks.kept.are_below asks.kept.rows q.first up inside.level inside.here asks.first joint next.0 inst there body body_is leaf in
+          let pin = lead_is_pin q.role q.design q.facts asks.notes asks.ground q.cells asks.kept.below asks.kept.are_below asks.kept.rows q.first up inside.level inside.here asks.first joint next.0 inst there body body_is leaf in
           record {
             steps = h.steps;
             path_is = h.path_is;
@@ -276,7 +276,7 @@ module _ (q : Question) (asks : MayAsk q) (s : Stand) (inside : IsInside q asks 
 
         level_is : IsLevel q.design q.facts q.cells q.first (up ++ joint.inst ∷ []) made
         level_is =
-            level_goes_down q.role q.design q.facts q.notes asks.ground q.cells asks.kept.below asks.kept.are_below asks.kept.rows q.first up inside.level inside.here (inside.init, refl) joint.inst inst there made cell_is firsts
+            level_goes_down q.role q.design q.facts asks.notes asks.ground q.cells asks.kept.below asks.kept.are_below asks.kept.rows q.first up inside.level inside.here (inside.init, refl) joint.inst inst there made cell_is firsts
 
         pub entered_stands : MayStand q there_now
         entered_stands =

@@ -104,7 +104,7 @@ module _ (q : Question) (asks : MayAsk q) where
     where
       front_of : (z : NetAt) → representative q.design root z ≡ q.first → (n : IsNet q.design root z) → (c : CellId) → Reaches q.design root z.path c → IsNet q.design c (at_root z.net) → (rest : List ℕ) × (z.path ≡ q.first.path ++ rest)
       front_of z rep n c at net =
-          let f = rep_front q.design q.facts q.notes asks.ground z.path c z.net at net in (f.0, f.1 ∙ ap (λ (v : NetAt). v.path ++ f.0) rep)
+          let f = rep_front q.design q.facts asks.notes asks.ground z.path c z.net at net in (f.0, f.1 ∙ ap (λ (v : NetAt). v.path ++ f.0) rep)
 
       at_top : (b : Bit) (z : NetAt) → representative q.design root z ≡ q.first → path ≡ [] → JoinsPin q.design root z [] b → (rest : List ℕ) × (path ≡ q.first.path ++ rest)
       at_top b z rep empty j =

@@ -95,13 +95,13 @@ module _ (q : Question) (asks : MayAsk q) where
   same_first c n f at net named same = elim (last_cases x.path) [
     | inl empty ↦
         let at_it = subst (λ p. Reaches q.design root p c) empty at in
-        let inside = first_is q.design q.facts q.notes asks.ground x.path c at n f net named in
-        let rep = at_top q.design q.facts q.notes asks.ground n f c at_it net inside in
+        let inside = first_is q.design q.facts asks.notes asks.ground x.path c at n f net named in
+        let rep = at_top q.design q.facts asks.notes asks.ground n f c at_it net inside in
         ap (λ (v : NetAt). v.net) (sym same ∙ ap (λ p. representative q.design root (at_path p n)) empty ∙ rep)
     | inr e ↦
         let at_it : Reaches q.design root (e.0 ++ e.1 ∷ []) c = subst (λ p. Reaches q.design root p c) e.2 at in
         let front = Reaches-front q.design root c e.0 (e.1 ∷ []) at_it in
-        let inside = first_is q.design q.facts q.notes asks.ground x.path c at n f net named in
+        let inside = first_is q.design q.facts asks.notes asks.ground x.path c at n f net named in
         let found = outer_exists q.facts front.0 e.1 c f in
         below front.0 e.0 e.1 e.2 front.1 at_it inside found.0 found.1
   ]
@@ -109,11 +109,11 @@ module _ (q : Question) (asks : MayAsk q) where
       below : (up : CellId) (init : List ℕ) (step : ℕ) → x.path ≡ init ++ step ∷ [] → Reaches q.design root init up → Reaches q.design root (init ++ step ∷ []) c → IsFirstInside q.design c n f
           → (o : Option ℕ) → IsOuterNet q.facts up step c f o → x.net ≡ f
       below up init step is up_at at_it inside None none =
-          let rep = none_outer q.design q.facts q.notes asks.ground init up c step up_at at_it n f net inside none in
+          let rep = none_outer q.design q.facts asks.notes asks.ground init up c step up_at at_it n f net inside none in
           ap (λ (v : NetAt). v.net) (sym same ∙ ap (λ p. representative q.design root (at_path p n)) is ∙ rep)
       below up init step is up_at at_it inside (Some m) some =
-          let on = outer_is q.design q.facts q.notes asks.ground init up c step up_at at_it n f m inside some in
-          let front = rep_front q.design q.facts q.notes asks.ground init up m up_at on.0 in
+          let on = outer_is q.design q.facts asks.notes asks.ground init up c step up_at at_it n f m inside some in
+          let front = rep_front q.design q.facts asks.notes asks.ground init up m up_at on.0 in
           let rep : representative q.design root (at_path init m) ≡ x = sym on.1 ∙ ap (λ p. representative q.design root (at_path p n)) (sym is) ∙ same in
           let long : length init ≡ length (x.path ++ front.0) = ap length (front.1 ∙ ap (λ (v : NetAt). v.path ++ front.0) rep) in
           let two = length-append x.path front.0 in
@@ -126,8 +126,8 @@ module _ (q : Question) (asks : MayAsk q) where
     reached = at;
     sound = λ n f has net named.
         let f_is : x.net ≡ f = only f (Contains-member l.firsts.items f has) in
-        let inside = first_is q.design q.facts q.notes asks.ground x.path l.cell at n f net named in
-        let first_net : IsNet q.design l.cell (at_root f) = first_net_of q.design q.facts q.notes asks.ground x.path l.cell at n f net inside in
+        let inside = first_is q.design q.facts asks.notes asks.ground x.path l.cell at n f net named in
+        let first_net : IsNet q.design l.cell (at_root f) = first_net_of q.design q.facts asks.notes asks.ground x.path l.cell at n f net inside in
         let parts = IsNet-parts q.design l.cell (at_root f) first_net in
         let same_cell : parts.0 ≡ l.cell = same_Some parts.0 l.cell (sym parts.1) in
         let first_there : IsNet q.design root (at_path x.path f) = IsNet-from q.design root l.cell x.path f at (subst (λ (v : CellId). f < length (nets_at q.design v)) same_cell parts.2) in
@@ -151,7 +151,7 @@ module _ (q : Question) (asks : MayAsk q) where
       let outer = outer_joins q.design root up step b net.0 joins in
       let there = Joins-reaches q.design root (at_path up net.0.net) (on step b) outer in
       let inside = Joins-inward_here q.design root there.0 up net.0.net (on step b) there.1 outer in
-      let front = rep_front q.design q.facts q.notes asks.ground up there.0 net.0.net there.1 (Joins-net q.design there.0 (at_root net.0.net) (on step b) inside) in
+      let front = rep_front q.design q.facts asks.notes asks.ground up there.0 net.0.net there.1 (Joins-net q.design there.0 (at_root net.0.net) (on step b) inside) in
       let rep : representative q.design root (at_path up net.0.net) ≡ x = ap (representative q.design root) (sym z_is) ∙ net.2 in
       let long : length up ≡ length (x.path ++ front.0) = ap length (front.1 ∙ ap (λ (v : NetAt). v.path ++ front.0) rep) in
       let two = length-append x.path front.0 in
@@ -165,7 +165,7 @@ module _ (q : Question) (asks : MayAsk q) where
 
     joined_inside : (b : Bit) → Contains (own_bits q.design root) b → (o : Option ℕ) → first_at q.facts root b ≡ o → IsFirstAt q.design root b o
     joined_inside b has o is =
-        subst (IsFirstAt q.design root b) (sym (first_at_is q.design q.facts q.notes asks.ground [] root refl b) ∙ is) ((told_at q.design q.facts q.notes asks.ground [] root refl).told.inside b has)
+        subst (IsFirstAt q.design root b) (sym (first_at_is q.design q.facts asks.notes asks.ground [] root refl b) ∙ is) ((told_at q.design q.facts asks.notes asks.ground [] root refl).told.inside b has)
 
     top_body : (b : Bit) → Contains (own_bits q.design root) b → (body : CellBody) × (cell_at q.design root ≡ Some body)
     top_body b has = go (cell_at q.design root) refl has
@@ -178,7 +178,7 @@ module _ (q : Question) (asks : MayAsk q) where
     stands_is b has =
         let body = top_body b has in
         stands_at_top q.role q.design b.port b.bit (Some x)
-        ∙ ap (port_stands q.role true) (direction_is q.design q.facts q.notes asks.ground [] root refl body.0 body.1 b.port)
+        ∙ ap (port_stands q.role true) (direction_is q.design q.facts asks.notes asks.ground [] root refl body.0 body.1 b.port)
         ∙ sym (ap (λ o. option_map_or (λ (v : CellBody). port_stands q.role true (direction_in v b.port)) o false) body.1)
 
     pin_of_bit : (own_bit : OwnBit) → Contains (bits_in q.tops x.net) own_bit → Member (pins_as q.role q.design x) (Pin [] own_bit.port own_bit.bit (Some x))
@@ -186,7 +186,7 @@ module _ (q : Question) (asks : MayAsk q) where
         let b : Bit = bit_of own_bit in
         let known = (asks.kept.tops.each x.net own_bit).0 has in
         let inside = joined_inside b known.0 (Some x.net) known.1 in
-        let rep = at_top q.design q.facts q.notes asks.ground inside.0 x.net root refl (Joins-net q.design root (at_root inside.0) (own b) inside.1) inside.2 in
+        let rep = at_top q.design q.facts asks.notes asks.ground inside.0 x.net root refl (Joins-net q.design root (at_root inside.0) (own b) inside.1) inside.2 in
         let pin = net_at_pin-from q.design asks.ground.valid root [] b (at_root inside.0) (refl, inside.1) in
         let item = pin_from q.design (top_of q.design) named_by_top asks.ground.valid.no_cycle [] b (root, refl, shown b known.0) in
         let named : option_map (representative q.design root) (net_at_pin q.design root [] b) ≡ Some x = ap (option_map (representative q.design root)) pin ∙ ap Some (rep ∙ x_is) in
@@ -218,7 +218,7 @@ module _ (q : Question) (asks : MayAsk q) where
         by n b joins rep has (Some f) is =
             let inside = joined_inside b has (Some f) is in
             let one : inside.0 ≡ n = own_bit-once q.design asks.ground.valid root b inside.0 n inside.1 joins in
-            let rep_f = at_top q.design q.facts q.notes asks.ground inside.0 f root refl (Joins-net q.design root (at_root inside.0) (own b) inside.1) inside.2 in
+            let rep_f = at_top q.design q.facts asks.notes asks.ground inside.0 f root refl (Joins-net q.design root (at_root inside.0) (own b) inside.1) inside.2 in
             let f_is : f ≡ x.net = ap (λ (v : NetAt). v.net) (sym rep_f ∙ ap (λ v. representative q.design root (at_root v)) one ∙ rep) in
             is ∙ ap Some f_is
 

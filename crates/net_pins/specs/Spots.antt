@@ -26,25 +26,25 @@ use Rattle.flat_items.specs.declared.lent.ItemRef.{ItemRef}
 use Rattle.flat_cells.specs.Below.{AreCellsBelow}
 
 -- what is kept of the pins that stand so at their nets
-pub record IsKept (role : Role) (d : Design) (facts : Facts) (cells : Table) (tops : TopTable) : Type 0 where
+pub record IsKept (role : Role) (d : Design) (facts : Facts) (cells : Table) (bits : TopTable) : Type 0 where
   pub below : List CellId
   pub are_below : AreCellsBelow d (top_of d).cell below
   pub rows : AreRows role d facts below cells
-  pub tops : AreTops role d facts (top_of d).cell tops
+  pub tops : AreTops role d facts (top_of d).cell bits
 
 -- what is asked: the pins of a net, which stand in one role at it, with what is kept of the design
 pub record Question : Type 0 where
   pub role : Role
   pub design : Design
   pub facts : Facts
-  pub notes : PlacedNotes
   pub cells : Table
   pub tops : TopTable
   pub first : NetAt
 
 -- it can be answered: the design's ground, what is kept, and a net that is its own first
 pub record MayAsk (q : Question) : Type 0 where
-  pub ground : IsGround q.design q.facts q.notes
+  pub notes : PlacedNotes
+  pub ground : IsGround q.design q.facts notes
   pub kept : IsKept q.role q.design q.facts q.cells q.tops
   pub first : first_of q.design q.first ≡ q.first
 

@@ -56,7 +56,7 @@ impl<'a, S: Shown + Drop> Model for Asked<'a, S> {
 
     ghost Value = { Question };
 
-    ghost view = { λ a. record { role = a.role; design = S.design a.ground.now.design; facts = a.ground.now.classes; notes = a.ground.now.notes; cells = a.rows.now; tops = a.tops.now; first = net_of a.first } };
+    ghost view = { λ a. record { role = a.role; design = S.design a.ground.now.design; facts = a.ground.now.classes; cells = a.rows.now; tops = a.tops.now; first = net_of a.first } };
 }
 
 impl Drop for Spot {

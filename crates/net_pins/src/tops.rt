@@ -1,5 +1,5 @@
 //! `TopRows`: the bits of the top by the nets that join them.
-ghost use Rattle.std.specs.Prelude.{◌≡◌, ◌≤◌, ◌++◌, IfOk, None, OnOk, if◌then◌else◌, length, map, slice_get};
+ghost use Rattle.std.specs.Prelude.{◌≡◌, ◌≤◌, ◌++◌, IfOk, None, OnOk, if◌then◌else◌, length, map, slice_get, true};
 ghost use Rattle.std.specs.List.{AllPairs, range_with_len};
 ghost use Rattle.erc_spec.specs.Told.{BitBefore};
 ghost use Rattle.netlist_schema.specs.declared.limits.TheConstants.{MOST_PORTS};

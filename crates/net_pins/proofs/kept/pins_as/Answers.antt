@@ -11,6 +11,7 @@ pub begin-requires : goal.begin-requires
 begin-requires g c =
     let d = g.S.Shown.design c.args.ground.now.design in
     record {
+      notes = c.args.ground.now.notes;
       ground = c.requires.ground;
       kept = c.requires.kept;
       first = subst (λ v. first_of d v ≡ v) (sym c.in_ok-first.ensures) (first_twice d (top_of d) c.requires.ground.top c.requires.ground.valid (at_path c.args.path.now c.args.net));
