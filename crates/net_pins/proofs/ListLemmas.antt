@@ -17,7 +17,7 @@ get_map f (x ∷ xs) (suc k) d less = get_map f xs k d (omega (arith, less))
 -- an element was added to the list at a place
 pub added_at : {A R : Type 0} (items : R → List A) (rows : List R) (first : ℕ) (row new : R) (x : A) → first < length rows → items new ≡ items (get_or rows first row) ++ x ∷ []
     → IsAdded first x (map items rows) (map items (set rows first new))
-added_at items rows first row new joint less is =
+added_at items rows first row new x less is =
     let old : unwrap_or (slice_get (map items rows) first) [] ≡ items (get_or rows first row) = ap (λ o. unwrap_or o []) (get_map items rows first row less) in
     map-set items rows first new ∙ ap (set (map items rows) first) (is ∙ ap (λ v. v ++ x ∷ []) (sym old))
 

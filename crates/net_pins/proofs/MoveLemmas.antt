@@ -118,9 +118,9 @@ module _ (q : Question) (asks : MayAsk q) (s : Stand) (inside : IsInside q asks 
 
           low_or_zero : (init : List ℕ) (last : ℕ) → r ≡ init ++ last ∷ [] → ⊥
           low_or_zero init last is = elim inside.lowest [
-            | inl zero ↦
-                let at_zero : bit_at s ≡ first_bit = λ k. record { port = zero.0 k; bit = zero.1 k } in
-                none_before_first (bit_of j) (subst (BitBefore (bit_of j)) at_zero same.1)
+            | inl start ↦
+                let at_start : bit_at s ≡ first_bit = λ k. record { port = start.0 k; bit = start.1 k } in
+                none_before_first (bit_of j) (subst (BitBefore (bit_of j)) at_start same.1)
             | inr low ↦ let h = head init last in not_below h.0 h.1 (is ∙ h.2) (sym on_it ∙ same.0) low
           ]
 
@@ -207,7 +207,7 @@ module _ (q : Question) (asks : MayAsk q) (s : Stand) (inside : IsInside q asks 
           steps = inside.init ++ joint.inst ∷ [];
           path_is = path_is ∙ append_assoc q.first.path inside.init (joint.inst ∷ []);
           levels = levels_there;
-          lowest = inr (elim lowest [ inl zero ↦ inl zero | inr low ↦ inr (subst (IsLowest q.design) (sym path_is) low) ]);
+          lowest = inr (elim lowest [ inl start ↦ inl start | inr low ↦ inr (subst (IsLowest q.design) (sym path_is) low) ]);
           ready = λ e. absurd (true≢false (sym e ∙ not_ready));
         }
 
@@ -250,7 +250,9 @@ module _ (q : Question) (asks : MayAsk q) (s : Stand) (inside : IsInside q asks 
     module _ (block : is_none body.contents ≡ false) (not_ready : s.ready ≡ false) where
       block_not_before : inside.last ≡ joint.inst → BitBefore first_bit (bit_at s) → ⊥
       block_not_before same less = elim inside.lowest [
-        | inl zero ↦ none_before_first first_bit (subst (BitBefore first_bit) (λ k. record { port = zero.0 k; bit = zero.1 k }) less)
+        | inl start ↦
+            let at_start : bit_at s ≡ first_bit = λ k. record { port = start.0 k; bit = start.1 k } in
+            none_before_first first_bit (subst (BitBefore first_bit) at_start less)
         | inr low ↦
             let path : up ++ joint.inst ∷ [] ≡ s.path = ap (λ v. up ++ v ∷ []) (sym same) ∙ sym inside.path_is in
             false≢true (sym block ∙ low inst.of body (subst (λ p. Reaches q.design root p inst.of) path at_inst) body_is)

@@ -34,7 +34,7 @@ impl<'a, S: Shown + Drop> Model for Pins<'a, S> {
 /// Before the first pin of what is asked.
 pub(crate) fn begin<'a, S: Shown + Drop>(asked: Asked<'a, S>) -> Result<Pins<'a, S>, NoMemory>
     requires { MayAsk asked }
-    ensures { IfOk result (λ pins. pins.left ≡ pins_as asked.role asked.design asked.first) }
+    ensures { IfOk result (λ pins. pins.left ≡ pins_as asked.entry.role asked.entry.design asked.entry.first) }
 {
     let spot = start(&asked)?;
     Ok(Pins { asked, spot })
