@@ -1,5 +1,5 @@
 use Rattle.std.proofs.Common.{◌∙◌, ap, drop, subst, sym}
-use Rattle.net_pins.specs.Spots.{MayStand, Rest, left, stand_of}
+use Rattle.net_pins.specs.Spots.{MayStand, Rest, Stand, left, stand_of}
 use Rattle.net_pins.proofs.FoundLemmas.{passed_may, passed_none, passed_on, passed_over}
 use Rattle.net_pins.proofs.PassLemmas.{bit_has_room}
 use Rattle.net_pins.proofs.pins.Pins.skip.Goals as goal
@@ -29,4 +29,4 @@ pub returns-clause-over : goal.returns-clause-over
 returns-clause-over g c =
     let q = c.self.inside.asked in
     let s = stand_of c.self.inside.spot in
-    ap (λ v. v.ready) c.skip.ensures ∙ passed_over q c.self.invariant.asks s c.self.invariant.stands
+    ap (λ (v : Stand). v.ready) c.skip.ensures ∙ passed_over q c.self.invariant.asks s c.self.invariant.stands
