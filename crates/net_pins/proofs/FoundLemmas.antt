@@ -38,6 +38,11 @@ pub if_ok_more : {A E : Type 0} {P Q : A → Type 0} (r : Result A E) → ((a : 
 if_ok_more (Ok a) more is = more a is
 if_ok_more (Err e) more is = tt
 
+-- what holds anyway holds where a call did not work
+pub on_err_too : {A E : Type 0} {P : Type 0} (r : Result A E) → P → OnErr r P
+on_err_too (Ok a) p = tt
+on_err_too (Err e) p = p
+
 -- a list with a last element ends in it
 pub last_split : {A : Type 0} (xs : List A) (x : A) → slice_get xs (length xs - 1) ≡ Some x → (init : List A) × (xs ≡ init ++ x ∷ [])
 last_split xs x at = elim (last_cases xs) [

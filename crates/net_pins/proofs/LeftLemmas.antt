@@ -171,10 +171,13 @@ pins_filter test (Pin p a b first ∷ items) h = elim (test (Pin p a b first)) a
         let found = Member-from_flat_map pin_at (filter test items) q m in
         Member-flat_map pin_at items found.0 q (Member-from_filter test items found.0 found.1).0 found.2
 
+any-in_order : (d : Design) (top : TopHead) (x : NetAt) → IsValid d → d.top ≡ Some top → Ascends PinBefore (flat_map pin_at (pins_of d x))
+any-in_order d top x valid is = pins_filter (is_at (first_of d x)) (flattening d) (all_pins-ascend d top valid is)
+
 pub pins-in_order : (role : Role) (d : Design) (top : TopHead) (x : NetAt) → IsValid d → d.top ≡ Some top → Ascends PinBefore (flat_map pin_at (pins_as role d x))
-pins-in_order Any d top x valid is = pins_filter (is_at (first_of d x)) (flattening d) (all_pins-ascend d top valid is)
-pins-in_order Driver d top x valid is = pins_filter (is_driver d) (pins_of d x) (pins-in_order Any d top x valid is)
-pins-in_order Load d top x valid is = pins_filter (is_load d) (pins_of d x) (pins-in_order Any d top x valid is)
+pins-in_order Any d top x valid is = any-in_order d top x valid is
+pins-in_order Driver d top x valid is = pins_filter (is_driver d) (pins_of d x) (any-in_order d top x valid is)
+pins-in_order Load d top x valid is = pins_filter (is_load d) (pins_of d x) (any-in_order d top x valid is)
 
 pub all_asked : (role : Role) (d : Design) (x : NetAt) → AllPins (first_of d x) (pins_as role d x)
 all_asked role d x item m = (asked_pin role d x item m).1

@@ -3,7 +3,7 @@ use Rattle.std.proofs.Common.{◌≡◌, ◌⊎◌, ◌<◌, ◌≤◌, ℕ, Lis
 use Rattle.std.specs.Prelude.{filter, is_none, nat_eq, not, option_and_then}
 use Rattle.std.specs.List.{AllPairs, Contains}
 use Rattle.std.specs.Option.{option_eq, option_map_or}
-use Rattle.std.proofs.lemmas.Bool.{and_from, and_parts, cases_lt, eq-eqb, eqb-true, false≢true}
+use Rattle.std.proofs.lemmas.Bool.{and_from, and_parts, cases_lt, eq-eqb, eqb-true, false_from_ne_true, false≢true}
 use Rattle.std.proofs.lemmas.Option.{none-some, same_Some, slice_get_past, slice_get_within}
 use Rattle.netlist_schema.specs.Design.{Design, cell_at}
 use Rattle.netlist_schema.specs.Hierarchy.{insts_at}
@@ -34,7 +34,7 @@ option_same o f is = ap (λ v. option_eq nat_eq v (Some f)) is ∙ eq-eqb f f re
 -- whether there is a joint
 pub not_empty : (js : List Joint) → not (nat_eq (length js) 0) ≡ has_joints js
 not_empty [] = refl
-not_empty (j ∷ js) = refl
+not_empty (j ∷ js) = ap not (false_from_ne_true (nat_eq (length (j ∷ js)) 0) (λ e. let long = eqb-true (length (j ∷ js)) 0 e in omega (arith, long)))
 
 -- an own bit of a leaf leads by its port, and of another cell by what is kept
 module _ (role : Role) (facts : Facts) (cells : Table) (c : CellId) (body : CellBody) (b : Bit) where

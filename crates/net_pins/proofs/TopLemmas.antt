@@ -51,20 +51,17 @@ same_bit : (v w : OwnBit) → bit_of v ≡ bit_of w → v ≡ w
 same_bit v w e = λ k. record { port = (ap (λ (b : Bit). b.port) e) k; bit = (ap (λ (b : Bit). b.bit) e) k }
 
 -- port by port
-pub bits_more : (place : ℕ) (ports : List Port) (k : ℕ) (port : Port) → slice_get ports k ≡ Some port
+pub bits_more : (place : ℕ) (ports : List Port) (k n : ℕ) (port : Port) → n ≡ place + k → slice_get ports k ≡ Some port
     → flat_map (λ (p : ℕ × Port). port_bits p.0 p.1) (enumerate_from place (take (suc k) ports))
-    ≡ flat_map (λ (p : ℕ × Port). port_bits p.0 p.1) (enumerate_from place (take k ports)) ++ port_bits (place + k) port
-bits_more place [] k port at = absurd (none-some port at)
-bits_more place (p ∷ ports) zero port at =
+    ≡ flat_map (λ (p : ℕ × Port). port_bits p.0 p.1) (enumerate_from place (take k ports)) ++ port_bits n port
+bits_more place [] k n port is at = absurd (none-some port at)
+bits_more place (p ∷ ports) zero n port is at =
     let same : p ≡ port = same_Some p port at in
-    let here : place ≡ place + 0 = omega arith in
+    let here : place ≡ n = omega (arith, is) in
     append-nil (port_bits place p) ∙ (λ k. port_bits (here k) (same k))
-bits_more place (p ∷ ports) (suc k) port at =
-    let more = bits_more (place + 1) ports k port at in
-    let step : (place + 1) + k ≡ place + suc k = omega arith in
-    ap (λ v. port_bits place p ++ v) more
-    ∙ sym (append_assoc (port_bits place p) (flat_map (λ (p : ℕ × Port). port_bits p.0 p.1) (enumerate_from (place + 1) (take k ports))) (port_bits ((place + 1) + k) port))
-    ∙ ap (λ n. (port_bits place p ++ flat_map (λ (p : ℕ × Port). port_bits p.0 p.1) (enumerate_from (place + 1) (take k ports))) ++ port_bits n port) step
+bits_more place (p ∷ ports) (suc k) n port is at =
+    ap (λ v. port_bits place p ++ v) (bits_more (place + 1) ports k n port (omega (arith, is)) at)
+    ∙ sym (append_assoc (port_bits place p) (flat_map (λ (p : ℕ × Port). port_bits p.0 p.1) (enumerate_from (place + 1) (take k ports))) (port_bits n port))
 
 -- without such a cell there are none
 pub no_tops : (role : Role) (d : Design) (facts : Facts) (top : CellId) → cell_at d top ≡ None → AreTops role d facts top []

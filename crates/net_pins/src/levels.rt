@@ -70,7 +70,7 @@ fn earlier(one: Option<Joint>, other: Option<Joint>) -> Option<Joint>
         return other;
     };
     let Some(second) = other else {
-        return one;
+        return Some(first);
     };
     if is_before(&second, first.inst, first.port, first.bit) {
         Some(second)

@@ -5,16 +5,10 @@ use Rattle.net_pins.specs.Tops.{AreTops}
 use Rattle.net_pins.proofs.KeptLemmas.{all_there}
 use Rattle.net_pins.proofs.kept.keep.Goals as goal
 
-pub of-rows-requires-clause-behind : goal.of-rows-requires-clause-behind
-of-rows-requires-clause-behind g c = c.requires.below.behind
-
-pub of-rows-requires-clause-there : goal.of-rows-requires-clause-there
-of-rows-requires-clause-there g c =
+pub of-requires-clause-there : goal.of-requires-clause-there
+of-requires-clause-there g c =
     let d = g.S.Shown.design c.args.ground.now.design in
     all_there d c.args.ground.now.classes c.args.ground.now.notes c.requires.ground c.args.below.now (subst (λ (t : CellId). AreCellsBelow d t c.args.below.now) (sym c.requires.is_top) c.requires.below)
-
-pub of-rows-requires-clause-valid : goal.of-rows-requires-clause-valid
-of-rows-requires-clause-valid g c = c.requires.ground.valid
 
 pub returns : goal.returns
 returns g c =

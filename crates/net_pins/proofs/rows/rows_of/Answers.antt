@@ -10,7 +10,7 @@ use Rattle.net_pins.proofs.ListLemmas.{all_parted, more_parted, none_yet}
 use Rattle.net_ways.specs.Ways.{firsts_in}
 use Rattle.net_pins.proofs.rows.rows_of.Goals as goal
 
-none : Joint
+abbrev none : Joint
 none = record { inst = 0; port = 0; bit = 0; net = 0 }
 
 pub loop-joint-init : goal.loop-joint-init

@@ -5,16 +5,14 @@ use Rattle.net_pins.specs.Spots.{stand_of}
 use Rattle.net_pins.specs.declared.levels.Level.{Level}
 use Rattle.net_pins.proofs.FoundLemmas.{IsStep, either_way, order_at, step_in, step_to_it}
 use Rattle.net_pins.proofs.spot.go_in.Goals as goal
-use Rattle.net_pins.proofs.spot.go_in.Goals.{After-enter, In-Some}
-
-at_last : (c : In-Some) → slice_get c.args.spot.now.levels.items (length c.args.spot.now.levels.items - 1) ≡ Some c.in-Some.level.now
-at_last c = ap (λ (xs : List Level). slice_get xs (length xs - 1)) (sym c.as_slice.ensures.value) ∙ sym c.last.ensures.value ∙ ap option_copied c.in-Some.is
 
 pub made_below-requires : goal.made_below-requires
-made_below-requires g c = order_at c.args.asked.now c.requires.asks (stand_of c.args.spot.now) c.requires.stands c.in-Some.level.now (at_last (goal.at.made_below-requires c).In-Some)
+made_below-requires g c =
+    order_at c.args.asked.now c.requires.asks (stand_of c.args.spot.now) c.requires.stands c.in-Some.level.now
+    (ap (λ (xs : List Level). slice_get xs (length xs - 1)) (sym c.as_slice.ensures.value) ∙ sym c.last.ensures.value ∙ ap option_copied c.in-Some.is)
 
-step : (c : After-enter) → IsStep c.args.asked.now (stand_of c.args.spot.now) (stand_of c.enter.new.self)
-step c =
+step : (g : _) (c : goal.After-enter g) → IsStep c.args.asked.now (stand_of c.args.spot.now) (stand_of c.enter.new.self)
+step g c =
     let q = c.args.asked.now in
     let s = stand_of c.args.spot.now in
     let at : slice_get c.args.spot.now.levels.items (length c.args.spot.now.levels.items - 1) ≡ Some c.in-Some.level.now =
@@ -25,10 +23,10 @@ step c =
     (λ is. step_to_it q c.requires.asks s c.requires.stands c.requires.looks c.args.cell c.args.joint c.requires.lead c.args.of c.requires.block (stand_of c.enter.new.self) (is ∙ c.go_to.ensures))
 
 pub returns-clause-stands : goal.returns-clause-stands
-returns-clause-stands g c = (step (goal.at.returns-clause-stands c).After-enter).stands
+returns-clause-stands g c = (step g c).stands
 
 pub returns-clause-left : goal.returns-clause-left
-returns-clause-left g c = (step (goal.at.returns-clause-left c).After-enter).same
+returns-clause-left g c = (step g c).same
 
 pub returns-clause-over : goal.returns-clause-over
-returns-clause-over g c = (step (goal.at.returns-clause-over c).After-enter).over
+returns-clause-over g c = (step g c).over

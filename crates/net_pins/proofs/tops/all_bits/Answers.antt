@@ -17,7 +17,7 @@ loop-place-preserved c =
     c.in_ok-add_port.ensures
     ∙ ap (λ v. map bit_of c.loop-place.bits.items ++ map (bit_at place) (range_with_len 0 v)) c.width.ensures.width
     ∙ ap (λ v. v ++ port_bits place port) c.loop-place.invariant
-    ∙ sym (bits_more 0 ports place port at)
+    ∙ sym (bits_more 0 ports place place port (omega arith) at)
     ∙ ap (λ n. flat_map (λ (p : ℕ × Port). port_bits p.0 p.1) (enumerate_from 0 (take n ports))) step
 
 pub returns : goal.returns

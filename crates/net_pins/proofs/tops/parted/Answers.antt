@@ -9,7 +9,7 @@ use Rattle.net_pins.proofs.TopLemmas.{bit_test}
 use Rattle.net_ways.specs.Ways.{firsts_in}
 use Rattle.net_pins.proofs.tops.parted.Goals as goal
 
-none : OwnBit
+abbrev none : OwnBit
 none = record { port = 0; bit = 0 }
 
 pub loop-own-init : goal.loop-own-init

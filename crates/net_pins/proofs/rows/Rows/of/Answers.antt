@@ -5,7 +5,7 @@ use Rattle.net_pins.specs.Rows.{AreRows, lists_of}
 use Rattle.net_pins.proofs.IndexLemmas.{no_rows_known, rows_more}
 use Rattle.net_pins.proofs.rows.Rows.of.Goals as goal
 
-none : CellId
+abbrev none : CellId
 none = record { lib = record { 0 = 0 }; slot = 0 }
 
 pub loop-cell-init : goal.loop-cell-init

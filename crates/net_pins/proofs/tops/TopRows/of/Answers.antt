@@ -16,9 +16,6 @@ returns-in_default g c =
     subst (λ v. AreTops c.args.role d c.args.ground.now.classes c.args.top (map (λ bits. bits.items) v)) (sym c.new.ensures.items)
     (no_tops c.args.role d c.args.ground.now.classes c.args.top (sym c.cell.ensures.value ∙ ap option_copied c.in_default.is))
 
-pub all_bits-bits-requires : goal.all_bits-bits-requires
-all_bits-bits-requires g c = c.in-Some.ensures.valid.limits.ports
-
 pub returns : goal.returns
 returns g c =
     let d = g.S.Shown.design c.args.ground.now.design in
