@@ -1,23 +1,22 @@
 -- Back from an occurrence in which nothing is left.
-use Rattle.std.proofs.Common.{◌≡◌, ◌⊎◌, ◌<◌, ◌≤◌, ◌+◌, ◌-◌, ℕ, zero, suc, List, [], ◌∷◌, ◌++◌, length, Bool, true, false, refl, sym, ap, subst, ◌∙◌, inl, inr, arith, Some, None, Option, set, append_assoc, append-nil}
+use Rattle.std.proofs.Common.{◌≡◌, ◌<◌, ◌≤◌, ◌+◌, ◌-◌, ℕ, List, [], ◌∷◌, ◌++◌, length, true, false, refl, sym, ap, subst, ◌∙◌, inl, inr, arith, set, append_assoc, append-nil}
 use Rattle.std.specs.List.{Contains}
 use Rattle.std.proofs.lemmas.Bool.{cases_order, true≢false}
 use Rattle.std.proofs.lemmas.List.{length-append, length_push, same_from_push}
-use Rattle.netlist_schema.specs.Types.{CellId, Inst}
 use Rattle.flat_spec.specs.PathOrder.{PathBefore}
-use Rattle.flat_spec.specs.Paths.{Bit, Reaches}
+use Rattle.flat_spec.specs.Paths.{Reaches}
 use Rattle.flat_spec.proofs.ListLemmas.{last_cases}
 use Rattle.erc_spec.specs.Told.{PinBefore}
 use Rattle.net_classes.specs.declared.joints.Joint.{Joint}
 use Rattle.flat_items.specs.Stand.{top_of}
-use Rattle.net_pins.specs.Levels.{AreLevels, IsLevel, IsNextOf, leads_in}
-use Rattle.net_pins.specs.Moves.{CanLeave, HasLeft, NothingHere, at_next, bit_at, last_step}
+use Rattle.net_pins.specs.Levels.{AreLevels, IsLevel, leads_in}
+use Rattle.net_pins.specs.Moves.{CanLeave, HasLeft, NothingHere, bit_at, last_step}
 use Rattle.net_pins.specs.Order.{PinPlace, joint_before}
 use Rattle.net_pins.specs.Spots.{MayAsk, MayStand, Question, Stand, left, place_of}
 use Rattle.net_pins.specs.declared.levels.Level.{Level}
 use Rattle.net_pins.proofs.LeftLemmas.{place_in}
 use Rattle.net_pins.proofs.MoveLemmas.{first_bit, found}
-use Rattle.net_pins.proofs.OrderLemmas.{PathBefore-under, PinBefore-more, PinBefore-strip, PinBefore-under, between, none_before_first}
+use Rattle.net_pins.proofs.OrderLemmas.{PathBefore-under, PinBefore-more, PinBefore-under, between, none_before_first}
 use Rattle.net_pins.proofs.RoomLemmas.{step_small}
 use Rattle.net_pins.proofs.StandLemmas.{IsAsked, IsInside, inside_at, last_push, levels_push, levels_split, none_left, same_left, set_push}
 

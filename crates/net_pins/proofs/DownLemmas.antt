@@ -1,5 +1,5 @@
 -- The nets below an instance that have a first net above it.
-use Rattle.std.proofs.Common.{◌≡◌, ◌⊎◌, ◌<◌, ◌≤◌, ◌+◌, ℕ, zero, suc, List, [], ◌∷◌, ◌++◌, length, Bool, true, false, ◌&&◌, refl, sym, ap, subst, ◌∙◌, inl, inr, arith, Some, None, Option, slice_get, append_assoc, append-nil}
+use Rattle.std.proofs.Common.{◌≡◌, ◌⊎◌, ℕ, zero, suc, List, [], ◌∷◌, ◌++◌, length, Bool, true, false, ◌&&◌, refl, sym, ap, subst, ◌∙◌, inl, inr, arith, Some, None, Option, slice_get, append_assoc, append-nil}
 use Rattle.std.specs.Prelude.{nat_eq}
 use Rattle.std.specs.List.{Contains}
 use Rattle.std.specs.Option.{option_eq}
@@ -132,8 +132,9 @@ module _ (d : Design) (facts : Facts) (notes : PlacedNotes) (ground : IsGround d
               ([], sym (ap (λ (v : NetAt). v.path ++ []) rep ∙ append-nil (init ++ step ∷ [])))
           climbs u init step c n first u_at at net f (Some m) some up =
               let on = outer_is d facts notes ground init u c step u_at at n first m f some in
-              let more = up m on.0 in
-              (more.0 ++ step ∷ [],
+              let more = up m on.0 in (
+                more.0 ++ step ∷ [],
                 ap (λ v. v ++ step ∷ []) more.1
-                ∙ append_assoc (representative d top (at_path init m)).path more.0 (step ∷ [])
-                ∙ ap (λ (v : NetAt). v.path ++ (more.0 ++ step ∷ [])) (sym on.1))
+                    ∙ append_assoc (representative d top (at_path init m)).path more.0 (step ∷ [])
+                    ∙ ap (λ (v : NetAt). v.path ++ (more.0 ++ step ∷ [])) (sym on.1),
+              )

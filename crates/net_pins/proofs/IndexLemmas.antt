@@ -1,23 +1,21 @@
 -- The rows of a cell, joint by joint, and those of all cells, children first.
-use Rattle.std.proofs.Common.{◌≡◌, ◌≢◌, ◌⊎◌, ◌<◌, ◌≤◌, ◌+◌, ℕ, zero, suc, List, [], ◌∷◌, ◌++◌, length, map, take, set, get_or, Bool, true, false, ◌&&◌, cond, refl, sym, ap, subst, ◌∙◌, inl, inr, arith, Some, None, Option, slice_get, append-nil, append_assoc}
-use Rattle.std.specs.Prelude.{IsSome, filter, nat_eq, option_and_then, unwrap_or, is_none}
-use Rattle.std.specs.List.{All, Contains}
+use Rattle.std.proofs.Common.{◌≡◌, ◌<◌, ◌+◌, ℕ, zero, suc, List, [], ◌∷◌, ◌++◌, length, take, get_or, Bool, true, false, ◌&&◌, cond, refl, sym, ap, subst, ◌∙◌, inl, inr, arith, Some, None, Option, slice_get, append-nil, append_assoc}
+use Rattle.std.specs.Prelude.{IsSome, nat_eq, option_and_then, is_none}
+use Rattle.std.specs.List.{Contains}
 use Rattle.std.specs.Option.{option_eq, option_map_or}
-use Rattle.std.proofs.lemmas.Bool.{cases_eq, eq-eqb, eqb-true}
-use Rattle.std.proofs.lemmas.List.{length-set, map-set, take_all, take_more}
+use Rattle.std.proofs.lemmas.List.{take_more}
 use Rattle.std.proofs.lemmas.List.Elements.{Contains-append_left, Contains-push_cases}
-use Rattle.std.proofs.lemmas.Option.{slice_get-get_or, slice_get_within, get_or_from_slice_get}
+use Rattle.std.proofs.lemmas.Option.{slice_get-get_or}
 use Rattle.netlist_schema.specs.Design.{Design, cell_at}
 use Rattle.netlist_schema.specs.Hierarchy.{HasInst, IsCell, insts_at}
 use Rattle.netlist_schema.specs.Types.{CellBody, CellId, Inst}
 use Rattle.netlist_order_spec.specs.After.{AllAfter}
 use Rattle.flat_cells.specs.Below.{ComesBehind}
-use Rattle.flat_spec.specs.Paths.{Bit}
-use Rattle.flat_spec.proofs.ListLemmas.{Member, filter_same, slice_get-contains}
+use Rattle.flat_spec.proofs.ListLemmas.{filter_same, slice_get-contains}
 use Rattle.ask_spec.specs.declared.role.Role.{Role}
 use Rattle.net_classes.specs.Facts.{Facts, first_at}
 use Rattle.net_classes.specs.declared.joints.Joint.{Joint}
-use Rattle.net_pins.specs.Rows.{AreListsOf, AreRows, AreSetAt, Table, bit_leads, direction_in, has_joints, is_in_row, joints_of, leads, lists_at, port_stands}
+use Rattle.net_pins.specs.Rows.{AreListsOf, AreRows, AreSetAt, Table, bit_leads, direction_in, has_joints, is_in_row, leads, lists_at, port_stands}
 use Rattle.net_ways.specs.Ways.{firsts_in, joints_in}
 
 -- the test of a row, by the first net of a joint that leads on
@@ -67,8 +65,7 @@ module _ (role : Role) (d : Design) (facts : Facts) (below : List CellId) (behin
   rows_more i c lists old new within is is_cell known made set_ =
       let more : take (i + 1) below ≡ take i below ++ c ∷ [] = take_more below i c within ∙ ap (λ v. take i below ++ v ∷ []) (sym is) in
       let place : ComesBehind d (take i below) c = after_at (ComesBehind d) [] below i c behind (slice_get-get_or below i c within ∙ ap Some (sym is)) in
-      let apart : (v : CellId) → Contains (take i below) v → v ≡ c → ⊥ = λ v has e. place.new (subst (Contains (take i below)) e has) in
-      (
+      let apart : (v : CellId) → Contains (take i below) v → v ≡ c → ⊥ = λ v has e. place.new (subst (Contains (take i below)) e has) in (
         subst (λ v. AreRows role d facts v new) (sym more) (record {
           room = λ v there. set_.room v (known.0.room v there);
           told = λ v has. elim (Contains-push_cases (take i below) c v has) [

@@ -1,5 +1,5 @@
 -- What is kept for one role, and the pins that are asked of it.
-use Rattle.std.proofs.Common.{◌≡◌, ◌∙◌, List, Some, ap, get_or, inl, inr, refl, subst, sym}
+use Rattle.std.proofs.Common.{◌≡◌, List, ap, get_or, inl, inr, subst, sym}
 use Rattle.std.specs.Prelude.{IfSome, filter}
 use Rattle.std.specs.List.{All}
 use Rattle.std.proofs.lemmas.List.{get_or_default}

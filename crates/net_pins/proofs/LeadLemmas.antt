@@ -1,24 +1,22 @@
 -- Each pin of a net has a joint that leads to it, and such a joint at a leaf is a pin of the net.
-use Rattle.std.proofs.Common.{◌≡◌, ◌⊎◌, ◌<◌, ℕ, List, [], ◌∷◌, ◌++◌, length, Bool, true, false, ◌||◌, cond, refl, sym, ap, subst, ◌∙◌, inl, inr, arith, Some, None, Option, slice_get, append_assoc}
+use Rattle.std.proofs.Common.{◌≡◌, ℕ, List, [], ◌∷◌, ◌++◌, Bool, true, false, ◌||◌, cond, refl, sym, ap, subst, ◌∙◌, Some, None, Option, slice_get, append_assoc}
 use Rattle.std.specs.Prelude.{is_none, not, option_and_then}
-use Rattle.std.specs.List.{Contains, flat_map}
+use Rattle.std.specs.List.{Contains}
 use Rattle.std.specs.Option.{option_map, option_map_or}
-use Rattle.std.proofs.lemmas.Bool.{false≢true}
-use Rattle.std.proofs.lemmas.List.{length-append, same_from_push}
 use Rattle.std.proofs.lemmas.Option.{none-some, same_Some}
 use Rattle.netlist_schema.specs.Design.{Design, cell_at, insts_in, insts_of}
 use Rattle.netlist_schema.specs.Hierarchy.{insts_at}
 use Rattle.netlist_schema.specs.Types.{CellBody, CellId, Contents, Direction, Inst}
 use Rattle.flat_cells.specs.Below.{AreCellsBelow}
 use Rattle.flat_spec.specs.Flattening.{flattening}
-use Rattle.flat_spec.specs.Paths.{Bit, IsNet, Joins, Reaches, at_path, at_root, cell_along, cell_below_top, on, port_of_cell}
-use Rattle.flat_spec.specs.Pins.{JoinsPin, bits_of, net_at_pin, own_bits, shown_bits}
+use Rattle.flat_spec.specs.Paths.{Bit, IsNet, Reaches, at_path, at_root, cell_along, cell_below_top, on, port_of_cell}
+use Rattle.flat_spec.specs.Pins.{bits_of, net_at_pin, own_bits, shown_bits}
 use Rattle.flat_spec.specs.Representatives.{representative}
-use Rattle.flat_spec.specs.Types.{Item, NetAt}
+use Rattle.flat_spec.specs.Types.{NetAt}
 use Rattle.flat_spec.specs.declared.item.Item.TheVariants.{Pin}
 use Rattle.flat_spec.proofs.BitLemmas.{on_there}
 use Rattle.flat_spec.proofs.ListLemmas.{Contains-member, Member, Member-contains}
-use Rattle.flat_spec.proofs.PathLemmas.{Joins-inward_here, Joins-net, Joins-outward_here, Reaches-append, Reaches-cons, Reaches-front, Reaches-parts, Some-same}
+use Rattle.flat_spec.proofs.PathLemmas.{Joins-inward_here, Joins-outward_here, Reaches-append, Reaches-cons, Reaches-front, Reaches-parts, Some-same}
 use Rattle.flat_spec.proofs.PinLemmas.{net_at_pin-from, net_at_pin-joins}
 use Rattle.flat_spec.proofs.TestLemmas.{same_net-refl}
 use Rattle.erc_spec.specs.Drives.{direction_at, is_at, is_either, is_output, is_strong_port}
@@ -30,7 +28,7 @@ use Rattle.ask_spec.specs.Roles.{pins_as, stands_as}
 use Rattle.ask_spec.specs.declared.role.Role.{Role}
 use Rattle.ask_spec.specs.declared.role.Role.TheVariants.{Any, Driver, Load}
 use Rattle.ask_spec.proofs.SideLemmas.{joins_outer, outer_joins, pin_path}
-use Rattle.net_classes.specs.Facts.{Facts, first_at}
+use Rattle.net_classes.specs.Facts.{Facts}
 use Rattle.net_classes.specs.declared.joints.Joint.{Joint}
 use Rattle.flat_items.specs.declared.notes.PlacedNotes.{PlacedNotes}
 use Rattle.flat_items.specs.Stand.{IsGround, top_of}
@@ -38,9 +36,9 @@ use Rattle.net_pins.specs.Levels.{IsLevel, LeadsTo, leads_in}
 use Rattle.net_pins.specs.Rows.{AreRows, Table, direction_in, joints_of, leads, port_stands}
 use Rattle.net_ways.specs.Ways.{firsts_in, joints_in}
 use Rattle.net_pins.specs.declared.levels.Level.{Level}
-use Rattle.net_ways.proofs.ClimbLemmas.{LeadsInto, first_is, first_of_net, joint_joins, joins_joint}
+use Rattle.net_ways.proofs.ClimbLemmas.{first_is, first_of_net, joint_joins, joins_joint}
 use Rattle.net_pins.proofs.DownLemmas.{below_apart, from_above, to_below}
-use Rattle.net_pins.proofs.LeftLemmas.{asked_pin, pin_asked}
+use Rattle.net_pins.proofs.LeftLemmas.{pin_asked}
 use Rattle.net_pins.proofs.RowLemmas.{block_leads, in_row, joint_net, leaf_leads, leaf_stands, row_has}
 
 -- a pin of a leaf below the top stands at its net as its port tells

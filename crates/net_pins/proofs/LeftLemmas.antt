@@ -1,29 +1,27 @@
 -- What is left at a place of the pins of a net.
-use Rattle.std.proofs.Common.{◌≡◌, ◌⊎◌, ◌<◌, ◌+◌, ℕ, List, [], ◌∷◌, ◌++◌, Bool, true, false, cond, Option, Some, None, refl, sym, ap, subst, ◌∙◌, inl, inr, arith}
+use Rattle.std.proofs.Common.{◌≡◌, ℕ, List, [], ◌∷◌, Bool, true, false, cond, Option, Some, refl, sym, ap, subst, ◌∙◌, inl, inr}
 use Rattle.std.specs.Prelude.{filter, not}
 use Rattle.std.specs.List.{flat_map}
-use Rattle.std.proofs.lemmas.Bool.{cases_Bool, false≢true, not-true, not_from_false, not_from_true}
+use Rattle.std.proofs.lemmas.Bool.{cases_Bool, false≢true, not_from_false}
 use Rattle.netlist_schema.specs.Design.{Design}
 use Rattle.netlist_schema.specs.Types.{TopHead}
 use Rattle.netlist_schema.specs.Valid.{IsValid}
 use Rattle.flat_spec.specs.Flattening.{flattening}
-use Rattle.flat_spec.specs.Paths.{Bit}
 use Rattle.flat_spec.specs.Types.{Item, NetAt}
 use Rattle.flat_spec.specs.declared.item.Item.TheVariants.{Enter, Net, Pin}
 use Rattle.flat_spec.proofs.ListLemmas.{Ascends, Member, Member-filter, Member-from_filter, filter_same}
-use Rattle.flat_spec.proofs.TestLemmas.{same_net-refl}
 use Rattle.erc_spec.specs.Drives.{is_at}
 use Rattle.erc_spec.specs.Told.{PinBefore}
 use Rattle.erc_spec.proofs.MemberLemmas.{Member-flat_map, Member-from_flat_map}
 use Rattle.erc_spec.proofs.OpenLemmas.{all_pins-ascend}
-use Rattle.erc_spec.proofs.PinOrder.{PinBefore-differ, pin_at}
+use Rattle.erc_spec.proofs.PinOrder.{pin_at}
 use Rattle.ask_spec.specs.Nets.{first_of, pins_of}
-use Rattle.ask_spec.specs.Roles.{drivers, is_driver, is_load, loads, pins_as, stands_as}
+use Rattle.ask_spec.specs.Roles.{is_driver, is_load, pins_as, stands_as}
 use Rattle.ask_spec.specs.declared.role.Role.{Role}
 use Rattle.ask_spec.specs.declared.role.Role.TheVariants.{Any, Driver, Load}
 use Rattle.ask_spec.proofs.ClassLemmas.{at_pin}
-use Rattle.net_pins.specs.Order.{PinPlace, is_passed, left_at, place_before}
-use Rattle.net_pins.proofs.OrderLemmas.{PinBefore-more, not_place_before, place_before-false, place_before-from, place_before-true}
+use Rattle.net_pins.specs.Order.{PinPlace, is_passed, place_before}
+use Rattle.net_pins.proofs.OrderLemmas.{not_place_before, place_before-false, place_before-from, place_before-true}
 
 -- pins of one net, which are in order
 abbrev pub AllPins : NetAt → List Item → Type 0

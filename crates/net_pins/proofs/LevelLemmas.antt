@@ -1,9 +1,8 @@
 -- The next joint of several lists, and the first nets to which joints lead.
-use Rattle.std.proofs.Common.{◌≡◌, ◌⊎◌, ◌<◌, ◌≤◌, ◌+◌, ◌-◌, ℕ, suc, List, [], ◌∷◌, ◌++◌, length, take, drop, get_or, Bool, true, false, ◌&&◌, ◌||◌, refl, sym, ap, subst, ◌∙◌, inl, inr, arith, Some, None, Option, slice_get}
-use Rattle.std.specs.Prelude.{◌↔◌, nat_eq, nat_lt}
+use Rattle.std.proofs.Common.{◌≡◌, ◌⊎◌, ◌<◌, ◌≤◌, ◌+◌, ◌-◌, ℕ, List, [], ◌∷◌, ◌++◌, length, take, drop, get_or, Bool, true, false, refl, sym, ap, subst, ◌∙◌, inl, inr, arith, Some, None, Option}
 use Rattle.std.specs.List.{All, AllPairs, Contains, flat_map}
 use Rattle.std.proofs.lemmas.Bool.{cases_eq, cases_lt, cases_order, false_from_ne_true, true≢false}
-use Rattle.std.proofs.lemmas.List.{flat_map_more, get_or-drop, get_or-take, get_or_default, length-drop, length-take, length-take-le, take_all, take_more}
+use Rattle.std.proofs.lemmas.List.{flat_map_more, get_or-drop, get_or-take, get_or_default, length-drop, length-take, length-take-le, take_more}
 use Rattle.std.proofs.lemmas.List.Elements.{Contains-append_cases, Contains-append_left, Contains-append_right}
 use Rattle.std.proofs.lemmas.Option.{none-some, same_Some, slice_get-get_or}
 use Rattle.netlist_schema.specs.Types.{CellId}
@@ -13,7 +12,7 @@ use Rattle.erc_spec.specs.Told.{BitBefore}
 use Rattle.net_classes.specs.Facts.{Facts, first_at}
 use Rattle.net_classes.specs.Joints.{IsNotBehind}
 use Rattle.net_classes.specs.declared.joints.Joint.{Joint}
-use Rattle.net_pins.specs.Levels.{AreAdded, IsLeadAdded, IsNextOf, LeadsTo, leads_in}
+use Rattle.net_pins.specs.Levels.{AreAdded, IsLeadAdded, IsNextOf, leads_in}
 use Rattle.net_pins.specs.Order.{joint_before}
 use Rattle.net_pins.specs.Rows.{Table, joints_of}
 use Rattle.net_ways.specs.Counts.{IsCountOf}

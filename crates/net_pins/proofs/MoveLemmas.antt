@@ -1,10 +1,10 @@
 -- From one place to the next in an occurrence, into one below, and back.
-use Rattle.std.proofs.Common.{◌≡◌, ◌≢◌, ◌⊎◌, ◌<◌, ◌≤◌, ◌+◌, ◌-◌, ℕ, List, [], ◌∷◌, ◌++◌, length, Bool, true, false, ◌&&◌, ◌||◌, cond, refl, sym, ap, subst, ◌∙◌, inl, inr, arith, Some, None, Option, set, slice_get, append_assoc, append-nil}
+use Rattle.std.proofs.Common.{◌≡◌, ◌⊎◌, ◌<◌, ◌≤◌, ◌-◌, ℕ, List, [], ◌∷◌, ◌++◌, length, true, false, ◌&&◌, refl, sym, ap, subst, ◌∙◌, inl, inr, arith, Some, set, slice_get, append_assoc, append-nil}
 use Rattle.std.specs.Prelude.{is_none, nat_eq, nat_lt}
 use Rattle.std.specs.List.{Contains}
 use Rattle.std.proofs.lemmas.Bool.{and_from, and_parts, cases_order, eq-eqb, eqb-true, false_from_ne_true, false≢true, lt-ltb, ltb-true, or_cases, or_left, or_right, true≢false}
 use Rattle.std.proofs.lemmas.Option.{same_Some}
-use Rattle.netlist_schema.specs.Design.{Design, cell_at}
+use Rattle.netlist_schema.specs.Design.{cell_at}
 use Rattle.netlist_schema.specs.Hierarchy.{insts_at}
 use Rattle.netlist_schema.specs.Types.{CellBody, CellId, Inst}
 use Rattle.flat_spec.specs.Flattening.{flattening}
@@ -13,20 +13,20 @@ use Rattle.flat_spec.specs.Paths.{Bit, Reaches}
 use Rattle.flat_spec.specs.declared.item.Item.TheVariants.{Pin}
 use Rattle.flat_spec.proofs.ListLemmas.{Member, Member-contains, last_cases}
 use Rattle.flat_spec.proofs.PathLemmas.{Reaches-append, Reaches-cons, Reaches-front, Reaches-parts, Some-same}
-use Rattle.erc_spec.specs.Told.{BitBefore, PinBefore, pin_bits}
+use Rattle.erc_spec.specs.Told.{BitBefore, PinBefore}
 use Rattle.erc_spec.proofs.ItemLemmas.{pin_there}
 use Rattle.ask_spec.specs.Roles.{pins_as}
 use Rattle.net_classes.specs.declared.joints.Joint.{Joint}
 use Rattle.flat_items.specs.Stand.{top_of}
 use Rattle.net_pins.specs.Levels.{AreLevels, IsLevel, IsNextOf, LeadsTo, leads_in}
-use Rattle.net_pins.specs.Moves.{bit_at, entered, last_step, made_ready, moved}
+use Rattle.net_pins.specs.Moves.{bit_at, entered, made_ready, moved}
 use Rattle.net_pins.specs.Order.{PinPlace, bit_before, joint_before}
-use Rattle.net_pins.specs.Spots.{IsLowest, MayAsk, MayStand, Question, Stand, left, pin_of, place_of}
+use Rattle.net_pins.specs.Spots.{IsLowest, MayAsk, MayStand, Question, Stand, left, place_of}
 use Rattle.net_pins.specs.declared.levels.Level.{Level}
-use Rattle.net_pins.proofs.LeadLemmas.{body_of, body_there, has_contents, lead_is_pin, level_goes_down, pin_has_lead, shows_leaf, step_to}
-use Rattle.net_pins.proofs.LeftLemmas.{left-none, place_in}
-use Rattle.net_pins.proofs.OrderLemmas.{PathBefore-under, PinBefore-more, PinBefore-under, between, bit_before-from, bit_before-true, bits_compare, none_before_first}
-use Rattle.net_pins.proofs.StandLemmas.{IsAsked, IsInside, is_asked, last_push, levels_push, none_left, same_left, set_push}
+use Rattle.net_pins.proofs.LeadLemmas.{body_of, body_there, has_contents, lead_is_pin, level_goes_down, pin_has_lead, shows_leaf}
+use Rattle.net_pins.proofs.LeftLemmas.{place_in}
+use Rattle.net_pins.proofs.OrderLemmas.{PathBefore-under, PinBefore-more, between, bit_before-from, bit_before-true, bits_compare, none_before_first}
+use Rattle.net_pins.proofs.StandLemmas.{IsAsked, IsInside, levels_push, same_left, set_push}
 
 abbrev pub first_bit : Bit
 first_bit = record { port = 0; bit = 0 }

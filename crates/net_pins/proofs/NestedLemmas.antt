@@ -4,11 +4,9 @@ use Rattle.std.specs.Prelude.{IfSome, IsSome, is_some, option_and_then}
 use Rattle.std.specs.Option.{option_map}
 use Rattle.std.proofs.lemmas.Bool.{cases_eq, false≢true}
 use Rattle.std.proofs.lemmas.Option.{slice_get-get_or, slice_get-map, slice_get_past, slice_get_within}
-use Rattle.netlist_schema.specs.Design.{Design, cell_at, cells_in}
+use Rattle.netlist_schema.specs.Design.{Design, cells_in}
 use Rattle.netlist_schema.specs.Hierarchy.{IsCell}
 use Rattle.netlist_schema.specs.Types.{CellId}
-use Rattle.netlist_schema.proofs.Lists.{some_of}
-use Rattle.netlist_order_spec.proofs.Places.{lib_of_cell}
 use Rattle.flat_spec.proofs.PathLemmas.{slice_get-is}
 use Rattle.net_classes.specs.declared.joints.Joint.{Joint}
 use Rattle.net_ways.proofs.PlaceLemmas.{cell_place}

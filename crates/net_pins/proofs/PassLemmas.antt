@@ -1,12 +1,10 @@
 -- The pin that is next, and past it.
-use Rattle.std.proofs.Common.{◌≡◌, ◌⊎◌, ◌<◌, ◌≤◌, ◌+◌, ℕ, List, [], ◌∷◌, ◌++◌, Bool, true, false, refl, sym, ap, subst, ◌∙◌, inl, inr, arith, append_assoc, Some, None, Option, slice_get}
-use Rattle.std.specs.Prelude.{is_none}
+use Rattle.std.proofs.Common.{◌≡◌, ◌<◌, ◌+◌, ℕ, List, [], ◌∷◌, ◌++◌, true, refl, sym, ap, subst, ◌∙◌, inl, inr, arith, append_assoc, Some}
 use Rattle.std.specs.List.{Contains}
 use Rattle.std.proofs.lemmas.Bool.{true≢false}
-use Rattle.netlist_schema.specs.Design.{Design, cell_at, port_width}
-use Rattle.netlist_schema.specs.Types.{CellBody, CellId, Port}
+use Rattle.netlist_schema.specs.Types.{CellId}
 use Rattle.flat_spec.specs.PathOrder.{PathBefore}
-use Rattle.flat_spec.specs.Paths.{Bit, Reaches}
+use Rattle.flat_spec.specs.Paths.{Bit}
 use Rattle.flat_spec.specs.declared.item.Item.TheVariants.{Pin}
 use Rattle.flat_spec.proofs.ListLemmas.{Contains-member, Member, last_cases}
 use Rattle.flat_spec.proofs.PathLemmas.{Some-same}
@@ -14,13 +12,12 @@ use Rattle.erc_spec.specs.Drives.{is_at}
 use Rattle.erc_spec.specs.Told.{BitBefore, PinBefore, pin_bits}
 use Rattle.erc_spec.proofs.ItemLemmas.{pin_there}
 use Rattle.erc_spec.proofs.PinOrder.{PinBefore-differ}
-use Rattle.ask_spec.specs.Nets.{first_of}
 use Rattle.ask_spec.specs.Roles.{pins_as}
 use Rattle.flat_items.specs.Stand.{top_of}
 use Rattle.net_pins.specs.Order.{PinPlace}
 use Rattle.net_pins.specs.Spots.{IsLowest, MayAsk, MayStand, Question, Stand, left, passed, pin_of, place_of}
-use Rattle.net_pins.proofs.LeadLemmas.{body_of, shows_leaf}
-use Rattle.net_pins.proofs.LeftLemmas.{IsNextPin, all_asked, left-first, pins-in_order, place_in}
+use Rattle.net_pins.proofs.LeadLemmas.{shows_leaf}
+use Rattle.net_pins.proofs.LeftLemmas.{all_asked, left-first, pins-in_order, place_in}
 use Rattle.net_pins.proofs.OrderLemmas.{PathBefore-more, PinBefore-more}
 use Rattle.net_pins.proofs.RoomLemmas.{bit_small}
 use Rattle.net_pins.proofs.StandLemmas.{IsAsked, is_asked}

@@ -1,13 +1,13 @@
 -- What the rows keep of the joints of a cell.
-use Rattle.std.proofs.Common.{◌≡◌, ◌⊎◌, ◌<◌, ◌≤◌, ℕ, List, [], ◌∷◌, ◌++◌, length, Bool, true, false, ◌&&◌, ◌||◌, cond, refl, sym, ap, subst, ◌∙◌, inl, inr, arith, Some, None, Option, slice_get}
+use Rattle.std.proofs.Common.{◌≡◌, ◌⊎◌, ◌<◌, ◌≤◌, ℕ, List, [], ◌∷◌, length, true, false, cond, refl, sym, ap, subst, ◌∙◌, inl, inr, arith, Some, None, Option, slice_get}
 use Rattle.std.specs.Prelude.{filter, is_none, nat_eq, not, option_and_then}
 use Rattle.std.specs.List.{AllPairs, Contains}
 use Rattle.std.specs.Option.{option_eq, option_map_or}
 use Rattle.std.proofs.lemmas.Bool.{and_from, and_parts, cases_lt, eq-eqb, eqb-true, false_from_ne_true, false≢true}
-use Rattle.std.proofs.lemmas.Option.{none-some, same_Some, slice_get_past, slice_get_within}
+use Rattle.std.proofs.lemmas.Option.{same_Some, slice_get_past}
 use Rattle.netlist_schema.specs.Design.{Design, cell_at}
 use Rattle.netlist_schema.specs.Hierarchy.{insts_at}
-use Rattle.netlist_schema.specs.Types.{CellBody, CellId, Direction, Inst}
+use Rattle.netlist_schema.specs.Types.{CellBody, CellId, Inst}
 use Rattle.flat_cells.specs.Below.{AreCellsBelow}
 use Rattle.flat_spec.specs.Paths.{Bit, IsNet, Reaches, at_root, on}
 use Rattle.flat_spec.proofs.ListLemmas.{Ascends-filter, Ascends-pairs, Contains-member, Member, Member-contains, Member-filter, Member-from_filter}

@@ -1,44 +1,34 @@
 -- Steps from one place among the pins of a net to the next.
-use Rattle.std.proofs.Common.{◌≡◌, ◌≢◌, ◌⊎◌, ◌<◌, ◌≤◌, ◌+◌, ◌-◌, ℕ, zero, suc, List, [], ◌∷◌, ◌++◌, length, Bool, true, false, ◌&&◌, ◌||◌, cond, refl, sym, ap, subst, ◌∙◌, inl, inr, arith, Some, None, Option, set, slice_get, append_assoc, append-nil}
-use Rattle.std.specs.Prelude.{filter, is_none, nat_eq, nat_lt, not, slice_index}
-use Rattle.std.specs.List.{Contains, flat_map}
-use Rattle.std.specs.Option.{option_map, option_map_or}
-use Rattle.std.proofs.lemmas.Bool.{and_from, cases_Bool, cases_order, eq-eqb, false≢true, lt-ltb, or_left, or_right, true≢false}
-use Rattle.std.proofs.lemmas.List.{get_or_at, length-append, length_push, same_from_push, set_at}
-use Rattle.std.proofs.lemmas.Option.{none-some, same_Some}
-use Rattle.netlist_schema.specs.Design.{Design, cell_at, insts_in, insts_of}
-use Rattle.netlist_schema.specs.Hierarchy.{insts_at}
-use Rattle.netlist_schema.specs.Types.{CellBody, CellId, Contents, Inst}
+use Rattle.std.proofs.Common.{◌≡◌, ◌⊎◌, ◌-◌, ℕ, List, [], ◌∷◌, ◌++◌, length, true, refl, sym, ap, subst, ◌∙◌, inl, inr, arith, Some, None, Option, set, append_assoc, append-nil}
+use Rattle.std.proofs.lemmas.Bool.{false≢true}
+use Rattle.std.proofs.lemmas.List.{get_or_at, length_push, set_at}
+use Rattle.netlist_schema.specs.Types.{CellId}
 use Rattle.flat_spec.specs.Flattening.{flattening}
-use Rattle.flat_spec.specs.PathOrder.{PathBefore}
 use Rattle.flat_spec.specs.Paths.{Bit, IsNet, Joins, Reaches, at_path, at_root, on, own}
 use Rattle.flat_spec.specs.Pins.{JoinsPin, net_at_pin}
 use Rattle.flat_spec.specs.Representatives.{representative}
-use Rattle.flat_spec.specs.Types.{Item, NetAt}
+use Rattle.flat_spec.specs.Types.{NetAt}
 use Rattle.flat_spec.specs.declared.item.Item.TheVariants.{Pin}
-use Rattle.flat_spec.proofs.ListLemmas.{Contains-member, Member, Member-contains, last_cases}
-use Rattle.flat_spec.proofs.PathLemmas.{Joins-inward_here, Joins-net, Joins-reaches, Reaches-append, Reaches-cons, Reaches-front, Reaches-parts, Some-same}
+use Rattle.flat_spec.proofs.ListLemmas.{Member, last_cases}
+use Rattle.flat_spec.proofs.PathLemmas.{Joins-inward_here, Joins-net, Joins-reaches}
 use Rattle.flat_spec.proofs.PinLemmas.{net_at_pin-joins}
 use Rattle.flat_spec.proofs.TestLemmas.{same_net-true}
 use Rattle.erc_spec.specs.Drives.{is_at}
-use Rattle.erc_spec.specs.Told.{BitBefore, PinBefore, pin_bits}
+use Rattle.erc_spec.specs.Told.{PinBefore}
 use Rattle.erc_spec.proofs.ItemLemmas.{pin_there}
-use Rattle.erc_spec.proofs.PinOrder.{PinBefore-differ}
 use Rattle.ask_spec.specs.Nets.{first_of}
 use Rattle.ask_spec.specs.Roles.{pins_as, stands_as}
 use Rattle.ask_spec.proofs.SideLemmas.{outer_joins, pin_path}
-use Rattle.ask_spec.proofs.ClassLemmas.{at_pin}
-use Rattle.net_classes.specs.declared.joints.Joint.{Joint}
 use Rattle.flat_items.specs.Stand.{top_of}
-use Rattle.net_pins.specs.Levels.{AreLevels, IsLevel, IsNextOf, LeadsTo, leads_in}
-use Rattle.net_pins.specs.Moves.{IsLeadAt, NothingHere, at_bit, bit_at, entered, last_step, made_ready, moved}
-use Rattle.net_pins.specs.Order.{PinPlace, bit_before, joint_before}
-use Rattle.net_pins.specs.Spots.{IsLowest, MayAsk, MayStand, Question, Stand, left, passed, pin_of, place_of}
+use Rattle.net_pins.specs.Levels.{AreLevels, IsLevel}
+use Rattle.net_pins.specs.Moves.{last_step}
+use Rattle.net_pins.specs.Order.{PinPlace}
+use Rattle.net_pins.specs.Spots.{IsLowest, MayAsk, MayStand, Question, Stand, left, place_of}
 use Rattle.net_pins.specs.declared.levels.Level.{Level}
 use Rattle.net_pins.proofs.DownLemmas.{rep_front}
-use Rattle.net_pins.proofs.LeadLemmas.{body_of, has_contents, level_goes_down, pin_has_lead, shows_leaf, some_net, step_to}
-use Rattle.net_pins.proofs.LeftLemmas.{IsNextPin, all_asked, asked_pin, left-all, left-first, left-none, left-same, pins-in_order, place_in}
-use Rattle.net_pins.proofs.OrderLemmas.{PinBefore-more, PinBefore-strip, PinBefore-under, between, bit_before-from, bit_before-true, none_before_first}
+use Rattle.net_pins.proofs.LeadLemmas.{some_net}
+use Rattle.net_pins.proofs.LeftLemmas.{all_asked, asked_pin, left-all, left-none, left-same, place_in}
+use Rattle.net_pins.proofs.OrderLemmas.{PinBefore-strip, none_before_first}
 
 -- the levels along steps, one more at the end
 pub levels_split : (q : Question) (start steps : List ℕ) (ls : List Level) (l : Level) → AreLevels q.design q.facts q.cells q.first start steps (ls ++ l ∷ [])
@@ -176,18 +166,21 @@ module _ (q : Question) (asks : MayAsk q) where
 
   pub inside_at : (s : Stand) → MayStand q s → (levels : List Level) (level : Level) → s.levels ≡ levels ++ level ∷ [] → (i : IsInside s) × (i.levels ≡ levels) × (i.level ≡ level)
   inside_at s stands levels level is =
-      let split = levels_split q q.first.path stands.steps levels level (subst (AreLevels q.design q.facts q.cells q.first q.first.path stands.steps) is stands.levels) in
-      (record {
-        levels = levels;
-        level = level;
-        levels_are = is;
-        init = split.0;
-        last = split.1;
-        path_is = stands.path_is ∙ ap (λ v. q.first.path ++ v) split.2 ∙ sym (append_assoc q.first.path split.0 (split.1 ∷ []));
-        above = split.3;
-        here = split.4;
-        lowest = elim stands.lowest [ inl none ↦ absurd (not_empty split.0 split.1 (sym split.2 ∙ none)) | inr low ↦ low ];
-      }, refl, refl)
+      let split = levels_split q q.first.path stands.steps levels level (subst (AreLevels q.design q.facts q.cells q.first q.first.path stands.steps) is stands.levels) in (
+        record {
+          levels = levels;
+          level = level;
+          levels_are = is;
+          init = split.0;
+          last = split.1;
+          path_is = stands.path_is ∙ ap (λ v. q.first.path ++ v) split.2 ∙ sym (append_assoc q.first.path split.0 (split.1 ∷ []));
+          above = split.3;
+          here = split.4;
+          lowest = elim stands.lowest [ inl none ↦ absurd (not_empty split.0 split.1 (sym split.2 ∙ none)) | inr low ↦ low ];
+        },
+        refl,
+        refl,
+      )
     where
       not_empty : (init : List ℕ) (last : ℕ) → init ++ last ∷ [] ≡ [] → ⊥
       not_empty [] last e = cc e

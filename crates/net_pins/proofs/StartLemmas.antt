@@ -1,10 +1,10 @@
 -- The bits of the top, and into the net's own occurrence.
-use Rattle.std.proofs.Common.{◌≡◌, ◌≢◌, ◌⊎◌, ◌<◌, ◌+◌, ℕ, List, [], ◌∷◌, ◌++◌, length, Bool, true, false, ◌||◌, cond, refl, sym, ap, subst, ◌∙◌, inl, inr, arith, Some, None, Option, append_assoc, append-nil}
-use Rattle.std.specs.Prelude.{is_none, not, option_and_then, slice_get}
+use Rattle.std.proofs.Common.{◌≡◌, ◌<◌, ℕ, List, [], ◌∷◌, ◌++◌, length, true, false, refl, sym, ap, subst, ◌∙◌, inl, inr, arith, Some, None, Option, append-nil}
+use Rattle.std.specs.Prelude.{slice_get}
 use Rattle.std.specs.List.{Contains}
 use Rattle.std.specs.Option.{option_map, option_map_or}
-use Rattle.std.proofs.lemmas.Bool.{false_from_ne_true, false≢true, true≢false}
-use Rattle.std.proofs.lemmas.List.{length-append, same_from_push}
+use Rattle.std.proofs.lemmas.Bool.{false_from_ne_true, true≢false}
+use Rattle.std.proofs.lemmas.List.{length-append}
 use Rattle.std.proofs.lemmas.Option.{none-some, same_Some}
 use Rattle.netlist_schema.specs.Design.{Design, cell_at}
 use Rattle.netlist_schema.specs.Types.{CellBody, CellId}
@@ -21,38 +21,36 @@ use Rattle.flat_spec.proofs.BitLemmas.{own_there}
 use Rattle.flat_spec.proofs.FirstLemmas.{own_bit-once}
 use Rattle.flat_spec.proofs.HandedDownLemmas.{Connected-inside}
 use Rattle.flat_spec.proofs.ListLemmas.{Contains-member, Member, Member-contains, last_cases}
-use Rattle.flat_spec.proofs.PathLemmas.{IsNet-from, IsNet-parts, Joins-inward_here, Joins-net, Joins-reaches, Reaches-front, Some-same}
+use Rattle.flat_spec.proofs.PathLemmas.{IsNet-from, IsNet-parts, Joins-inward_here, Joins-net, Joins-reaches, Reaches-front}
 use Rattle.flat_spec.proofs.PinLemmas.{net_at_pin-from, net_at_pin-joins}
 use Rattle.flat_spec.proofs.RepresentativeLemmas.{representative-connected}
 use Rattle.flat_spec.proofs.TestLemmas.{same_net-refl}
-use Rattle.erc_spec.specs.Drives.{direction_at, is_at, is_either, is_input, is_strong_port}
-use Rattle.erc_spec.specs.Told.{BitBefore, PinBefore, pin_bits}
+use Rattle.erc_spec.specs.Drives.{direction_at, is_at}
+use Rattle.erc_spec.specs.Told.{PinBefore, pin_bits}
 use Rattle.erc_spec.proofs.ItemLemmas.{pin_from, pin_there}
-use Rattle.ask_spec.specs.Nets.{first_of}
 use Rattle.ask_spec.specs.Roles.{pins_as, stands_as}
 use Rattle.ask_spec.specs.declared.role.Role.{Role}
 use Rattle.ask_spec.specs.declared.role.Role.TheVariants.{Any, Driver, Load}
 use Rattle.ask_spec.proofs.SideLemmas.{outer_joins, pin_path}
-use Rattle.net_classes.specs.Facts.{Facts, first_at}
+use Rattle.net_classes.specs.Facts.{first_at}
 use Rattle.net_classes.specs.Inside.{IsFirstAt}
-use Rattle.net_classes.specs.declared.joints.Joint.{Joint}
 use Rattle.flat_items.specs.Stand.{top_of}
 use Rattle.net_pins.specs.Levels.{AreLevels, IsLevel}
-use Rattle.net_pins.specs.Moves.{IsOwnBit, IsOwnLevel, at_bit, bit_at, entered, made_ready}
+use Rattle.net_pins.specs.Moves.{at_bit, bit_at, entered, made_ready}
 use Rattle.net_pins.specs.Order.{PinPlace, bit_before}
-use Rattle.net_pins.specs.Rows.{direction_in, joints_of, port_stands}
+use Rattle.net_pins.specs.Rows.{direction_in, port_stands}
 use Rattle.net_pins.specs.Spots.{MayAsk, MayStand, Question, Stand, left, place_of}
 use Rattle.net_pins.specs.Tops.{bit_of, bit_stands, bits_in}
 use Rattle.net_ways.specs.Ways.{firsts_in}
 use Rattle.net_pins.specs.declared.levels.Level.{Level}
 use Rattle.net_pins.specs.declared.tops.OwnBit.{OwnBit}
-use Rattle.net_ways.proofs.ClimbLemmas.{IsOuterNet, at_top, first_at_is, first_is, first_net as first_net_of, first_of_net, none_outer, outer_is, told_at}
+use Rattle.net_ways.proofs.ClimbLemmas.{IsOuterNet, at_top, first_at_is, first_is, first_net as first_net_of, none_outer, outer_is, told_at}
 use Rattle.net_pins.proofs.DownLemmas.{outer_exists, rep_front}
 use Rattle.net_pins.proofs.LeadLemmas.{direction_is, some_net}
 use Rattle.net_pins.proofs.LeftLemmas.{place_in, pin_asked}
 use Rattle.net_pins.proofs.MoveLemmas.{first_bit}
 use Rattle.net_pins.proofs.OrderLemmas.{PathBefore-under, PinBefore-more, between, bit_before-from, bit_before-true, bits_compare, none_before_first}
-use Rattle.net_pins.proofs.StandLemmas.{IsAsked, is_asked, none_left, same_left}
+use Rattle.net_pins.proofs.StandLemmas.{IsAsked, none_left, same_left}
 
 not_before_nil : (p : List ℕ) → PathBefore p [] → ⊥
 not_before_nil [] h = h

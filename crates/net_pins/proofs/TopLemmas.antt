@@ -1,13 +1,13 @@
 -- The bits of the top by their first nets.
-use Rattle.std.proofs.Common.{◌≡◌, ◌⊎◌, ◌<◌, ◌≤◌, ◌+◌, ℕ, zero, suc, List, [], ◌∷◌, ◌++◌, length, map, take, get_or, Bool, true, false, ◌&&◌, cond, refl, sym, ap, subst, ◌∙◌, inl, inr, arith, Some, None, Option, slice_get, append-nil, append_assoc}
+use Rattle.std.proofs.Common.{◌≡◌, ◌<◌, ◌≤◌, ◌+◌, ℕ, zero, suc, List, [], ◌∷◌, ◌++◌, length, map, take, Bool, true, false, ◌&&◌, cond, refl, sym, ap, subst, ◌∙◌, inl, inr, arith, Some, None, Option, slice_get, append-nil, append_assoc}
 use Rattle.std.specs.Prelude.{filter, nat_eq}
-use Rattle.std.specs.List.{AllPairs, Contains, enumerate_from, flat_map, range_with_len}
+use Rattle.std.specs.List.{AllPairs, Contains, enumerate_from, flat_map}
 use Rattle.std.specs.Option.{option_eq, option_map_or}
 use Rattle.std.proofs.lemmas.Bool.{and_from, and_parts, cases_lt, eq-eqb, eqb-true, false≢true}
 use Rattle.std.proofs.lemmas.Option.{none-some, same_Some, slice_get_past}
-use Rattle.netlist_schema.specs.Design.{Design, cell_at, port_width}
+use Rattle.netlist_schema.specs.Design.{Design, cell_at}
 use Rattle.netlist_schema.specs.Types.{CellBody, CellId, Port}
-use Rattle.flat_spec.specs.Paths.{Bit, Joins, at_root, own}
+use Rattle.flat_spec.specs.Paths.{Bit, at_root, own}
 use Rattle.flat_spec.specs.Pins.{bits_of, own_bits, shown_bits}
 use Rattle.flat_spec.proofs.ListLemmas.{Ascends, Ascends-filter, Ascends-pairs, Contains-member, Member, Member-contains, Member-filter, Member-from_filter, Member-from_map, Member-map}
 use Rattle.flat_spec.proofs.PathLemmas.{Joins-net}
@@ -98,8 +98,7 @@ module _ (role : Role) (d : Design) (facts : Facts) (notes : PlacedNotes) (groun
   to f v has = elim (cases_lt f (length (firsts_in facts top))) [
     | inl less ↦
         let m = Member-from_filter (bit_is_in role facts top body f) bits v (Contains-member (filter (bit_is_in role facts top body f) bits) v (subst (λ vs. Contains vs v) (within f less) has)) in
-        let parts = and_parts (port_stands role true (direction_in body v.port)) (option_eq nat_eq (first_at facts top (bit_of v)) (Some f)) m.1 in
-        (
+        let parts = and_parts (port_stands role true (direction_in body v.port)) (option_eq nat_eq (first_at facts top (bit_of v)) (Some f)) m.1 in (
           subst (λ bs. Contains bs (bit_of v)) (all ∙ sym bits_are) (Member-contains (map bit_of bits) (bit_of v) (Member-map bit_of bits v m.0)),
           same_option (first_at facts top (bit_of v)) f parts.1,
           stands_is (bit_of v) ∙ parts.0,

@@ -1,5 +1,5 @@
 -- Where pins come: by occurrence, and within one by bit.
-use Rattle.std.specs.Prelude.{◌≡◌, ◌<◌, ℕ, List, [], ◌∷◌, ◌≤◌, Bool, true, false, ◌&&◌, ◌||◌, not, nat_eq, nat_lt, filter, length, slice_get, Some}
+use Rattle.std.specs.Prelude.{ℕ, List, [], ◌∷◌, Bool, true, false, ◌&&◌, ◌||◌, not, nat_eq, nat_lt, filter}
 use Rattle.std.specs.Cmp.Lexicographic.{pointwise}
 use Rattle.netlist_schema.specs.Design.{Design}
 use Rattle.flat_spec.specs.Paths.{Bit}

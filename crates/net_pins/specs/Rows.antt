@@ -1,12 +1,12 @@
 -- The joints of each cell that lead to pins, by the first net inside of their nets.
-use Rattle.std.specs.Prelude.{◌≡◌, ◌<◌, ℕ, List, [], ◌∷◌, ◌++◌, length, Bool, true, false, ◌&&◌, ◌||◌, not, is_none, nat_eq, filter, if◌then◌else◌, slice_get, option_and_then, map, set, unwrap_or, Option, Some, None, IsSome}
+use Rattle.std.specs.Prelude.{◌≡◌, ℕ, List, [], ◌∷◌, length, Bool, true, false, ◌&&◌, ◌||◌, not, is_none, nat_eq, if◌then◌else◌, slice_get, option_and_then, map, Option, Some, IsSome}
 use Rattle.std.specs.List.{Contains}
-use Rattle.std.specs.Option.{option_eq, option_map, option_map_or}
+use Rattle.std.specs.Option.{option_eq, option_map_or}
 use Rattle.netlist_schema.specs.Design.{Design, cell_at}
 use Rattle.netlist_schema.specs.Hierarchy.{IsCell, insts_at}
 use Rattle.netlist_schema.specs.Types.{CellBody, CellId, Direction}
 use Rattle.flat_spec.specs.Paths.{Bit}
-use Rattle.erc_spec.specs.Drives.{is_either, is_input, is_output, is_strong_port}
+use Rattle.erc_spec.specs.Drives.{is_either, is_input, is_output}
 use Rattle.ask_spec.specs.declared.role.Role.{Role}
 use Rattle.ask_spec.specs.declared.role.Role.TheVariants.{Any, Driver, Load}
 use Rattle.net_classes.specs.Facts.{Facts, first_at}

@@ -81,13 +81,7 @@ fn earlier(one: Option<Joint>, other: Option<Joint>) -> Option<Joint>
 
 /// The first joint of the level that leads to a pin and does not come before this bit of an instance, where there is one. It takes time in
 /// proportion to the first nets of the level, times the logarithm of the ends in its cell, and no memory.
-pub(crate) fn next_lead(
-    rows: &Rows,
-    level: &Level,
-    inst: u32,
-    port: u32,
-    bit: u32,
-) -> Option<Joint>
+pub(crate) fn next_lead(rows: &Rows, level: &Level, inst: u32, port: u32, bit: u32) -> Option<Joint>
     requires { AreInOrder rows.now level.now.cell }
     ensures { IsNextOf (leads_in rows.now level.now.cell level.now.firsts.items) inst (record { port = port; bit = bit }) result }
 {

@@ -12,8 +12,8 @@ use crate::rows::Rows;
 use crate::tops::{OwnBit, TopRows};
 use ask_spec::Role;
 use flat_items::{Ground, ItemRef, NetRef};
-use flat_spec::Item;
 use flat_lookup::{cell_along, inst_at};
+use flat_spec::Item;
 use net_classes::Joint;
 use net_ways::top_cell;
 use netlist_schema::{CellId, NoMemory, Shown};
@@ -218,7 +218,14 @@ fn made_below<S: Shown + Drop>(
     ensures cell { IfOk result (λ made. made.cell ≡ of) }
     ensures firsts { IfOk result (λ made. (f : ℕ) → Contains made.firsts.items f ↔ LeadsTo asked.now.facts of inst (leads_in asked.now.cells level.now.cell level.now.firsts.items) f) }
 {
-    level_below(asked.ground.alloc, &asked.ground.classes, asked.rows, level, inst, of)
+    level_below(
+        asked.ground.alloc,
+        &asked.ground.classes,
+        asked.rows,
+        level,
+        inst,
+        of,
+    )
 }
 
 /// The next bit of the top that is a pin of the net, where the net is of the top and one is left.
@@ -227,9 +234,7 @@ fn own_bit<S: Shown + Drop>(asked: &Asked<'_, S>, spot: &Spot) -> Option<OwnBit>
     ensures { IsOwnBit asked.now (stand_of spot.now) result }
 {
     if asked.first.path.is_empty() {
-        asked
-            .tops
-            .bit_from(asked.first.net, spot.port, spot.bit)
+        asked.tops.bit_from(asked.first.net, spot.port, spot.bit)
     } else {
         None
     }
@@ -304,10 +309,7 @@ fn enter_own<S: Shown + Drop>(asked: &Asked<'_, S>, spot: &mut Spot) -> Result<F
 }
 
 /// Looks among the bits of the top, and else goes to the contents of the net's own occurrence.
-fn look_at_own<S: Shown + Drop>(
-    asked: &Asked<'_, S>,
-    spot: &mut Spot,
-) -> Result<Found, NoMemory>
+fn look_at_own<S: Shown + Drop>(asked: &Asked<'_, S>, spot: &mut Spot) -> Result<Found, NoMemory>
     requires asks { MayAsk asked.now }
     requires stands { MayStand asked.now (stand_of spot.old) }
     requires looks { spot.old.ready ≡ false }
@@ -371,10 +373,7 @@ fn look_above<S: Shown + Drop>(asked: &Asked<'_, S>, spot: &mut Spot) -> Found
 }
 
 /// Looks in the last occurrence, and else goes back to the one above.
-fn look_in<S: Shown + Drop>(
-    asked: &Asked<'_, S>,
-    spot: &mut Spot,
-) -> Result<Found, NoMemory>
+fn look_in<S: Shown + Drop>(asked: &Asked<'_, S>, spot: &mut Spot) -> Result<Found, NoMemory>
     requires asks { MayAsk asked.now }
     requires stands { MayStand asked.now (stand_of spot.old) }
     requires looks { spot.old.ready ≡ false }

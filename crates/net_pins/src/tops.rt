@@ -75,13 +75,7 @@ fn all_bits(alloc: Global, body: &CellBody) -> Result<Vec<OwnBit>, NoMemory>
 }
 
 /// The first net that is connected with a bit of the top, where the bit stands in that role.
-fn first_of(
-    classes: &Classes,
-    top: CellId,
-    body: &CellBody,
-    role: Role,
-    own: OwnBit,
-) -> Option<u32>
+fn first_of(classes: &Classes, top: CellId, body: &CellBody, role: Role, own: OwnBit) -> Option<u32>
     ensures { result ≡ (if port_stands role true (direction_in body.now own.port) then first_at classes.now top (bit_of own) else None) }
 {
     if stands_as(role, true, direction_of(body.ports.as_slice(), own.port)) {
@@ -129,7 +123,14 @@ impl TopRows {
             });
         };
         let bits = all_bits(ground.alloc, body)?;
-        let by_first = parted(ground.alloc, &ground.classes, top, body, role, bits.as_slice())?;
+        let by_first = parted(
+            ground.alloc,
+            &ground.classes,
+            top,
+            body,
+            role,
+            bits.as_slice(),
+        )?;
         Ok(TopRows { by_first })
     }
 

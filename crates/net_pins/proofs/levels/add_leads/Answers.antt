@@ -1,4 +1,4 @@
-use Rattle.std.proofs.Common.{◌≡◌, ◌∙◌, ap, get_or, subst, sym, take}
+use Rattle.std.proofs.Common.{get_or, subst, sym, take}
 use Rattle.std.proofs.lemmas.List.{get_or_default, take_all, take_more}
 use Rattle.net_classes.specs.declared.joints.Joint.{Joint}
 use Rattle.net_pins.specs.Levels.{AreAdded}

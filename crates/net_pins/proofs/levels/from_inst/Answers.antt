@@ -1,4 +1,4 @@
-use Rattle.std.proofs.Common.{List, subst, sym, drop}
+use Rattle.std.proofs.Common.{List, subst, sym}
 use Rattle.std.specs.Prelude.{◌↔◌, ◌≤◌}
 use Rattle.std.specs.List.{All, AllPairs, Contains}
 use Rattle.net_classes.specs.Joints.{IsNotBehind}

@@ -1,4 +1,4 @@
-use Rattle.std.proofs.Common.{◌≡◌, ◌+◌, ◌∙◌, ℕ, ap, arith, length, subst, sym, slice_get}
+use Rattle.std.proofs.Common.{◌≡◌, ◌+◌, ◌∙◌, ap, arith, length, subst, sym, slice_get}
 use Rattle.std.specs.Prelude.{IfSome}
 use Rattle.std.proofs.lemmas.List.{length_push}
 use Rattle.netlist_schema.specs.Design.{cells_in}
@@ -11,12 +11,11 @@ loop-lib-preserved g c =
     let d = g.S.Shown.design c.args.design.now in
     let old = c.loop-lib.cells.items in
     let row = c.in_ok-row.row in
-    let long = c.loop-lib.invariant.0 in
-    (
+    let long = c.loop-lib.invariant.0 in (
       ap length c.in_ok-push.ensures.items ∙ length_push old row ∙ ap (λ n. n + 1) long,
       λ k. subst (λ rows. IfSome (slice_get rows k) (λ r. length r.items ≡ length (cells_in d (record { 0 = k })))) (sym c.in_ok-push.ensures.items)
-      (each_push (λ n r. length r.items ≡ length (cells_in d (record { 0 = n }))) old row c.loop-lib.invariant.1
-      (c.in_ok-row.ensures ∙ c.cell_count-count.ensures.value ∙ ap (λ n. length (cells_in d (record { 0 = n }))) (sym long)) k),
+          (each_push (λ n r. length r.items ≡ length (cells_in d (record { 0 = n }))) old row c.loop-lib.invariant.1
+          (c.in_ok-row.ensures ∙ c.cell_count-count.ensures.value ∙ ap (λ n. length (cells_in d (record { 0 = n }))) (sym long)) k),
     )
 
 pub returns : goal.returns

@@ -5,9 +5,11 @@ use Rattle.net_pins.proofs.FoundLemmas.{on_err_too, own_entered, own_nowhere}
 use Rattle.net_pins.proofs.spot.enter_own.Goals as goal
 
 pub returns-in_default-clause-found : goal.returns-in_default-clause-found
-returns-in_default-clause-found g c =
-    (c.requires.looks, own_nowhere c.args.asked.now c.requires.asks (stand_of c.args.spot.now) c.requires.stands c.requires.looks c.requires.own c.requires.none
-    (subst (IsOwnLevel c.args.asked.now) c.in_default.is c.in_ok-level.ensures))
+returns-in_default-clause-found g c = (
+  c.requires.looks,
+  own_nowhere c.args.asked.now c.requires.asks (stand_of c.args.spot.now) c.requires.stands c.requires.looks c.requires.own c.requires.none
+      (subst (IsOwnLevel c.args.asked.now) c.in_default.is c.in_ok-level.ensures),
+)
 
 pub returns-in_err-enter-clause-stands : goal.returns-in_err-enter-clause-stands
 returns-in_err-enter-clause-stands g c = subst (MayStand c.args.asked.now) (sym c.in_err-enter.ensures.err) c.requires.stands

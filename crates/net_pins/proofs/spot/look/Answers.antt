@@ -1,7 +1,6 @@
-use Rattle.std.proofs.Common.{◌∙◌, ap, eqb-true, length, refl, sym}
+use Rattle.std.proofs.Common.{◌∙◌, ap, eqb-true, length, sym}
 use Rattle.std.proofs.lemmas.Bool.{eq-eqb, true≢false}
 use Rattle.net_pins.proofs.FoundLemmas.{no_elements}
-use Rattle.net_pins.specs.declared.levels.Level.{Level}
 use Rattle.net_pins.proofs.spot.look.Goals as goal
 
 pub look_at_own-requires-clause-own : goal.look_at_own-requires-clause-own

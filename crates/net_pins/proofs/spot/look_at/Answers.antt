@@ -1,6 +1,6 @@
-use Rattle.std.proofs.Common.{◌∙◌, None, Some, ap, subst, sym}
+use Rattle.std.proofs.Common.{◌∙◌, ap, subst, sym}
 use Rattle.net_pins.specs.Moves.{IsBelowAt}
-use Rattle.net_pins.specs.Spots.{MayStand, Stand, left, stand_of}
+use Rattle.net_pins.specs.Spots.{MayStand, left, stand_of}
 use Rattle.net_pins.proofs.FoundLemmas.{below_there, is_block, leaf_found}
 use Rattle.net_pins.proofs.spot.look_at.Goals as goal
 

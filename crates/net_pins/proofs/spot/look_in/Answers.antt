@@ -1,4 +1,4 @@
-use Rattle.std.proofs.Common.{◌≡◌, ◌-◌, ◌∙◌, List, None, Some, ap, length, slice_get, subst, sym}
+use Rattle.std.proofs.Common.{◌-◌, ◌∙◌, List, ap, length, slice_get, subst, sym}
 use Rattle.std.specs.Option.{option_copied}
 use Rattle.net_pins.specs.Levels.{IsNextOf, leads_in}
 use Rattle.net_pins.specs.Moves.{bit_at, last_step}

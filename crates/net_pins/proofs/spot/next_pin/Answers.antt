@@ -1,4 +1,4 @@
-use Rattle.std.proofs.Common.{◌≡◌, ◌∷◌, ◌∙◌, Ok, ap, false, subst, sym}
+use Rattle.std.proofs.Common.{◌∷◌, ◌∙◌, Ok, ap, subst, sym}
 use Rattle.net_pins.specs.Spots.{MayStand, left, stand_of}
 use Rattle.net_pins.proofs.FoundLemmas.{passed_may, passed_on}
 use Rattle.net_pins.proofs.PassLemmas.{bit_has_room}

@@ -1,4 +1,4 @@
-use Rattle.std.proofs.Common.{◌≡◌, ℕ, List, arith, get_or, subst, sym}
+use Rattle.std.proofs.Common.{ℕ, List, get_or, subst, sym}
 use Rattle.std.proofs.lemmas.List.{get_or_default, take_all}
 use Rattle.netlist_schema.specs.Types.{CellId}
 use Rattle.net_pins.specs.Rows.{AreRows, lists_of}

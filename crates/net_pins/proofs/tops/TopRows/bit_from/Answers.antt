@@ -1,4 +1,4 @@
-use Rattle.std.proofs.Common.{◌≡◌, List, subst, sym}
+use Rattle.std.proofs.Common.{List, subst, sym}
 use Rattle.std.specs.List.{AllPairs}
 use Rattle.erc_spec.specs.Told.{BitBefore}
 use Rattle.net_pins.specs.Tops.{IsNextBit, bit_of}

@@ -4,7 +4,7 @@ use Rattle.netlist_schema.specs.Design.{cell_at}
 use Rattle.netlist_schema.specs.Types.{CellBody, CellId}
 use Rattle.flat_items.specs.Stand.{top_of}
 use Rattle.net_pins.specs.Lists.{AreParted}
-use Rattle.net_pins.specs.Tops.{AreTops, TopTable, bit_is_in, bit_of}
+use Rattle.net_pins.specs.Tops.{AreTops, TopTable, bit_is_in}
 use Rattle.net_pins.specs.declared.tops.OwnBit.{OwnBit}
 use Rattle.net_pins.proofs.TopLemmas.{no_tops, tops_are}
 use Rattle.net_ways.specs.Ways.{firsts_in}
