@@ -4,6 +4,8 @@
 //! - `at PATH`: `cell LIB CELL`, by their places;
 //! - `insts PATH`: `insts`, and the cell of each as `LIB/CELL`; `nets PATH`: `nets`, and the number of ends of each;
 //! - `first PATH NET`, `net PATH PORT BIT` and `inner PATH PORT BIT`: `net PATH NET`;
+//! - `pins PATH NET`, `drivers PATH NET` and `loads PATH NET`: a line `pin PATH PORT BIT` each, and `end`; `pin PATH NET`: the first alone;
+//! - `fan-out PATH`: `net NET loads N` for each net of the occurrence that is its own first, and `end`;
 //! - `same PATH NET PATH NET`: `yes` or `no`;
 //! - `again N QUESTION` asks so many times, and answers once.
 //!
@@ -12,7 +14,8 @@
 
 use edif_file::{DesignReader, NoDesign};
 use flat_ask::{Ask, AskError};
-use flat_items::NetRef;
+use flat_items::{ItemRef, NetRef};
+use net_pins::Pins;
 use netlist_schema::{Design, NoMemory};
 use std::alloc::{AllocError, AllocFailed, Global};
 use std::io::{BufRead, BufReader, BufWriter, Write};
@@ -107,33 +110,99 @@ fn write_net<W: Write>(out: &mut W, net: Option<NetRef<'_>>) -> Result<(), Stop>
     Ok(())
 }
 
+/// Writes all pins of a net.
+fn write_pins<W: Write>(out: &mut W, mut pins: Pins<'_, Design>) -> Result<(), Stop> {
+    for _ in 0..u64::MAX {
+        if !pins.advance()? {
+            break;
+        }
+        if let Some(ItemRef::Pin {
+            path,
+            port,
+            bit,
+            first: _,
+        }) = pins.current()
+        {
+            write!(out, "pin ")?;
+            write_path(out, path)?;
+            writeln!(out, " {port} {bit}")?;
+        }
+        pins.skip();
+    }
+    writeln!(out, "end")?;
+    Ok(())
+}
+
+/// Writes the first pin of a net, where it has one.
+fn write_first_pin<W: Write>(out: &mut W, mut pins: Pins<'_, Design>) -> Result<(), Stop> {
+    pins.advance()?;
+    if let Some(ItemRef::Pin {
+        path,
+        port,
+        bit,
+        first: _,
+    }) = pins.current()
+    {
+        write!(out, "pin ")?;
+        write_path(out, path)?;
+        writeln!(out, " {port} {bit}")?;
+    } else {
+        writeln!(out, "none")?;
+    }
+    Ok(())
+}
+
+/// Writes how many pins each net of an occurrence loads, as far as it is the first of those connected with it.
+fn write_fan_out<W: Write>(out: &mut W, ask: &Ask<Design>, path: &[u32]) -> Result<(), Stop> {
+    for net in 0..ask.nets_of(path).len() as u32 {
+        let first = ask.first_of(path, net)?;
+        if first.path == path && first.net == net {
+            let count = count_of(ask.loads(path, net)?)?;
+            writeln!(out, "net {net} loads {count}")?;
+        }
+    }
+    writeln!(out, "end")?;
+    Ok(())
+}
+
+/// How many pins these are.
+fn count_of(mut pins: Pins<'_, Design>) -> Result<u64, NoMemory> {
+    for count in 0..u64::MAX {
+        if !pins.advance()? {
+            return Ok(count);
+        }
+        pins.skip();
+    }
+    Ok(u64::MAX)
+}
+
 /// Answers what is asked of a bit of an occurrence.
-fn answer_bit<W: Write>(
-    out: &mut W,
-    ask: &Ask<Design>,
-    what: &str,
-    path: &[u32],
-    port: u32,
-    bit: u32,
-) -> Result<(), Stop> {
+fn answer_bit<W: Write>(out: &mut W, ask: &Ask<Design>, what: &str, path: &[u32], port: u32, bit: u32) -> Result<(), Stop> {
     match what {
         "net" => write_net(out, ask.net_of(path, port, bit)?),
         _ => write_net(out, ask.inner_net_of(path, port, bit)?),
     }
 }
 
+/// Answers what is asked of a net.
+fn answer_net<W: Write>(out: &mut W, ask: &Ask<Design>, what: &str, path: &[u32], net: u32) -> Result<(), Stop> {
+    match what {
+        "first" => write_net(out, Some(ask.first_of(path, net)?)),
+        "pins" => write_pins(out, ask.pins_of(path, net)?),
+        "pin" => write_first_pin(out, ask.pins_of(path, net)?),
+        "drivers" => write_pins(out, ask.drivers(path, net)?),
+        _ => write_pins(out, ask.loads(path, net)?),
+    }
+}
+
 /// Answers what is asked of an occurrence.
-fn answer_path<W: Write>(
-    out: &mut W,
-    ask: &Ask<Design>,
-    what: &str,
-    path: &[u32],
-) -> Result<(), Stop> {
+fn answer_path<W: Write>(out: &mut W, ask: &Ask<Design>, what: &str, path: &[u32]) -> Result<(), Stop> {
     match what {
         "at" => match ask.at(path) {
             Some(cell) => writeln!(out, "cell {} {}", cell.lib.0, cell.slot)?,
             None => writeln!(out, "none")?,
         },
+        "fan-out" => write_fan_out(out, ask, path)?,
         "insts" => {
             write!(out, "insts")?;
             for inst in ask.insts_of(path) {
@@ -182,9 +251,9 @@ fn answer_words<W: Write>(
     let path = path.as_slice();
     let first = number(words.get(2).copied());
     match what {
-        "at" | "insts" | "nets" => answer_path(out, ask, what, path),
-        "first" => match first {
-            Some(net) => write_net(out, Some(ask.first_of(path, net)?)),
+        "at" | "insts" | "nets" | "fan-out" => answer_path(out, ask, what, path),
+        "first" | "pins" | "pin" | "drivers" | "loads" => match first {
+            Some(net) => answer_net(out, ask, what, path, net),
             None => unknown(out),
         },
         "net" | "inner" => match (first, number(words.get(3).copied())) {
@@ -216,7 +285,12 @@ fn unknown<W: Write>(out: &mut W) -> Result<(), Stop> {
 }
 
 /// Answers one line.
-fn answer<W: Write>(out: &mut W, ask: &Ask<Design>, alloc: Global, line: &str) -> Result<(), Stop> {
+fn answer<W: Write>(
+    out: &mut W,
+    ask: &Ask<Design>,
+    alloc: Global,
+    line: &str,
+) -> Result<(), Stop> {
     let words: Vec<&str> = line.split_whitespace().collect(alloc)?;
     let words = words.as_slice();
     if words.len() < 2 || words[0] != "again" {

@@ -5,13 +5,17 @@ ghost use Rattle.netlist_schema.specs.Valid.{IsValid};
 ghost use Rattle.flat_spec.specs.Paths.{at_path};
 ghost use Rattle.flat_items.specs.Lent.{net_of as net_lent, properties_of as properties_lent};
 ghost use Rattle.flat_items.specs.Stand.{IsGround, top_of};
-ghost use Rattle.ask_spec.specs.Nets.{first_of, inner_net_of, is_same_net, net_of};
+ghost use Rattle.ask_spec.specs.Nets.{first_of, inner_net_of, is_same_net, net_of, pins_of};
 ghost use Rattle.ask_spec.specs.Places.{at, insts_of, nets_of, properties_of};
+ghost use Rattle.ask_spec.specs.Roles.{drivers, loads};
 ghost use Rattle.flat_ask.specs.Asks.{IsBase};
 ghost use Rattle.net_ways.specs.Ways.{AreWays};
 
+use ask_spec::Role;
+use flat_cells::cells_below;
 use flat_items::{Ground, NetRef, PropertiesRef, Steps};
 use flat_lookup::{cell_along, inst_at, insts_at, nets_at};
+use net_pins::{Kept, Pins, keep, pins_as};
 use net_ways::{Ways, first_of, net_inside, net_joined, top_cell};
 use netlist_schema::{CellId, Inst, Net, NoMemory, Property, Shared, Shown};
 use std::alloc::Global;
@@ -33,11 +37,20 @@ pub enum AskError {
 pub struct Ask<S: Shown + Drop> {
     ground: Ground<S>,
     ways: Ways,
+    any: Kept,
+    drivers: Kept,
+    loads: Kept,
 }
 
 impl<S: Shown + Drop> Drop for Ask<S> {
     fn drop(self) {
-        let Ask { ground: _, ways: _ } = self;
+        let Ask {
+            ground: _,
+            ways: _,
+            any: _,
+            drivers: _,
+            loads: _,
+        } = self;
     }
 }
 
@@ -45,13 +58,18 @@ impl<S: Shown + Drop> Model for Ask<S> {
     ghost use Rattle.netlist_schema.specs.Design.{Design};
     ghost use Rattle.flat_items.specs.Stand.{IsGround};
     ghost use Rattle.net_ways.specs.Ways.{AreWays};
+    ghost use Rattle.net_pins.specs.Spots.{IsKept};
+    ghost use Rattle.ask_spec.specs.declared.role.Role.TheVariants.{Any, Driver, Load};
 
     ghost Value = { Design };
 
     ghost view = { λ a. S.design a.ground.design };
 
     ghost invariant = { λ a. IsGround (S.design a.ground.design) a.ground.classes a.ground.notes
-        × AreWays (S.design a.ground.design) a.ground.classes a.ways };
+        × AreWays (S.design a.ground.design) a.ground.classes a.ways
+        × IsKept Any (S.design a.ground.design) a.ground.classes a.any.rows a.any.tops
+        × IsKept Driver (S.design a.ground.design) a.ground.classes a.drivers.rows a.drivers.tops
+        × IsKept Load (S.design a.ground.design) a.ground.classes a.loads.rows a.loads.tops };
 }
 
 /// Makes ready to ask of a design whose top has this cell.
@@ -62,8 +80,19 @@ fn ready<S: Shown + Drop>(alloc: Global, design: S, top: CellId) -> Result<Ask<S
     ensures { IfOk result (λ ask. ask ≡ S.design design) }
 {
     let ground = Ground::of(alloc, design, top)?;
+    let below = cells_below(alloc, &ground.design, top)?;
     let ways = Ways::of(alloc, &ground.design, &ground.classes)?;
-    Ok(Ask { ground, ways })
+    let cells = below.as_slice();
+    let any = keep(&ground, top, cells, Role::Any)?;
+    let drivers = keep(&ground, top, cells, Role::Driver)?;
+    let loads = keep(&ground, top, cells, Role::Load)?;
+    Ok(Ask {
+        ground,
+        ways,
+        any,
+        drivers,
+        loads,
+    })
 }
 
 /// The properties of the instance that leads to an occurrence below the top by a step.
@@ -223,6 +252,46 @@ impl<S: Shown + Drop> Ask<S> {
         ensures { IfOk result (λ found. option_map net_lent found ≡ inner_net_of self.now path.now port bit) }
     {
         net_inside(&self.ground, &self.ways, path, port, bit)
+    }
+
+    /// The pins of the class of a net, which any of its nets names: those that the flattening names by the class' first net, in their
+    /// order. What is no net has none. It takes time and memory as `first_of` does. Each pin takes time in proportion to the occurrences
+    /// that are entered or left for it, times the nets by which the class comes into them and the logarithm of the ends in a cell: no
+    /// occurrence is entered in which there is no pin of the class.
+    pub fn pins_of<'a>(&'a self, path: &'a [u32], net: u32) -> Result<Pins<'a, S>, NoMemory>
+        ensures { IfOk result (λ pins. pins.left ≡ pins_of self.now (at_path path.now net)) }
+    {
+        pins_as(&self.ground, &self.ways, &self.any, Role::Any, path, net)
+    }
+
+    /// The pins of the class of a net that drive it, strongly or weakly, as the electrical check counts them: outputs of leaves and inputs
+    /// of the top, and pins that lead both ways or whose direction is not told. As `pins_of` they come in order, in the same time.
+    pub fn drivers<'a>(&'a self, path: &'a [u32], net: u32) -> Result<Pins<'a, S>, NoMemory>
+        ensures { IfOk result (λ pins. pins.left ≡ drivers self.now (at_path path.now net)) }
+    {
+        pins_as(
+            &self.ground,
+            &self.ways,
+            &self.drivers,
+            Role::Driver,
+            path,
+            net,
+        )
+    }
+
+    /// The pins of the class of a net that it loads: inputs of leaves and outputs of the top, and pins that lead both ways or whose
+    /// direction is not told. As `pins_of` they come in order, in the same time.
+    pub fn loads<'a>(&'a self, path: &'a [u32], net: u32) -> Result<Pins<'a, S>, NoMemory>
+        ensures { IfOk result (λ pins. pins.left ≡ loads self.now (at_path path.now net)) }
+    {
+        pins_as(
+            &self.ground,
+            &self.ways,
+            &self.loads,
+            Role::Load,
+            path,
+            net,
+        )
     }
 
     /// Whether two nets are connected. It takes time and memory as `first_of` for both.

@@ -1,7 +1,8 @@
 //! What answers are compared with.
 use flat_ask::Ask;
-use flat_items::NetRef;
-use netlist_schema::Design;
+use flat_items::{ItemRef, NetRef};
+use net_pins::Pins;
+use netlist_schema::{Design, NoMemory};
 use std::alloc::Global;
 use std::process::Abort;
 use std::test::Fail;
@@ -59,5 +60,35 @@ pub fn check_first(
             }
         )?
     );
+    Ok(())
+}
+
+/// The pins that are left are these, in order, each lent as it is given.
+pub fn check_pins(
+    rt: &impl Abort,
+    pins: Result<Pins<'_, Design>, NoMemory>,
+    want: &[BitRow],
+) -> Result<(), Fail> {
+    let mut pins = pins?;
+    for (path, port, bit) in want {
+        assert!(rt; pins.advance()?);
+        match pins.current() {
+            Some(ItemRef::Pin {
+                path: at,
+                port: found,
+                bit: place,
+                first: _,
+            }) => {
+                assert!(rt; at == *path);
+                assert_eq!(rt; found, *port);
+                assert_eq!(rt; place, *bit);
+            }
+            _ => assert!(rt; false),
+        }
+        assert!(rt; Pins::next(&mut pins)?.is_some());
+    }
+    assert!(rt; !pins.advance()?);
+    assert!(rt; pins.current().is_none());
+    assert!(rt; Pins::next(&mut pins)?.is_none());
     Ok(())
 }

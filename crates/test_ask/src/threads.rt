@@ -6,10 +6,17 @@ use netlist_schema::{Design, NoMemory};
 use std::test::Fail;
 use std::thread;
 
-/// Whether one caller finds the net at the pin of the third gate.
+/// Whether one caller finds the net at the pin of the third gate, and so many pins at it.
 fn finds(ask: &Ask<Design>) -> Result<bool, NoMemory> {
+    let mut pins = ask.pins_of(&[], 0)?;
+    for _ in 0..4 {
+        if !pins.advance()? {
+            return Ok(false);
+        }
+        pins.skip();
+    }
     match ask.net_of(&[0, 2], 0, 0)? {
-        Some(net) => Ok(net.path.is_empty() && net.net == 0),
+        Some(net) => Ok(net.path.is_empty() && net.net == 0 && !pins.advance()?),
         None => Ok(false),
     }
 }
