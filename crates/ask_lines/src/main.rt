@@ -116,12 +116,14 @@ fn write_pins<W: Write>(out: &mut W, mut pins: Pins<'_, Design>) -> Result<(), S
         if !pins.advance()? {
             break;
         }
-        if let Some(ItemRef::Pin {
-            path,
-            port,
-            bit,
-            first: _,
-        }) = pins.current()
+        if let Some(
+            ItemRef::Pin {
+                path,
+                port,
+                bit,
+                first: _,
+            },
+        ) = pins.current()
         {
             write!(out, "pin ")?;
             write_path(out, path)?;
@@ -136,12 +138,14 @@ fn write_pins<W: Write>(out: &mut W, mut pins: Pins<'_, Design>) -> Result<(), S
 /// Writes the first pin of a net, where it has one.
 fn write_first_pin<W: Write>(out: &mut W, mut pins: Pins<'_, Design>) -> Result<(), Stop> {
     pins.advance()?;
-    if let Some(ItemRef::Pin {
-        path,
-        port,
-        bit,
-        first: _,
-    }) = pins.current()
+    if let Some(
+        ItemRef::Pin {
+            path,
+            port,
+            bit,
+            first: _,
+        },
+    ) = pins.current()
     {
         write!(out, "pin ")?;
         write_path(out, path)?;
@@ -177,7 +181,14 @@ fn count_of(mut pins: Pins<'_, Design>) -> Result<u64, NoMemory> {
 }
 
 /// Answers what is asked of a bit of an occurrence.
-fn answer_bit<W: Write>(out: &mut W, ask: &Ask<Design>, what: &str, path: &[u32], port: u32, bit: u32) -> Result<(), Stop> {
+fn answer_bit<W: Write>(
+    out: &mut W,
+    ask: &Ask<Design>,
+    what: &str,
+    path: &[u32],
+    port: u32,
+    bit: u32,
+) -> Result<(), Stop> {
     match what {
         "net" => write_net(out, ask.net_of(path, port, bit)?),
         _ => write_net(out, ask.inner_net_of(path, port, bit)?),
@@ -185,7 +196,13 @@ fn answer_bit<W: Write>(out: &mut W, ask: &Ask<Design>, what: &str, path: &[u32]
 }
 
 /// Answers what is asked of a net.
-fn answer_net<W: Write>(out: &mut W, ask: &Ask<Design>, what: &str, path: &[u32], net: u32) -> Result<(), Stop> {
+fn answer_net<W: Write>(
+    out: &mut W,
+    ask: &Ask<Design>,
+    what: &str,
+    path: &[u32],
+    net: u32,
+) -> Result<(), Stop> {
     match what {
         "first" => write_net(out, Some(ask.first_of(path, net)?)),
         "pins" => write_pins(out, ask.pins_of(path, net)?),
@@ -196,7 +213,12 @@ fn answer_net<W: Write>(out: &mut W, ask: &Ask<Design>, what: &str, path: &[u32]
 }
 
 /// Answers what is asked of an occurrence.
-fn answer_path<W: Write>(out: &mut W, ask: &Ask<Design>, what: &str, path: &[u32]) -> Result<(), Stop> {
+fn answer_path<W: Write>(
+    out: &mut W,
+    ask: &Ask<Design>,
+    what: &str,
+    path: &[u32],
+) -> Result<(), Stop> {
     match what {
         "at" => match ask.at(path) {
             Some(cell) => writeln!(out, "cell {} {}", cell.lib.0, cell.slot)?,
@@ -285,12 +307,7 @@ fn unknown<W: Write>(out: &mut W) -> Result<(), Stop> {
 }
 
 /// Answers one line.
-fn answer<W: Write>(
-    out: &mut W,
-    ask: &Ask<Design>,
-    alloc: Global,
-    line: &str,
-) -> Result<(), Stop> {
+fn answer<W: Write>(out: &mut W, ask: &Ask<Design>, alloc: Global, line: &str) -> Result<(), Stop> {
     let words: Vec<&str> = line.split_whitespace().collect(alloc)?;
     let words = words.as_slice();
     if words.len() < 2 || words[0] != "again" {

@@ -284,14 +284,7 @@ impl<S: Shown + Drop> Ask<S> {
     pub fn loads<'a>(&'a self, path: &'a [u32], net: u32) -> Result<Pins<'a, S>, NoMemory>
         ensures { IfOk result (λ pins. pins.left ≡ loads self.now (at_path path.now net)) }
     {
-        pins_as(
-            &self.ground,
-            &self.ways,
-            &self.loads,
-            Role::Load,
-            path,
-            net,
-        )
+        pins_as(&self.ground, &self.ways, &self.loads, Role::Load, path, net)
     }
 
     /// Whether two nets are connected. It takes time and memory as `first_of` for both.

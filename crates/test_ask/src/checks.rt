@@ -73,12 +73,14 @@ pub fn check_pins(
     for (path, port, bit) in want {
         assert!(rt; pins.advance()?);
         match pins.current() {
-            Some(ItemRef::Pin {
-                path: at,
-                port: found,
-                bit: place,
-                first: _,
-            }) => {
+            Some(
+                ItemRef::Pin {
+                    path: at,
+                    port: found,
+                    bit: place,
+                    first: _,
+                },
+            ) => {
                 assert!(rt; at == *path);
                 assert_eq!(rt; found, *port);
                 assert_eq!(rt; place, *bit);

@@ -74,7 +74,11 @@ fn design_without_a_top_is_not_asked(rt: HostRuntime) -> Result<(), Fail> {
 #[test]
 fn pins_of_a_counter_are_told_by_direction(rt: HostRuntime) -> Result<(), Fail> {
     let ask = asked(rt.alloc(), COUNTER)?;
-    check_pins(&rt, ask.pins_of(&[], 1), &[(&[], 1, 1), (&[0], 0, 0), (&[1], 1, 0)])?;
+    check_pins(
+        &rt,
+        ask.pins_of(&[], 1),
+        &[(&[], 1, 1), (&[0], 0, 0), (&[1], 1, 0)],
+    )?;
     check_pins(&rt, ask.drivers(&[], 1), &[(&[0], 0, 0)])?;
     check_pins(&rt, ask.loads(&[], 1), &[(&[], 1, 1), (&[1], 1, 0)])?;
     check_pins(&rt, ask.pins_of(&[], 9), &[])
@@ -91,7 +95,11 @@ fn pins_are_found_through_a_cell(rt: HostRuntime) -> Result<(), Fail> {
 #[test]
 fn drivers_stand_on_all_levels(rt: HostRuntime) -> Result<(), Fail> {
     let ask = asked(rt.alloc(), LEVELS)?;
-    check_pins(&rt, ask.drivers(&[0], 1), &[(&[0, 0], 0, 0), (&[1, 0], 0, 0), (&[2], 0, 0)])?;
+    check_pins(
+        &rt,
+        ask.drivers(&[0], 1),
+        &[(&[0, 0], 0, 0), (&[1, 0], 0, 0), (&[2], 0, 0)],
+    )?;
     check_pins(&rt, ask.loads(&[0], 1), &[])?;
     check_pins(&rt, ask.drivers(&[], 3), &[(&[3], 0, 0)])?;
     check_pins(&rt, ask.loads(&[], 3), &[(&[2], 1, 1), (&[3], 0, 0)])
@@ -103,8 +111,17 @@ fn pins_come_in_order_where_a_net_enters_twice(rt: HostRuntime) -> Result<(), Fa
     check_pins(
         &rt,
         ask.pins_of(&[], 0),
-        &[(&[], 0, 0), (&[0, 0], 0, 0), (&[0, 1], 0, 0), (&[0, 2], 0, 0)],
+        &[
+            (&[], 0, 0),
+            (&[0, 0], 0, 0),
+            (&[0, 1], 0, 0),
+            (&[0, 2], 0, 0),
+        ],
     )?;
     check_pins(&rt, ask.drivers(&[0], 1), &[(&[], 0, 0)])?;
-    check_pins(&rt, ask.pins_of(&[1], 1), &[(&[1, 0], 0, 0), (&[1, 2], 0, 0)])
+    check_pins(
+        &rt,
+        ask.pins_of(&[1], 1),
+        &[(&[1, 0], 0, 0), (&[1, 2], 0, 0)],
+    )
 }
