@@ -129,7 +129,7 @@ fn write_pins<W: Write>(out: &mut W, mut pins: Pins<'_, Design>) -> Result<(), S
             write_path(out, path)?;
             writeln!(out, " {port} {bit}")?;
         }
-        pins.skip();
+        pins.skip_one();
     }
     writeln!(out, "end")?;
     Ok(())
@@ -175,7 +175,7 @@ fn count_of(mut pins: Pins<'_, Design>) -> Result<u64, NoMemory> {
         if !pins.advance()? {
             return Ok(count);
         }
-        pins.skip();
+        pins.skip_one();
     }
     Ok(u64::MAX)
 }

@@ -68,7 +68,7 @@ impl<'a, S: Shown + Drop> Pins<'a, S> {
     }
 
     /// Passes over the next pin, where one has gone on to it; else it leaves what is left. It takes no memory.
-    pub fn skip(&mut self)
+    pub fn skip_one(&mut self)
         ensures passed { self.old.ready ≡ true → self.new.left ≡ drop 1 self.old.left }
         ensures stays { self.old.ready ≡ false → self.new.left ≡ self.old.left }
         ensures over { self.new.ready ≡ false }

@@ -13,7 +13,7 @@ fn finds(ask: &Ask<Design>) -> Result<bool, NoMemory> {
         if !pins.advance()? {
             return Ok(false);
         }
-        pins.skip();
+        pins.skip_one();
     }
     match ask.net_of(&[0, 2], 0, 0)? {
         Some(net) => Ok(net.path.is_empty() && net.net == 0 && !pins.advance()?),

@@ -2,7 +2,7 @@ use Rattle.std.proofs.Common.{◌∙◌, ap, drop, subst, sym}
 use Rattle.net_pins.specs.Spots.{MayStand, Rest, Stand, left, stand_of}
 use Rattle.net_pins.proofs.FoundLemmas.{passed_may, passed_none, passed_on, passed_over}
 use Rattle.net_pins.proofs.PassLemmas.{bit_has_room}
-use Rattle.net_pins.proofs.pins.Pins.skip.Goals as goal
+use Rattle.net_pins.proofs.pins.Pins.skip_one.Goals as goal
 
 pub skip-requires : goal.skip-requires
 skip-requires g c = λ ready. bit_has_room c.self.inside.asked c.self.invariant.asks (stand_of c.self.inside.spot) c.self.invariant.stands ready
