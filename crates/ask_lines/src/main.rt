@@ -158,7 +158,8 @@ fn write_first_pin<W: Write>(out: &mut W, mut pins: Pins<'_, Design>) -> Result<
 
 /// Writes how many pins each net of an occurrence loads, as far as it is the first of those connected with it.
 fn write_fan_out<W: Write>(out: &mut W, ask: &Ask<Design>, path: &[u32]) -> Result<(), Stop> {
-    for net in 0..ask.nets_of(path).len() as u32 {
+    let nets = u32::try_from(ask.nets_of(path).len()).unwrap_or(u32::MAX);
+    for net in 0..nets {
         let first = ask.first_of(path, net)?;
         if first.path == path && first.net == net {
             let count = count_of(ask.loads(path, net)?)?;
