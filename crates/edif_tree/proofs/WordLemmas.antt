@@ -2,8 +2,9 @@
 use Rattle.std.proofs.Common.{◌≡◌, ◌<◌, ℕ, zero, suc, Bool, true, false, not, if◌then◌else◌, nat_eq, List, [], ◌∷◌, ◌++◌, length, map, get_or, Option, None, Some, refl, sym, ap, ◌∙◌, arith}
 use Rattle.std.specs.Prelude.{slice_get, option_map}
 use Rattle.std.specs.List.{list_any}
-use Rattle.std.specs.Cmp.Lexicographic.{pointwise, same_text}
+use Rattle.std.specs.Cmp.Lexicographic.{nat_list_eq_equiv, pointwise, same_text}
 use Rattle.std.proofs.lemmas.List.{map-append}
+use Rattle.std.proofs.lemmas.Map.Keys.{any_passes_from_place}
 use Rattle.indexmap.specs.IndexSet.{insert_key}
 use Rattle.edif_spec.specs.Keyword.{keyword}
 use Rattle.edif_spec.specs.declared.keyword.Keyword.{Keyword}
@@ -27,6 +28,10 @@ words_added name old new is_new e h f = by (list_any (pointwise nat_eq name) old
     by : (b : Bool) → not b ≡ true → new ≡ (if b then old else old ++ name ∷ []) → new ≡ old ++ name ∷ []
     by true n h = absurd (cc n)
     by false n h = h
+
+-- a word that is found at a place is there, so adding it leaves the words
+pub word_found : (name : List ℕ) (words : List (List ℕ)) (at : ℕ) → slice_get words at ≡ Some name → words ≡ insert_key (pointwise nat_eq) words name
+word_found name words at h = ap (λ b. if b then words else words ++ name ∷ []) (sym (any_passes_from_place (pointwise nat_eq name) words at name h (nat_list_eq_equiv.refl name)))
 
 -- the word that is read where a word was put is that word
 pub word_put : (name x : List ℕ) (new : List (List ℕ)) (at : ℕ) → (k : List ℕ) × (slice_get new at ≡ Some k) × (pointwise nat_eq name k ≡ true) → x ≡ get_or new at x → x ≡ name

@@ -1,5 +1,5 @@
 //! The words of a tree, each once.
-ghost use Rattle.std.specs.Prelude.{◌≡◌, ◌<◌, [], ℕ, List, IfOk, OnErr, OnOk, Some, length, nat_eq, option_map, slice_get, true};
+ghost use Rattle.std.specs.Prelude.{◌≡◌, ◌<◌, [], ℕ, List, IfOk, IfSome, OnErr, OnOk, Some, length, nat_eq, option_map, slice_get, true};
 ghost use Rattle.std.specs.Cmp.Lexicographic.{pointwise};
 ghost use Rattle.edif_spec.specs.Keyword.{keyword};
 ghost use Rattle.indexmap.specs.IndexSet.{insert_key};
@@ -10,10 +10,15 @@ use netlist_schema::{Ident, NoMemory};
 use std::alloc::Global;
 use std::marker::Model;
 
+/// For how many words it is kept where they stand, so that a word that comes often is mostly found without a hash.
+const SLOTS: usize = 256;
+
 /// Words, no two equal, and beside each the keyword that it spells. Contracts see the words in order.
 pub struct Words {
     names: IndexSet<Ident>,
     keywords: Vec<Option<Keyword>>,
+    /// By slot the place of the word that came last.
+    lately: [u32; SLOTS],
 }
 
 impl Drop for Words {
@@ -21,6 +26,7 @@ impl Drop for Words {
         let Words {
             names: _,
             keywords: _,
+            lately: _,
         } = self;
     }
 }
@@ -44,12 +50,53 @@ impl Words {
         Words {
             names: IndexSet::new(alloc),
             keywords: Vec::new(alloc),
+            lately: [0; SLOTS],
+        }
+    }
+
+    /// The place of a word, where it is the one that came last to its slot.
+    #[inline(always)]
+    fn found_lately(&self, name: &Ident, slot: usize) -> Option<usize>
+        requires { slot < 256 }
+        ensures { IfSome result (λ at. slice_get self.now at ≡ Some name.now) }
+    {
+        let at = self.lately[slot] as usize;
+        let known = self.names.get_index(at)?;
+        if *known == *name {
+            return Some(at);
+        }
+        None
+    }
+
+    /// Keeps the place of the word that came last to a slot.
+    #[inline(always)]
+    fn keep_lately(&mut self, slot: usize, at: usize)
+        requires { slot < 256 }
+        ensures { self.new ≡ self.old }
+    {
+        if let Ok(at) = u32::try_from(at) {
+            self.lately[slot] = at;
         }
     }
 
     /// Adds a word, unless it is there, and tells its place. After `NoMemory` the words are as before.
     #[inline(always)]
     pub fn add(&mut self, name: Ident) -> Result<usize, NoMemory>
+        ensures keys { OnOk result (self.new ≡ insert_key (pointwise nat_eq) self.old name) }
+        ensures stored { IfOk result (λ at. (k : List ℕ) × (slice_get self.new at ≡ Some k) × (pointwise nat_eq name k ≡ true)) }
+        ensures err { OnErr result (self.new ≡ self.old) }
+    {
+        let slot = slot_of(name.as_slice());
+        if let Some(at) = self.found_lately(&name, slot) {
+            return Ok(at);
+        }
+        let at = self.insert(name)?;
+        self.keep_lately(slot, at);
+        Ok(at)
+    }
+
+    /// The same, whether it came lately or not.
+    fn insert(&mut self, name: Ident) -> Result<usize, NoMemory>
         ensures keys { OnOk result (self.new ≡ insert_key (pointwise nat_eq) self.old name) }
         ensures stored { IfOk result (λ at. (k : List ℕ) × (slice_get self.new at ≡ Some k) × (pointwise nat_eq name k ≡ true)) }
         ensures err { OnErr result (self.new ≡ self.old) }
@@ -80,5 +127,19 @@ impl Words {
         ensures { option_map keyword (slice_get self.now at) ≡ Some result }
     {
         self.keywords[at]
+    }
+}
+
+/// The slot of a word.
+#[inline(always)]
+fn slot_of(word: &[u8]) -> usize
+    ensures { result < 256 }
+{
+    match word {
+        [first, .., last] => {
+            (usize::from(*first) + 16 * usize::from(*last) + 5 * (word.len() % SLOTS)) % SLOTS
+        }
+        [only] => usize::from(*only),
+        [] => 0,
     }
 }
