@@ -7,4 +7,5 @@ pub mod Making
 pub mod NodeLists
 pub mod Nodes
 pub mod Order
+pub mod Packed
 pub mod TreeError

@@ -10,8 +10,8 @@ use netlist_schema::NoMemory;
 pub enum TreeError {
     /// The first tree fault of the tokens, and the number of bytes before it.
     At { kind: TreeKind, place: u64 },
-    /// An allocation was refused, or there are more nodes, or bytes before one, than a `u32` counts. A file within its limit has
-    /// fewer.
+    /// An allocation was refused, or there are more than 2^30 nodes, or more bytes before one than a `u32` counts. A file within its
+    /// limit has fewer.
     NoMemory,
 }
 

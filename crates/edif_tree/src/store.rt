@@ -5,7 +5,7 @@ ghost use Rattle.edif_tree.specs.Keywords.{seen_keyword};
 ghost use Rattle.edif_tree.specs.Nodes.{FormOf, IntegerOf, StringOf, WordOf, seen};
 
 use crate::node_lists::NodeLists;
-use crate::stored::{NodeId, StoredKind, StoredNode, StoredShape};
+use crate::stored::{NodeId, PackedKind, StoredKind, StoredNode, StoredShape};
 use crate::words::Words;
 use edif_keywords::Keyword;
 use edif_spelling_spec::TokenKind;
@@ -63,6 +63,7 @@ fn add_node(nodes: &mut Vec<StoredNode>, place: u64, kind: StoredKind) -> Result
 {
     let id = small(nodes.len() as u64)?;
     let place = small(place)?;
+    let kind = PackedKind::of(kind)?;
     nodes.push(StoredNode { place, kind })?;
     Ok(NodeId(id))
 }
@@ -142,7 +143,7 @@ impl Store {
         requires { id.0 < length self.now }
         ensures { option_map (λ row. row.shape) (slice_get self.now id.0) ≡ Some (seen result) }
     {
-        match self.nodes[id.0 as usize].kind {
+        match self.nodes[id.0 as usize].kind.unpack() {
             StoredKind::Form(at) => StoredShape::Form(self.arguments.get(at as usize)),
             StoredKind::Word(at) => StoredShape::Word(self.words.name(at as usize)),
             StoredKind::Integer(at) => StoredShape::Integer(self.integers[at as usize]),
@@ -155,7 +156,7 @@ impl Store {
         requires { id.0 < length self.now }
         ensures { option_map (λ row. seen_keyword row.shape) (slice_get self.now id.0) ≡ Some result }
     {
-        match self.nodes[id.0 as usize].kind {
+        match self.nodes[id.0 as usize].kind.unpack() {
             StoredKind::Word(at) => self.words.keyword(at as usize),
             _ => None,
         }
