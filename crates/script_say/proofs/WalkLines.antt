@@ -6,7 +6,7 @@ use Rattle.flat_spec.specs.Types.{Item}
 use Rattle.flat_lines_spec.specs.Lines.{item_line, item_lines}
 
 -- one item more is said: what was said and what is left are the whole still
-one_more : (d : Design) (text more whole : List ℕ) (item : Item) (left rest : List Item) → left ≡ item ∷ rest → more ≡ text ++ item_line d item → text ++ item_lines d left ≡ whole
+pub one_more : (d : Design) (text more whole : List ℕ) (item : Item) (left rest : List Item) → left ≡ item ∷ rest → more ≡ text ++ item_line d item → text ++ item_lines d left ≡ whole
     → more ++ item_lines d rest ≡ whole
 one_more d text more whole item left rest at said is =
     ap (λ (xs : List ℕ). xs ++ item_lines d rest) said ∙ append_assoc text (item_line d item) (item_lines d rest)

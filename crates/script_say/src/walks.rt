@@ -1,19 +1,20 @@
 //! The lines of a walk.
-ghost use Rattle.std.specs.Prelude.{◌≡◌, ◌++◌, None, IfOk, OnOk};
+ghost use Rattle.std.specs.Prelude.{◌≡◌, ◌++◌, None, IfOk, OnOk, false};
 ghost use Rattle.edif_names.specs.Parts.{Grows};
 ghost use Rattle.flat_lines_spec.specs.Lines.{flattening_text, item_lines, last_line, shown_items};
 ghost use Rattle.script_say.specs.Items.{IsLeft, SaysNext};
 
 use crate::bytes::push_bytes;
-use flat_report::item_text;
+use flat_report::{keep_path, kept_text};
 use netlist_schema::{NoMemory, Shown};
 use occ_walk::Walk;
+use path_texts::PathTexts;
 use std::alloc::Global;
 
 /// Says the items of the flattening of a design, each in a line, at most so many where there is a limit, and behind them `end`, or
 /// `more` where items are left. The design comes twice: to be walked, and to tell names.
 ///
-/// Items are made one at a time, and none is kept: it takes the memory of `Walk::new`, of one item and of the text. After
+/// Items are lent one at a time, and none is kept: it takes the memory of `Walk::new`, of the text of a path and of the whole text. After
 /// `NoMemory` some bytes may stand behind those before.
 pub fn say_walk<S: Shown + Drop>(
     alloc: Global,
@@ -30,29 +31,49 @@ pub fn say_walk<S: Shown + Drop>(
     let Ok(mut walk) = Walk::new(alloc, walked) else {
         return Err(NoMemory);
     };
+    let mut texts = PathTexts::new(alloc, design);
     match limit {
-        Some(limit) => say_most(alloc, &mut walk, design, limit, out),
-        None => say_all(alloc, &mut walk, design, out),
+        Some(limit) => say_most(alloc, &mut walk, &mut texts, limit, out),
+        None => say_all(alloc, &mut walk, &mut texts, out),
     }
+}
+
+/// Says the next item, where the walk has gone on to it: whether there was one.
+fn say_ahead<S: Shown + Drop>(
+    alloc: Global,
+    walk: &mut Walk<S>,
+    texts: &mut PathTexts<'_, S>,
+    out: &mut Vec<u8>,
+) -> Result<bool, NoMemory>
+    requires { walk.old.over ≡ false }
+    ensures same { texts.new ≡ texts.old }
+    ensures next { IfOk result (SaysNext texts.old walk.old.left walk.new.left out.old.items out.new.items) }
+    ensures grows { Grows out.old.items out.new.items }
+{
+    let Some(item) = walk.current() else {
+        return Ok(false);
+    };
+    keep_path(texts, item);
+    kept_text(alloc, texts, item, out)?;
+    walk.skip();
+    Ok(true)
 }
 
 /// Says the next item, where one is left: whether there was one.
 fn say_next<S: Shown + Drop>(
     alloc: Global,
     walk: &mut Walk<S>,
-    design: &S,
+    texts: &mut PathTexts<'_, S>,
     out: &mut Vec<u8>,
 ) -> Result<bool, NoMemory>
-    ensures next { IfOk result (SaysNext (S.design design.now) walk.old.left walk.new.left out.old.items out.new.items) }
+    ensures same { texts.new ≡ texts.old }
+    ensures next { IfOk result (SaysNext texts.old walk.old.left walk.new.left out.old.items out.new.items) }
     ensures grows { Grows out.old.items out.new.items }
 {
-    match walk.next()? {
-        Some(item) => {
-            item_text(alloc, design, &item, out)?;
-            Ok(true)
-        }
-        None => Ok(false),
+    if !walk.advance()? {
+        return Ok(false);
     }
+    say_ahead(alloc, walk, texts, out)
 }
 
 /// Whether an item is left.
@@ -69,14 +90,14 @@ fn is_left<S: Shown + Drop>(walk: &mut Walk<S>) -> Result<bool, NoMemory>
 fn say_all<S: Shown + Drop>(
     alloc: Global,
     walk: &mut Walk<S>,
-    design: &S,
+    texts: &mut PathTexts<'_, S>,
     out: &mut Vec<u8>,
 ) -> Result<(), NoMemory>
-    ensures ok { OnOk result (out.new.items ≡ out.old.items ++ (item_lines (S.design design.now) walk.old.left ++ last_line None walk.old.left)) }
+    ensures ok { OnOk result (out.new.items ≡ out.old.items ++ (item_lines texts.old walk.old.left ++ last_line None walk.old.left)) }
     ensures grows { Grows out.old.items out.new.items }
 {
     'items: loop {
-        if !say_next(alloc, walk, design, out)? {
+        if !say_next(alloc, walk, texts, out)? {
             return push_bytes(b"end\n", out);
         }
     }
@@ -86,16 +107,16 @@ fn say_all<S: Shown + Drop>(
 fn say_most<S: Shown + Drop>(
     alloc: Global,
     walk: &mut Walk<S>,
-    design: &S,
+    texts: &mut PathTexts<'_, S>,
     limit: u64,
     out: &mut Vec<u8>,
 ) -> Result<(), NoMemory>
     ensures ok { OnOk result (out.new.items
-        ≡ out.old.items ++ (item_lines (S.design design.now) (shown_items (Some limit) walk.old.left) ++ last_line (Some limit) walk.old.left)) }
+        ≡ out.old.items ++ (item_lines texts.old (shown_items (Some limit) walk.old.left) ++ last_line (Some limit) walk.old.left)) }
     ensures grows { Grows out.old.items out.new.items }
 {
     for _told in 0..limit {
-        if !say_next(alloc, walk, design, out)? {
+        if !say_next(alloc, walk, texts, out)? {
             return push_bytes(b"end\n", out);
         }
     }
