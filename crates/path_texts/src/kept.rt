@@ -47,11 +47,29 @@ impl<'a, S: Shown> Model for PathTexts<'a, S> {
     ghost invariant = { λ t. IsKept (S.design t.design.now) t.top t.kept };
 }
 
-/// How many steps two paths have in common at their beginning.
+/// Whether two paths have their first so many steps in common.
+#[inline(always)]
+fn have_common(one: &[u32], other: &[u32], count: usize) -> bool {
+    match (one.get(..count), other.get(..count)) {
+        (Some(front), Some(other_front)) => front == other_front,
+        _ => false,
+    }
+}
+
+/// How many steps two paths have in common at their beginning. From one occurrence of a walk to the next these are all steps of one of
+/// them, or all but its last.
+#[inline(always)]
 fn common(one: &[u32], other: &[u32]) -> usize
     ensures { result ≤ length other.now }
 {
     let most = one.len().min(other.len());
+    if have_common(one, other, most) {
+        return most;
+    }
+    let fewer = most.saturating_sub(1);
+    if have_common(one, other, fewer) {
+        return fewer;
+    }
     for place in 0..most {
         if one[place] != other[place] {
             return place;
@@ -61,6 +79,7 @@ fn common(one: &[u32], other: &[u32]) -> usize
 }
 
 /// Whether the path is a front of those steps.
+#[inline(always)]
 fn is_front(path: &[u32], steps: &[u32]) -> bool
     ensures { result ≡ true → take (length path.now) steps.now ≡ path.now }
 {
@@ -71,6 +90,7 @@ fn is_front(path: &[u32], steps: &[u32]) -> bool
 }
 
 /// The text of a path whose steps have this text: `/` alone where there are none.
+#[inline(always)]
 fn or_slash(text: &[u8]) -> &[u8]
     ensures { (d : Design) (root : CellId) (path : List ℕ) → option_map (λ t. t.cell) d.top ≡ Some root → text.now ≡ steps_text d root path → result.now ≡ path_text d path }
 {
@@ -88,6 +108,7 @@ fn top_cell<S: Shown>(design: &S) -> Option<CellId>
 }
 
 /// The text of a path that is a front of the steps, and its cell.
+#[inline(always)]
 fn find<'a>(kept: &'a Marked, root: CellId, path: &[u32]) -> Option<PathText<'a>>
     ensures { (d : Design) → option_map (λ t. t.cell) d.top ≡ Some root → IsMarked d root kept.now
         → IfSome result (λ p. (p.text.now ≡ path_text d path.now) × (cell_below_top d path.now ≡ Some p.cell)) }
@@ -127,6 +148,7 @@ impl<'a, S: Shown> PathTexts<'a, S> {
     }
 
     /// Keeps a path, as far as it leads and there is memory. It takes time for the steps that it has not in common with the one before.
+    #[inline(always)]
     pub fn keep(&mut self, path: &[u32])
         ensures { self.new ≡ self.old }
     {
@@ -139,6 +161,7 @@ impl<'a, S: Shown> PathTexts<'a, S> {
     }
 
     /// The text of a path and its cell, where it is the path that was kept or a front of it. Takes no memory.
+    #[inline(always)]
     pub fn find(&self, path: &[u32]) -> Option<PathText<'_>>
         ensures { IfSome result (λ p. (p.text.now ≡ path_text self.now path.now) × (cell_below_top self.now path.now ≡ Some p.cell)) }
     {

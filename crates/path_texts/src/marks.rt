@@ -25,6 +25,7 @@ pub struct Marked {
 }
 
 /// The mark behind so many steps: `None` where there are not so many.
+#[inline(always)]
 pub fn mark_at(kept: &Marked, root: CellId, count: usize) -> Option<Mark>
     ensures { (d : Design) → IsMarked d root kept.now → IfSome result (IsMark d root (take count kept.now.steps.items)) }
 {
@@ -35,6 +36,7 @@ pub fn mark_at(kept: &Marked, root: CellId, count: usize) -> Option<Mark>
 }
 
 /// Keeps so many steps, where there are more.
+#[inline(always)]
 pub fn cut(kept: &mut Marked, root: CellId, count: usize)
     ensures { (d : Design) → IsMarked d root kept.old → IsMarked d root kept.new }
 {
@@ -47,6 +49,7 @@ pub fn cut(kept: &mut Marked, root: CellId, count: usize)
 }
 
 /// Appends `/` and a name: whether there was memory. Else the text is as before.
+#[inline(always)]
 fn push_name(name: &[u8], text: &mut Vec<u8>) -> bool
     ensures yes { result ≡ true → text.new.items ≡ text.old.items ++ (codes "/" ++ name.now) }
     ensures no { result ≡ false → text.new.items ≡ text.old.items }
@@ -63,6 +66,7 @@ fn push_name(name: &[u8], text: &mut Vec<u8>) -> bool
 }
 
 /// Goes on by a step to that instance: whether there was memory. Else all is as before.
+#[inline(always)]
 fn push_inst(kept: &mut Marked, step: u32, name: &[u8], of: CellId) -> bool
     ensures yes { (d : Design) (root : CellId) (at : CellId) (inst : Inst) → result ≡ true → IsMarked d root kept.old → Reaches d root kept.old.steps.items at
         → slice_get (insts_at d at) step ≡ Some inst → inst.name.id ≡ name.now → inst.of ≡ of → IsMarked d root kept.new }
@@ -81,6 +85,7 @@ fn push_inst(kept: &mut Marked, step: u32, name: &[u8], of: CellId) -> bool
 }
 
 /// Goes on by a step, where there is such an instance and memory: whether there was.
+#[inline(always)]
 fn push_step<S: Shown>(design: &S, kept: &mut Marked, root: CellId, step: u32) -> bool
     requires { IsMarked (S.design design.now) root kept.old }
     ensures { IsMarked (S.design design.now) root kept.new }
@@ -95,6 +100,7 @@ fn push_step<S: Shown>(design: &S, kept: &mut Marked, root: CellId, step: u32) -
 }
 
 /// Goes on by these steps, as far as they lead and there is memory.
+#[inline(always)]
 pub fn push_steps<S: Shown>(design: &S, kept: &mut Marked, root: CellId, steps: &[u32])
     requires { IsMarked (S.design design.now) root kept.old }
     ensures { IsMarked (S.design design.now) root kept.new }
