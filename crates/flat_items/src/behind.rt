@@ -13,6 +13,7 @@ use bus_members::width;
 use netlist_schema::{Port, Shown};
 
 /// The pin and those behind it, where there is one.
+#[inline(always)]
 fn from_pin(ports: &[Port], pin: PinAt) -> Stage
     ensures { (d : Design) (o : Occurrence) → ports.now ≡ ports_shown d o → IsPinAt (ports_shown d o) pin → GoesOn d o (own_left d o (Stage.Pins pin)) result }
 {
@@ -23,6 +24,7 @@ fn from_pin(ports: &[Port], pin: PinAt) -> Stage
 }
 
 /// The net and what is behind it, where there is one, else the pins.
+#[inline(always)]
 fn from_net<S: Shown + Drop>(ground: &Ground<S>, place: &Place, net: u32) -> Stage
     requires ground { IsGround (S.design ground.now.design) ground.now.classes ground.now.notes }
     requires stands { MayStand (S.design ground.now.design) (stand_of place.now) }
@@ -39,6 +41,7 @@ fn from_net<S: Shown + Drop>(ground: &Ground<S>, place: &Place, net: u32) -> Sta
 }
 
 /// What is behind a net.
+#[inline(always)]
 fn behind_net<S: Shown + Drop>(ground: &Ground<S>, place: &Place, net: u32) -> Stage
     requires ground { IsGround (S.design ground.now.design) ground.now.classes ground.now.notes }
     requires stands { MayStand (S.design ground.now.design) (stand_of place.now) }
@@ -50,6 +53,7 @@ fn behind_net<S: Shown + Drop>(ground: &Ground<S>, place: &Place, net: u32) -> S
 }
 
 /// The pins behind one.
+#[inline(always)]
 fn behind_pin<S: Shown + Drop>(ground: &Ground<S>, place: &Place, pin: PinAt) -> Stage
     requires ground { IsGround (S.design ground.now.design) ground.now.classes ground.now.notes }
     requires stands { MayStand (S.design ground.now.design) (stand_of place.now) }
@@ -67,6 +71,7 @@ fn behind_pin<S: Shown + Drop>(ground: &Ground<S>, place: &Place, pin: PinAt) ->
 
 /// What the occurrence at which a walk stands gives behind its next item. It takes time in proportion to no more than its path, and no
 /// memory.
+#[inline(always)]
 pub fn stage_behind<S: Shown + Drop>(ground: &Ground<S>, place: &Place) -> Stage
     requires ground { IsGround (S.design ground.now.design) ground.now.classes ground.now.notes }
     requires stands { MayStand (S.design ground.now.design) (stand_of place.now) }

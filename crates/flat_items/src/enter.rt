@@ -22,6 +22,7 @@ fn top_properties<S: Shown>(design: &S) -> &[Property]
 }
 
 /// The properties that notes may change: those of the instance that leads to the occurrence, at the top those of the design.
+#[inline(always)]
 fn base_properties<'a, S: Shown>(design: &'a S, place: &Place) -> &'a [Property]
     requires { MayStand (S.design design.now) (stand_of place.now) }
     ensures { result.now ≡ base_properties (S.design design.now) (top_of (S.design design.now)) place.now.path.steps.items }
@@ -36,6 +37,7 @@ fn base_properties<'a, S: Shown>(design: &'a S, place: &Place) -> &'a [Property]
 }
 
 /// The effective properties of the occurrence.
+#[inline(always)]
 fn properties<'a, S: Shown + Drop>(ground: &'a Ground<S>, place: &Place) -> PropertiesRef<'a>
     requires ground { IsGround (S.design ground.now.design) ground.now.classes ground.now.notes }
     requires stands { MayStand (S.design ground.now.design) (stand_of place.now) }
@@ -49,6 +51,7 @@ fn properties<'a, S: Shown + Drop>(ground: &'a Ground<S>, place: &Place) -> Prop
 }
 
 /// The occurrence with its effective properties.
+#[inline(always)]
 pub(crate) fn enter_item<'a, S: Shown + Drop>(
     ground: &'a Ground<S>,
     place: &'a Place,

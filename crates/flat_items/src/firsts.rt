@@ -13,6 +13,7 @@ use net_names::NetName;
 use netlist_schema::Shown;
 
 /// The net of a name, where the path leads to the occurrence whose net has it.
+#[inline(always)]
 fn net_of(path: &[u32], name: NetName) -> NetRef<'_>
     requires { name.depth ≤ length path.now }
     ensures { net_lent result ≡ net_named path.now name }
@@ -24,6 +25,7 @@ fn net_of(path: &[u32], name: NetName) -> NetRef<'_>
 }
 
 /// The name of a net, which has one.
+#[inline(always)]
 fn name_at(names: &[NetName], firsts: &[u32], net: u32) -> NetName
     requires { IsSome (name_in names.now firsts.now net) }
     ensures { name_in names.now firsts.now net ≡ Some result }
@@ -32,6 +34,7 @@ fn name_at(names: &[NetName], firsts: &[u32], net: u32) -> NetName
 }
 
 /// The first net of the design that is connected with a net of the frame's occurrence, to which the path leads.
+#[inline(always)]
 pub(crate) fn first_of<'a, S: Shown + Drop>(
     ground: &Ground<S>,
     path: &'a [u32],

@@ -12,6 +12,7 @@ use crate::place::{Place, Stage};
 use netlist_schema::Shown;
 
 /// The item of a net of the occurrence.
+#[inline(always)]
 fn net_item<'a, S: Shown + Drop>(ground: &'a Ground<S>, place: &'a Place, net: u32) -> ItemRef<'a>
     requires ground { IsGround (S.design ground.now.design) ground.now.classes ground.now.notes }
     requires stands { MayStand (S.design ground.now.design) (stand_of place.now) }
@@ -29,6 +30,7 @@ fn net_item<'a, S: Shown + Drop>(ground: &'a Ground<S>, place: &'a Place, net: u
 /// Lends the next of the own items of the occurrence at which a walk stands: `None` exactly where none is left.
 ///
 /// An item takes time in proportion to its path, and for a pin to the logarithm of the joined bits of the parent. It takes no memory.
+#[inline(always)]
 pub fn item_ahead<'a, S: Shown + Drop>(
     ground: &'a Ground<S>,
     place: &'a Place,

@@ -84,6 +84,7 @@ impl<'a> PropertiesRef<'a> {
     }
 
     /// Lends the properties, where no note changes them: `None` only where there are notes.
+    #[inline(always)]
     pub fn unchanged(self) -> Option<&'a [Property]>
         ensures some { IfSome result (λ properties. properties.now ≡ properties_of self.entry) }
         ensures none { IfNone result (0 < length self.entry.places.now) }

@@ -58,6 +58,7 @@ impl PlacedNotes {
 
     /// The places of the notes for the occurrence at these steps, in order. It takes time in proportion to the steps times the logarithm
     /// of the number of notes, and no memory.
+    #[inline(always)]
     pub fn find(&self, steps: &Steps) -> &[u32]
         ensures { result.now ≡ places_in self.now steps.now }
     {

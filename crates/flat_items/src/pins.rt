@@ -15,6 +15,7 @@ use net_names::joined_net;
 use netlist_schema::Shown;
 
 /// The first net of the design that is connected with a bit of the top, where a net of the top joins it.
+#[inline(always)]
 fn first_inside<'a, S: Shown + Drop>(
     ground: &'a Ground<S>,
     top: &'a Frame,
@@ -33,6 +34,7 @@ fn first_inside<'a, S: Shown + Drop>(
 }
 
 /// The first net of the design that is connected with a bit of an instance, where a net of the parent joins it.
+#[inline(always)]
 fn first_outside<'a, S: Shown + Drop>(
     ground: &'a Ground<S>,
     parent: Parent<'a>,
@@ -52,6 +54,7 @@ fn first_outside<'a, S: Shown + Drop>(
 }
 
 /// The first net of the design that is connected with a pin of the occurrence, where a net joins it.
+#[inline(always)]
 fn first_at<'a, S: Shown + Drop>(
     ground: &'a Ground<S>,
     place: &'a Place,
@@ -73,6 +76,7 @@ fn first_at<'a, S: Shown + Drop>(
 }
 
 /// The item of a pin of the occurrence.
+#[inline(always)]
 pub(crate) fn pin_item<'a, S: Shown + Drop>(
     ground: &'a Ground<S>,
     place: &'a Place,

@@ -33,6 +33,7 @@ pub enum Stage {
 
 impl Stage {
     /// Whether it gives nothing any more.
+    #[inline(always)]
     pub fn is_over(self) -> bool
         ensures { result ≡ is_over self }
     {
@@ -85,6 +86,7 @@ impl Drop for Place {
 
 impl Place {
     /// The occurrence above the one whose items are given: `None` at the top. Takes no memory.
+    #[inline(always)]
     pub fn parent(&self) -> Option<Parent<'_>>
         ensures { (d : Design) → MayStand d (stand_of self.now) → IsParent d (stand_of self.now) result }
     {
@@ -103,6 +105,7 @@ impl Place {
 
     /// Enters by a step the occurrence whose frame this is; the one that is left above goes on later with the instance at `next`. After
     /// `NoMemory` all is as before.
+    #[inline(always)]
     pub fn enter(&mut self, step: u32, next: u32, frame: Frame) -> Result<(), NoMemory>
         ensures ok { OnOk result (HasEntered (stand_of self.old) step next frame (stand_of self.new)) }
         ensures err { OnErr result (stand_of self.new ≡ stand_of self.old) }
@@ -119,6 +122,7 @@ impl Place {
     }
 
     /// Leaves the occurrence for its parent, whose own items were given; whether there is a parent. Takes no memory.
+    #[inline(always)]
     pub fn leave(&mut self) -> bool
         ensures { HasLeft (stand_of self.old) (stand_of self.new) result }
     {

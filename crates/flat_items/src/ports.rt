@@ -22,6 +22,7 @@ fn ports_in<'a>(path: &[u32], body: &'a CellBody) -> &'a [Port]
 }
 
 /// The ports whose pins the occurrence at the path shows.
+#[inline(always)]
 pub(crate) fn shown_ports<'a, S: Shown>(design: &'a S, path: &[u32], cell: CellId) -> &'a [Port]
     ensures ports { result.now ≡ ports_shown (S.design design.now) (record { path = path.now; cell = cell }) }
     ensures few { length result.now ≤ MOST_PORTS }
@@ -33,6 +34,7 @@ pub(crate) fn shown_ports<'a, S: Shown>(design: &'a S, path: &[u32], cell: CellI
 }
 
 /// The port with that place.
+#[inline(always)]
 pub(crate) fn port_at(ports: &[Port], place: u32) -> Option<&Port>
     ensures { option_copied result ≡ slice_get ports.now place }
 {

@@ -9,6 +9,7 @@ ghost use Rattle.flat_spec.specs.Paths.{nets_at};
 use netlist_schema::{CellBody, CellId, Inst, Net, Shared, Shown};
 
 /// The instances of a cell: none of a leaf.
+#[inline(always)]
 fn insts_of(body: &CellBody) -> &[Shared<Inst>]
     ensures { result.now ≡ insts_of body.now }
 {
@@ -19,6 +20,7 @@ fn insts_of(body: &CellBody) -> &[Shared<Inst>]
 }
 
 /// The nets of a cell: none of a leaf.
+#[inline(always)]
 fn nets_of(body: &CellBody) -> &[Shared<Net>]
     ensures { result.now ≡ nets_of body.now }
 {
@@ -30,6 +32,7 @@ fn nets_of(body: &CellBody) -> &[Shared<Net>]
 
 /// The instances of the cell with this id, in order, at most `MOST_INSTS`: none of a leaf, and none where there is no such cell. Takes
 /// no memory.
+#[inline(always)]
 pub fn insts_at<S: Shown>(design: &S, id: CellId) -> &[Shared<Inst>]
     ensures value { result.now ≡ insts_at (S.design design.now) id }
     ensures limit { length result.now ≤ MOST_INSTS }
@@ -42,6 +45,7 @@ pub fn insts_at<S: Shown>(design: &S, id: CellId) -> &[Shared<Inst>]
 
 /// The nets of the cell with this id, in order, at most `MOST_NETS`: none of a leaf, and none where there is no such cell. Takes no
 /// memory.
+#[inline(always)]
 pub fn nets_at<S: Shown>(design: &S, id: CellId) -> &[Shared<Net>]
     ensures value { result.now ≡ nets_at (S.design design.now) id }
     ensures limit { length result.now ≤ MOST_NETS }
@@ -53,6 +57,7 @@ pub fn nets_at<S: Shown>(design: &S, id: CellId) -> &[Shared<Net>]
 }
 
 /// One instance of a cell: `None` exactly where there is none at the place. Takes no memory.
+#[inline(always)]
 pub fn inst_at<S: Shown>(design: &S, id: CellId, place: u32) -> Option<&Inst>
     ensures { option_copied result ≡ slice_get (insts_at (S.design design.now) id) place }
 {
@@ -63,6 +68,7 @@ pub fn inst_at<S: Shown>(design: &S, id: CellId, place: u32) -> Option<&Inst>
 }
 
 /// One net of a cell: `None` exactly where there is none at the place. Takes no memory.
+#[inline(always)]
 pub fn net_at<S: Shown>(design: &S, id: CellId, place: u32) -> Option<&Net>
     ensures { option_copied result ≡ slice_get (nets_at (S.design design.now) id) place }
 {
@@ -73,6 +79,7 @@ pub fn net_at<S: Shown>(design: &S, id: CellId, place: u32) -> Option<&Net>
 }
 
 /// The number of nets of a cell, at most `MOST_NETS`; 0 where there is no such cell. Takes no memory.
+#[inline(always)]
 pub fn net_count<S: Shown>(design: &S, id: CellId) -> u32
     ensures { result ≡ length (nets_at (S.design design.now) id) }
 {

@@ -54,6 +54,7 @@ pub(crate) fn cell_name<S: Shown>(design: &S, id: CellId) -> &[u8]
 }
 
 /// The identifier of a port of a cell; nothing where there is no such port.
+#[inline(always)]
 pub(crate) fn port_name<S: Shown>(design: &S, cell: Option<CellId>, place: u32) -> &[u8]
     ensures { result.now ≡ option_map_or (λ port. port.name.id) (port_of_cell (S.design design.now) cell place) [] }
 {
@@ -64,6 +65,7 @@ pub(crate) fn port_name<S: Shown>(design: &S, cell: Option<CellId>, place: u32) 
 }
 
 /// The identifier of a net of a cell; nothing where there is no such net.
+#[inline(always)]
 pub(crate) fn net_name<S: Shown>(design: &S, cell: Option<CellId>, place: u32) -> &[u8]
     ensures { result.now ≡ option_map_or (λ net. net.name.id) (net_in (S.design design.now) cell place) [] }
 {

@@ -104,6 +104,7 @@ fn push_changed(
 }
 
 /// The same of words and of properties.
+#[inline(always)]
 fn push_ended(
     alloc: Global,
     words: &[&[u8]],

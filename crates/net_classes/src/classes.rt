@@ -76,6 +76,7 @@ impl Classes {
     }
 
     /// What is known of a cell.
+    #[inline(always)]
     fn find(&self, cell: CellId) -> Option<&CellNets>
         ensures { option_map facts_of (option_copied result) ≡ facts_at self.now cell }
     {
@@ -92,6 +93,7 @@ impl Classes {
 
     /// For each net of the cell, in order, the first net of the same contents that is connected with it in the cell's tree. Takes no
     /// memory.
+    #[inline(always)]
     pub fn firsts(&self, cell: CellId) -> &[u32]
         ensures { result.now ≡ option_map_or (λ f. f.firsts) (facts_at self.now cell) [] }
     {
@@ -102,6 +104,7 @@ impl Classes {
     }
 
     /// The bits of the cell's instances that its nets join, by instance, port and bit. Takes no memory.
+    #[inline(always)]
     pub fn joints(&self, cell: CellId) -> &[Joint]
         ensures { result.now ≡ option_map_or (λ f. f.joints) (facts_at self.now cell) [] }
     {
@@ -112,6 +115,7 @@ impl Classes {
     }
 
     /// The first net of the cell's contents that is connected with the own bit in the cell's tree. Takes no memory.
+    #[inline(always)]
     pub fn first_at(&self, cell: CellId, port: u32, bit: u32) -> Option<u32>
         ensures { result ≡ first_at self.now cell (record { port = port; bit = bit }) }
     {
@@ -119,6 +123,7 @@ impl Classes {
     }
 
     /// The net of the cell's contents that joins the own bit, counted over all ports. Takes no memory.
+    #[inline(always)]
     pub fn net_at(&self, cell: CellId, bit: u32) -> Option<u32>
         ensures { result ≡ option_and_then (λ f. entry f.nets bit) (facts_at self.now cell) }
     {

@@ -41,6 +41,7 @@ impl CellNets {
     }
 
     /// The first net of the contents that is connected with the own bit.
+    #[inline(always)]
     pub fn first_at(&self, port: u32, bit: u32) -> Option<u32>
         ensures { result ≡ first_in (facts_of self.now) (record { port = port; bit = bit }) }
     {
@@ -58,6 +59,7 @@ impl CellNets {
 }
 
 /// What is known of the cell with this id.
+#[inline(always)]
 pub(crate) fn table_of(cells: &[Vec<CellNets>], cell: CellId) -> Option<&CellNets>
     ensures { option_copied result ≡ option_and_then (λ row. slice_get row.items cell.slot) (slice_get cells.now cell.lib.0) }
 {

@@ -18,6 +18,7 @@ pub struct NetName {
 }
 
 /// The name of a net: that of the first net that is connected with it inside. Takes no memory.
+#[inline(always)]
 pub fn name_of(names: &[NetName], firsts: &[u32], net: u32) -> Option<NetName>
     ensures { result ≡ name_in names.now firsts.now net }
 {
@@ -76,6 +77,7 @@ pub struct Above<'a> {
 
 /// The names of the nets of an instance's cell at this depth, where this is what they are named by: each first net has the name of a
 /// net of the parent that joins an own bit that is connected with it, and where there is none, its own.
+#[inline(always)]
 pub fn names_below<S: Shown>(
     alloc: Global,
     design: &S,

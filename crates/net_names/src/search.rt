@@ -8,6 +8,7 @@ ghost use Rattle.net_names.specs.Search.{IsAt, IsBefore, IsCount, IsNetFound};
 use net_classes::Joint;
 
 /// Whether the joint's bit comes before this bit of an instance.
+#[inline(always)]
 fn is_before(joint: &Joint, inst: u32, port: u32, bit: u32) -> bool
     ensures yes { result ≡ true → IsBefore inst (record { port = port; bit = bit }) joint.now }
     ensures no { result ≡ false → IsBefore inst (record { port = port; bit = bit }) joint.now → ⊥ }
@@ -22,6 +23,7 @@ fn is_before(joint: &Joint, inst: u32, port: u32, bit: u32) -> bool
 }
 
 /// Whether the joint is of this bit of an instance.
+#[inline(always)]
 fn is_at(joint: &Joint, inst: u32, port: u32, bit: u32) -> bool
     ensures yes { result ≡ true → IsAt inst (record { port = port; bit = bit }) joint.now }
     ensures no { result ≡ false → IsAt inst (record { port = port; bit = bit }) joint.now → ⊥ }
@@ -48,6 +50,7 @@ fn count_before(joints: &[Joint], inst: u32, port: u32, bit: u32) -> usize
 }
 
 /// Whether the first joints, of which there are so many, come before this bit of an instance: by the last of them.
+#[inline(always)]
 fn all_before(joints: &[Joint], count: usize, inst: u32, port: u32, bit: u32) -> bool
     requires { AllPairs IsNotBehind joints.now }
     ensures { result ≡ true → (k : ℕ) (d : Place) → k < count → IsBefore inst (record { port = port; bit = bit }) (slice_index_or joints.now k d) }
@@ -62,6 +65,7 @@ fn all_before(joints: &[Joint], count: usize, inst: u32, port: u32, bit: u32) ->
 }
 
 /// Whether none of the joints behind so many comes before this bit of an instance: by the first of them.
+#[inline(always)]
 fn none_behind(joints: &[Joint], count: usize, inst: u32, port: u32, bit: u32) -> bool
     requires { AllPairs IsNotBehind joints.now }
     ensures { result ≡ true → (k : ℕ) (d : Place) → count ≤ k → k < length joints.now → IsBefore inst (record { port = port; bit = bit }) (slice_index_or joints.now k d) → ⊥ }
@@ -73,6 +77,7 @@ fn none_behind(joints: &[Joint], count: usize, inst: u32, port: u32, bit: u32) -
 }
 
 /// Whether so many joints come before this bit of an instance, by those at that place.
+#[inline(always)]
 fn is_count(joints: &[Joint], count: usize, inst: u32, port: u32, bit: u32) -> bool
     requires { AllPairs IsNotBehind joints.now }
     ensures { result ≡ true → IsCount joints.now inst (record { port = port; bit = bit }) count }
@@ -83,6 +88,7 @@ fn is_count(joints: &[Joint], count: usize, inst: u32, port: u32, bit: u32) -> b
 }
 
 /// The number of joints that come before this bit of an instance, which may be that one.
+#[inline(always)]
 fn count_near(joints: &[Joint], near: usize, inst: u32, port: u32, bit: u32) -> usize
     requires { AllPairs IsNotBehind joints.now }
     ensures { IsCount joints.now inst (record { port = port; bit = bit }) result }
@@ -95,6 +101,7 @@ fn count_near(joints: &[Joint], near: usize, inst: u32, port: u32, bit: u32) -> 
 
 /// The net that joins this bit of an instance: `None` exactly where none does. It takes time in proportion to the logarithm of the
 /// number of joints, no time where the joint of the bit is the one at that place, and no memory.
+#[inline(always)]
 pub fn joined_net(joints: &[Joint], near: usize, inst: u32, port: u32, bit: u32) -> Option<u32>
     requires { AllPairs IsNotBehind joints.now }
     ensures { IsNetFound joints.now inst (record { port = port; bit = bit }) result }
@@ -129,6 +136,7 @@ pub struct Run<'a> {
 }
 
 /// How many joints stand before the first one that is behind a place and not on the instance.
+#[inline(always)]
 fn end_near(joints: &[Joint], from: usize, inst: u32) -> usize {
     for place in from..joints.len() {
         if joints[place].inst != inst {
@@ -140,6 +148,7 @@ fn end_near(joints: &[Joint], from: usize, inst: u32) -> usize {
 
 /// The joints of an instance. It takes time in proportion to their number where they begin at that place, else to the logarithm of the
 /// number of all joints too, and no memory.
+#[inline(always)]
 pub fn joints_on(joints: &[Joint], near: usize, inst: u32) -> Run<'_>
     requires order { AllPairs IsNotBehind joints.now }
     requires room { inst < 4294967295 }

@@ -28,6 +28,7 @@ pub(crate) fn top_frame<S: Shown + Drop>(ground: &Ground<S>, top: CellId) -> Res
 }
 
 /// The frame of the occurrence of an instance of the occurrence at the path, which is of that cell.
+#[inline(always)]
 fn frame_below<S: Shown + Drop>(
     ground: &Ground<S>,
     path: &[u32],
@@ -66,6 +67,7 @@ fn frame_below<S: Shown + Drop>(
 }
 
 /// The frame of the occurrence of an instance of the occurrence at the path: `None` exactly where there is no such instance.
+#[inline(always)]
 pub(crate) fn frame_at<S: Shown + Drop>(
     ground: &Ground<S>,
     path: &[u32],

@@ -11,6 +11,7 @@ use flat_spec::Item;
 use netlist_schema::{NoMemory, Shown};
 
 /// Goes on to the next occurrence, where one is left and all own items of this one were given: whether there is one.
+#[inline(always)]
 fn go_on<S: Shown + Drop>(ground: &Ground<S>, place: &mut Place) -> Result<bool, NoMemory>
     requires ground { IsGround (S.design ground.now.design) ground.now.classes ground.now.notes }
     requires stands { MayStand (S.design ground.now.design) (stand_of place.old) }
@@ -32,6 +33,7 @@ fn go_on<S: Shown + Drop>(ground: &Ground<S>, place: &mut Place) -> Result<bool,
 }
 
 /// Goes on to the next item, where one is left: whether one is.
+#[inline(always)]
 pub fn advance<S: Shown + Drop>(ground: &Ground<S>, place: &mut Place) -> Result<bool, NoMemory>
     requires ground { IsGround (S.design ground.now.design) ground.now.classes ground.now.notes }
     requires stands { MayStand (S.design ground.now.design) (stand_of place.old) }
@@ -47,6 +49,7 @@ pub fn advance<S: Shown + Drop>(ground: &Ground<S>, place: &mut Place) -> Result
 }
 
 /// Lends the next item of the occurrence, where one is left.
+#[inline(always)]
 pub fn current<'a, S: Shown + Drop>(ground: &'a Ground<S>, place: &'a Place) -> Option<ItemRef<'a>>
     requires ground { IsGround (S.design ground.now.design) ground.now.classes ground.now.notes }
     requires stands { MayStand (S.design ground.now.design) (stand_of place.now) }
@@ -56,6 +59,7 @@ pub fn current<'a, S: Shown + Drop>(ground: &'a Ground<S>, place: &'a Place) -> 
 }
 
 /// Passes over the next item of the occurrence, where one is left.
+#[inline(always)]
 pub fn skip<S: Shown + Drop>(ground: &Ground<S>, place: &mut Place)
     requires ground { IsGround (S.design ground.now.design) ground.now.classes ground.now.notes }
     requires stands { MayStand (S.design ground.now.design) (stand_of place.old) }

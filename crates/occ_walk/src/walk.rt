@@ -136,6 +136,7 @@ impl<S: Shown + Drop> Walk<S> {
     ///
     /// It takes time only where an occurrence is entered: in proportion to its nets, the ends on its instance and the occurrences that
     /// are left.
+    #[inline(always)]
     pub fn advance(&mut self) -> Result<bool, NoMemory>
         ensures design { self.new.design ≡ self.old.design }
         ensures left { self.new.left ≡ self.old.left }
@@ -147,6 +148,7 @@ impl<S: Shown + Drop> Walk<S> {
 
     /// Lends the next item, where the walk has gone on to it: `None` exactly where all items of the occurrence at which it stands were
     /// given. It takes no memory.
+    #[inline(always)]
     pub fn current(&self) -> Option<ItemRef<'_>>
         ensures { IsLent self.now result }
     {
@@ -154,6 +156,7 @@ impl<S: Shown + Drop> Walk<S> {
     }
 
     /// Passes over the next item, where the walk has gone on to it; else it leaves what is left. It takes no memory.
+    #[inline(always)]
     pub fn skip(&mut self)
         ensures design { self.new.design ≡ self.old.design }
         ensures passed { self.old.over ≡ false → self.new.left ≡ drop 1 self.old.left }

@@ -16,6 +16,7 @@ use par_parts::CountedGround;
 use path_texts::PathTexts;
 
 /// Adds the line of the next item, where the place has gone on to one.
+#[inline(always)]
 fn add_ahead<S: Shown + Drop>(
     ground: &CountedGround<S>,
     texts: &mut PathTexts<'_, S>,
@@ -40,6 +41,7 @@ fn add_ahead<S: Shown + Drop>(
 }
 
 /// Adds the line of the next item, where one is left: whether one was.
+#[inline(always)]
 fn add_line<S: Shown + Drop>(
     ground: &CountedGround<S>,
     texts: &mut PathTexts<'_, S>,

@@ -137,6 +137,7 @@ impl<S: Shown + Drop> CountedGround<S> {
     }
 
     /// Goes on to the next item, where one is left: whether one is.
+    #[inline(always)]
     pub fn advance(&self, place: &mut Place) -> Result<bool, NoMemory>
         requires { MayStand self.now (stand_of place.old) }
         ensures stands { MayStand self.now (stand_of place.new) }
@@ -147,6 +148,7 @@ impl<S: Shown + Drop> CountedGround<S> {
     }
 
     /// Lends the next item of the occurrence, where one is left.
+    #[inline(always)]
     pub fn current<'a>(&'a self, place: &'a Place) -> Option<ItemRef<'a>>
         requires { MayStand self.now (stand_of place.now) }
         ensures { IsLent (rest_of self.now (stand_of place.now)) result }
@@ -155,6 +157,7 @@ impl<S: Shown + Drop> CountedGround<S> {
     }
 
     /// Passes over the next item of the occurrence, where one is left.
+    #[inline(always)]
     pub fn skip(&self, place: &mut Place)
         requires { MayStand self.now (stand_of place.old) }
         ensures stands { MayStand self.now (stand_of place.new) }
