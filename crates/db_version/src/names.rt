@@ -161,11 +161,5 @@ fn insert_within(names: &mut IndexSet<Ident>, name: Ident)
 fn any_same(names: &[Ident], name: &Ident) -> bool
     ensures { result ≡ list_any (λ other. is_same other name.now) names.now }
 {
-    names.iter().any(|other| same(other, name))
-}
-
-fn same(a: &Ident, b: &Ident) -> bool
-    ensures { result ≡ is_same a.now b.now }
-{
-    a.same(b)
+    names.iter().any(|other| other.same(name))
 }
