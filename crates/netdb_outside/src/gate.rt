@@ -6,6 +6,12 @@
 pub trait Gate {
     /// The caller is at this line.
     fn reached(&self, caller: u32, line: u32);
+
+    /// Whether it may hold a caller. Where it never does, callers need not come at the same time: one thread may call for all of them, one
+    /// behind the other.
+    fn may_hold(&self) -> bool {
+        true
+    }
 }
 
 /// A gate that is always open, and does nothing.
@@ -14,4 +20,8 @@ pub struct FreeGate;
 
 impl Gate for FreeGate {
     fn reached(&self, _caller: u32, _line: u32) {}
+
+    fn may_hold(&self) -> bool {
+        false
+    }
 }

@@ -9,12 +9,22 @@ pub const MOST_AT_ONCE: u64 = 262_144;
 /// The most bytes of text that are made at once, but for a line of each worker.
 pub const MOST_BYTES: usize = 33_554_432;
 
-/// Which items are made into lines at once: those of each worker, where so many were written before.
+/// The most items of a worker for which no thread is started: to start and to join one takes as long as some thousand lines.
+pub const FEW_ITEMS: u64 = 1_024;
+
+/// Which items are made into lines at once: those of each worker, where so many were written before; and whether each worker makes its
+/// lines in a thread of its own, or all of them one behind the other.
 #[derive(Clone, Copy)]
 pub struct Round {
     pub workers: u32,
+    pub threads: bool,
     pub first: u64,
     pub most: Most,
+}
+
+/// Whether so many items are so few for each worker that one thread makes their lines sooner than several.
+pub fn are_few(workers: u32, count: u64) -> bool {
+    count <= u64::from(workers) * FEW_ITEMS
 }
 
 /// What each worker makes at most, where all of them make so many items: an even share of these, and of the bytes.

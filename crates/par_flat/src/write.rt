@@ -1,6 +1,5 @@
 //! `write_par_flat`: the lines of a flattening.
 ghost use Rattle.std.specs.Prelude.{◌≡◌, ◌↔◌, ◌<◌, ◌≤◌, ◌+◌, ◌*◌, ◌^◌, ◌++◌, ◌∷◌, [], ℕ, List, Err, IfErr, IfOk, IsOk, None, OnErr, OnOk, codes, drop, get_or, length, take};
-ghost use Rattle.std.specs.List.{All};
 ghost use Rattle.std.specs.Option.{ForSome};
 ghost use Rattle.netdb_outside.specs.Outside.{Appends, AppendsFront, Rose};
 ghost use Rattle.netlist_schema.specs.Design.{Design};
@@ -12,10 +11,10 @@ ghost use Rattle.par_flat.specs.Lines.{IsRound};
 
 use crate::desks::{Desk, Most, desks_of};
 use crate::lines::make_lines;
-use crate::rounds::{MOST_AT_ONCE, Round, next_at_once, share_of};
+use crate::rounds::{MOST_AT_ONCE, Round, are_few, next_at_once, share_of};
 use flat_writer::{FlatError, outcome, write_flat};
 use netdb_outside::{Gate, Put, Sink, WriteError};
-use netlist_schema::{NoMemory, Shown};
+use netlist_schema::Shown;
 use occ_walk::WalkError;
 use par_parts::CountedGround;
 use std::alloc::Global;
@@ -29,52 +28,51 @@ fn work<S: Shown + Drop, G: Gate>(
     ground: &CountedGround<S>,
     round: Round,
     gate: &G,
-    desk: Desk,
-) -> Desk
-    requires one { desk.worker < round.workers }
-    requires seat { ForSome desk.seat (IsSeat ground.now) }
+    desk: &mut Desk,
+)
+    requires one { desk.old.worker < round.workers }
+    requires seat { ForSome desk.old.seat (IsSeat ground.now) }
     requires few { round.first + round.workers * round.most.items < 2 ^ 64 }
-    ensures worker { result.worker ≡ desk.worker }
-    ensures seat { ForSome result.seat (IsSeat ground.now) }
-    ensures made { IsMade ground.now (drop (round.first + desk.worker * round.most.items) (flattening ground.now)) round.most result }
+    ensures worker { desk.new.worker ≡ desk.old.worker }
+    ensures seat { ForSome desk.new.seat (IsSeat ground.now) }
+    ensures made { IsMade ground.now (drop (round.first + desk.old.worker * round.most.items) (flattening ground.now)) round.most desk.new }
 {
-    let mut desk = desk;
     let worker = desk.worker;
     let first = round.first + u64::from(worker) * round.most.items;
     gate.reached(worker, 1);
-    let made = make_lines(ground, &mut desk, first, round.most);
+    let made = make_lines(ground, desk, first, round.most);
     gate.reached(worker, 2);
     desk.made = made;
-    desk
 }
 
-/// Has each worker make its lines: in a thread, or where one can't be started, here. All have ended when it returns.
+/// Has each worker make its lines: in a thread of its own, or where that is not wanted or one can't be started, here. All have ended when
+/// it returns.
 fn work_each<R: Threads + Sync, S: Shown + Drop + Sync, G: Gate + Sync>(
     rt: &R,
     ground: &CountedGround<S>,
     round: Round,
     gate: &G,
-    desks: Vec<Desk>,
-) -> Result<Vec<Desk>, NoMemory>
-    requires len { length desks.items ≡ round.workers }
-    requires desks { AreDesks ground.now desks.items }
-    requires ready { All (IsReady ground.now round) desks.items }
-    ensures len { IfOk result (λ desks. length desks.items ≡ round.workers) }
-    ensures desks { IfOk result (λ desks. AreDesks ground.now desks.items) }
-    ensures parts { IfOk result (λ desks. AreParts ground.now (drop round.first (flattening ground.now)) round.most desks.items) }
+    desks: &mut [Desk],
+)
+    requires len { length desks.old ≡ round.workers }
+    requires desks { AreDesks ground.now desks.old }
+    requires few { round.first + round.workers * round.most.items < 2 ^ 64 }
+    ensures desks { AreDesks ground.now desks.new }
+    ensures parts { AreParts ground.now (drop round.first (flattening ground.now)) round.most desks.new }
 {
-    let desks = thread::map_vec(
+    let threads = if round.threads { desks.len().max(1) } else { 1 };
+    thread::for_each_mut(
         rt,
         desks,
-        &|desk: Desk| -> Desk
-            requires { IsReady ground.now round desk }
-            ensures worker { result.worker ≡ desk.worker }
-            ensures seat { ForSome result.seat (IsSeat ground.entry.now) }
+        threads,
+        &|_place: usize, desk: &mut Desk|
+            requires { IsReady ground.now round desk.old }
+            ensures worker { desk.new.worker ≡ desk.old.worker }
+            ensures seat { ForSome desk.new.seat (IsSeat ground.entry.now) }
             ensures made { IsMade ground.entry.now
-                (drop (round.first + desk.worker * round.most.items) (flattening ground.entry.now)) round.most result }
+                (drop (round.first + desk.old.worker * round.most.items) (flattening ground.entry.now)) round.most desk.new }
         { work(ground, round, gate, desk) },
-    )?;
-    Ok(desks)
+    );
 }
 
 /// Puts a piece.
@@ -132,40 +130,27 @@ fn put_desks<K: Sink>(desks: &[Desk], most: Most, out: &mut K) -> Result<u64, Wr
     Ok(made)
 }
 
-/// What came of a round: how many items were written, and the desks behind it.
-#[derive(Drop)]
-pub struct Worked {
-    pub made: u64,
-    pub desks: Vec<Desk>,
-}
-
-/// One round: its lines are made, and then put.
+/// One round: its lines are made, and then put: how many items those are.
 fn put_round<R: Threads + Sync, S: Shown + Drop + Sync, G: Gate + Sync, K: Sink>(
     rt: &R,
     ground: &CountedGround<S>,
     round: Round,
     gate: &G,
-    desks: Vec<Desk>,
+    desks: &mut [Desk],
     out: &mut K,
-) -> Result<Worked, WriteError>
-    requires len { length desks.items ≡ round.workers }
-    requires desks { AreDesks ground.now desks.items }
+) -> Result<u64, WriteError>
+    requires len { length desks.old ≡ round.workers }
+    requires desks { AreDesks ground.now desks.old }
     requires few { round.first + round.workers * round.most.items < 2 ^ 64 }
-    ensures len { IfOk result (λ worked. length worked.desks.items ≡ round.workers) }
-    ensures desks { IfOk result (λ worked. AreDesks ground.now worked.desks.items) }
-    ensures round { IfOk result (λ worked. IsRound ground.now (drop round.first (flattening ground.now)) round.most round.workers worked.made) }
-    ensures ok { IfOk result (λ worked. Appends (K.written out.old) (K.written out.new) (item_lines ground.now (take worked.made (drop round.first (flattening ground.now))))) }
+    ensures desks { AreDesks ground.now desks.new }
+    ensures round { IfOk result (λ made. IsRound ground.now (drop round.first (flattening ground.now)) round.most round.workers made) }
+    ensures ok { IfOk result (λ made. Appends (K.written out.old) (K.written out.new) (item_lines ground.now (take made (drop round.first (flattening ground.now))))) }
     ensures err { OnErr result (AppendsFront (K.written out.old) (K.written out.new) (item_lines ground.now (drop round.first (flattening ground.now)))) }
     ensures fault { result ≡ Err WriteError.WriteFault → Rose (K.faults out.old) (K.faults out.new) }
     ensures never_falls { K.faults out.old ≤ K.faults out.new }
 {
-    match work_each(rt, ground, round, gate, desks) {
-        Ok(desks) => {
-            let made = put_desks(desks.as_slice(), round.most, out)?;
-            Ok(Worked { made, desks })
-        }
-        Err(_) => Err(WriteError::NoMemory),
-    }
+    work_each(rt, ground, round, gate, desks);
+    put_desks(desks, round.most, out)
 }
 
 /// The desks of so many workers, who have not begun.
@@ -197,6 +182,7 @@ fn put_items<R: Threads + Sync, S: Shown + Drop + Sync, G: Gate + Sync, K: Sink>
     ensures fault { result ≡ Err WriteError.WriteFault → Rose (K.faults out.old) (K.faults out.new) }
     ensures never_falls { K.faults out.old ≤ K.faults out.new }
 {
+    let threads = gate.may_hold() || !are_few(workers, count);
     let mut first = 0;
     let mut at_once = MOST_AT_ONCE;
     let mut desks = new_desks(ground.alloc(), workers)?;
@@ -204,13 +190,13 @@ fn put_items<R: Threads + Sync, S: Shown + Drop + Sync, G: Gate + Sync, K: Sink>
         let wanted = at_once.min(count - first);
         let round = Round {
             workers,
+            threads,
             first,
             most: share_of(workers, wanted),
         };
-        let worked = put_round(rt, ground, round, gate, desks, out)?;
-        at_once = next_at_once(at_once, wanted, worked.made);
-        first += worked.made;
-        desks = worked.desks;
+        let made = put_round(rt, ground, round, gate, desks.as_mut_slice(), out)?;
+        at_once = next_at_once(at_once, wanted, made);
+        first += made;
     }
     Ok(())
 }
@@ -261,7 +247,8 @@ fn write_counted<R: Threads + Sync, S: Shown, W: Shown + Drop + Sync, G: Gate + 
 }
 
 /// Writes the lines of a design's flattening, and behind them `end`, as `write_flat` does without a limit, where 1 to 64 workers make
-/// them beside each other, each in a thread, or where one can't be started, here. They work in rounds, in each of which all have the same
+/// them beside each other, each in a thread, or where one can't be started, here. Where the gate holds nobody and there are no more than
+/// 1,024 items a worker, no thread is started, and they make their lines one behind the other. They work in rounds, in each of which all have the same
 /// share, but that at the end there may be fewer items. A round makes the lines of no more than 262,144 items (and of fewer more than there
 /// are workers, where their number does not divide that), and no more than 32 MiB of text and a line of each worker, which take no more
 /// than twice that memory: a worker with so much text stops, and the next round begins behind the first that did. A worker goes on from

@@ -87,3 +87,44 @@ impl Gate for TallyGate {
         }
     }
 }
+
+/// A gate that holds nobody, and notes who begins and ends, and whether one begins before another one has ended.
+#[derive(Drop)]
+pub struct OpenGate {
+    pub tally: TallyGate,
+    inside: AtomicU64,
+    met: AtomicU64,
+}
+
+impl OpenGate {
+    /// Nobody was there.
+    pub fn new() -> OpenGate {
+        OpenGate {
+            tally: TallyGate::new(),
+            inside: AtomicU64::new(0),
+            met: AtomicU64::new(0),
+        }
+    }
+
+    /// Whether two were between begin and end at the same time.
+    pub fn have_met(&self) -> bool {
+        self.met.load(Ordering::SeqCst) > 0
+    }
+}
+
+impl Gate for OpenGate {
+    fn reached(&self, caller: u32, line: u32) {
+        self.tally.reached(caller, line);
+        if line == 1 {
+            let before = self.inside.fetch_add(1, Ordering::SeqCst);
+            self.met.fetch_add(before, Ordering::SeqCst);
+        }
+        if line == 2 {
+            self.inside.fetch_sub(1, Ordering::SeqCst);
+        }
+    }
+
+    fn may_hold(&self) -> bool {
+        false
+    }
+}

@@ -1,8 +1,8 @@
 //! Workers that share the work.
 ghost use Rattle.std.specs.Prelude.{◌≤◌};
 
-use crate::designs::tree;
-use crate::measures::TallyGate;
+use crate::designs::{counter, tree};
+use crate::measures::{OpenGate, TallyGate};
 use crate::turns::{TurnGate, Watched};
 use flat_writer::write_flat;
 use netdb_outside::{Hold, HoldGate, MemSink};
@@ -140,5 +140,31 @@ fn all_tell<R: Threads + Abort + Sync>(rt: &R, alloc: Global, design: &Design) {
 fn each_worker_calls_the_gate(rt: HostRuntime) -> Result<(), Fail> {
     let tree = tree(rt.alloc())?;
     all_tell(&rt, rt.alloc(), &tree);
+    Ok(())
+}
+
+/// So many workers, whom nobody holds, write a small design one behind the other, and each calls the gate once at its begin and its end.
+fn one_by_one<R: Threads + Abort + Sync>(rt: &R, alloc: Global, design: &Design, workers: u32)
+    requires { (1 ≤ workers) × (workers ≤ 64) }
+{
+    let mut plain = MemSink::new(alloc, None);
+    write_flat(alloc, design, None, &mut plain).expect(rt, "a text");
+    let gate = OpenGate::new();
+    let mut out = MemSink::new(alloc, None);
+    write_par_flat(rt, alloc, design, workers, &gate, &mut out).expect(rt, "a text");
+    assert!(rt;
+        out.written() == plain.written(),
+        "another text by {workers}"
+    );
+    assert!(rt; gate.tally.told_all(workers), "others told than {workers}");
+    assert!(rt; !gate.have_met(), "two of {workers} at the same time");
+}
+
+#[test]
+fn a_few_items_are_written_one_by_one(rt: HostRuntime) -> Result<(), Fail> {
+    let counter = counter(rt.alloc())?;
+    one_by_one(&rt, rt.alloc(), &counter, 1);
+    one_by_one(&rt, rt.alloc(), &counter, 4);
+    one_by_one(&rt, rt.alloc(), &counter, 64);
     Ok(())
 }

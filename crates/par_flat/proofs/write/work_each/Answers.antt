@@ -1,29 +1,34 @@
-use Rattle.std.proofs.Common.{◌≡◌, ◌<◌, ◌∙◌, ◌+◌, ◌*◌, ℕ, get_or, drop, length, sym, subst, arith}
+use Rattle.std.proofs.Common.{◌≡◌, ◌<◌, ◌∙◌, ◌+◌, ◌*◌, ℕ, get_or, drop, length, sym, ap, subst, arith}
+use Rattle.std.specs.Option.{ForSome}
 use Rattle.flat_spec.specs.Flattening.{flattening}
-use Rattle.par_flat.specs.Desks.{IsDesk, IsMade}
+use Rattle.par_flat.specs.Desks.{IsDesk, IsMade, IsReady, IsSeat}
+use Rattle.par_flat.specs.declared.desks.Desk.{Desk}
 use Rattle.par_flat.proofs.TextLemmas.{are_parts}
 use Rattle.par_flat.proofs.write.work_each.Goals as goal
-
-pub returns-clause-len : goal.returns-clause-len
-returns-clause-len g c = sym c.in_ok-desks.desks.ok.0 ∙ (c.in_ok-desks.ensures.len ∙ (c.args.desks.ok.0 ∙ c.requires.len))
 
 pub returns-clause-desks : goal.returns-clause-desks
 returns-clause-desks g c = λ worker other within.
     let d = c.args.ground.now in
-    let long : length c.in_ok-desks.desks.items ≡ length c.args.desks.items = sym c.in_ok-desks.desks.ok.0 ∙ (c.in_ok-desks.ensures.len ∙ c.args.desks.ok.0) in
-    let below : worker < length c.args.desks.items = omega (arith, within, long) in
-    let gives = (c.in_ok-desks.ensures.each worker other below).1 in
-    let desk : IsDesk d worker gives.job = subst (IsDesk d worker) (gives.job_is gives.job) (c.requires.desks worker gives.job below) in
-    record { worker_is = gives.call.met.0 ∙ desk.worker_is; seat = gives.call.met.1.0 }
+    let kept = c.for_each_mut.auto.s in
+    let below : worker < length c.args.desks.now = omega (arith, within, kept) in
+    let at = (c.for_each_mut.ensures worker other below).1 in
+    let before : IsDesk d worker (get_or c.args.desks.now worker other) = c.requires.desks worker other below in
+    record {
+      worker_is = sym (ap (λ (v : Desk). v.worker) at.left) ∙ (at.call.0 ∙ (ap (λ (v : Desk). v.worker) at.argument_is ∙ before.worker_is));
+      seat = subst (λ (v : Desk). ForSome v.seat (IsSeat d)) at.left at.call.1.0;
+    }
 
 pub returns-clause-parts : goal.returns-clause-parts
 returns-clause-parts g c =
     let d = c.args.ground.now in
     let round = c.args.round in
-    let new = c.in_ok-desks.desks.items in
-    let long : length new ≡ round.workers = sym c.in_ok-desks.desks.ok.0 ∙ (c.in_ok-desks.ensures.len ∙ (c.args.desks.ok.0 ∙ c.requires.len)) in
+    let new = c.for_each_mut.new.s in
+    let kept = c.for_each_mut.auto.s in
+    let long : length new ≡ round.workers = (let len = c.requires.len in omega (arith, kept, len)) in
     are_parts d (flattening d) round.first round.workers round.most new long (λ worker other one.
-    let below : worker < length c.args.desks.items = (let len = c.requires.len in omega (arith, one, len)) in
-    let gives = (c.in_ok-desks.ensures.each worker other below).1 in
-    let desk : IsDesk d worker gives.job = subst (IsDesk d worker) (gives.job_is gives.job) (c.requires.desks worker gives.job below) in
-    subst (λ (n : ℕ). IsMade d (drop (round.first + n * round.most.items) (flattening d)) round.most (get_or new worker other)) desk.worker_is gives.call.met.1.1)
+    let below : worker < length c.args.desks.now = (let len = c.requires.len in omega (arith, one, len)) in
+    let at = (c.for_each_mut.ensures worker other below).1 in
+    let before : IsDesk d worker (get_or c.args.desks.now worker other) = c.requires.desks worker other below in
+    let number = ap (λ (v : Desk). v.worker) at.argument_is ∙ before.worker_is in
+    subst (λ (v : Desk). IsMade d (drop (round.first + worker * round.most.items) (flattening d)) round.most v) at.left
+    (subst (λ (n : ℕ). IsMade d (drop (round.first + n * round.most.items) (flattening d)) round.most at.after_call.now) number at.call.1.1))
