@@ -246,13 +246,13 @@ fn write_counted<R: Threads + Sync, S: Shown, W: Shown + Drop + Sync, G: Gate + 
     write_flat(ground.alloc(), design, None, out)
 }
 
-/// Writes the lines of a design's flattening, and behind them `end`, as `write_flat` does without a limit, where 1 to 64 workers make
-/// them beside each other, each in a thread, or where one can't be started, here. Where the gate holds nobody and there are no more than
-/// 1,024 items a worker, no thread is started, and they make their lines one behind the other. They work in rounds, in each of which all have the same
-/// share, but that at the end there may be fewer items. A round makes the lines of no more than 262,144 items (and of fewer more than there
-/// are workers, where their number does not divide that), and no more than 32 MiB of text and a line of each worker, which take no more
-/// than twice that memory: a worker with so much text stops, and the next round begins behind the first that did. A worker goes on from
-/// where it stood in the round before, so what it passes over it passes over once, unless another one stopped.
+/// Writes the lines of a design's flattening, and behind them `end`, as `write_flat` does without a limit, where 1 to 64 workers make them
+/// beside each other, each in a thread, or where one can't be started, here. Where the gate holds nobody and there are no more than 1,024
+/// items a worker, no thread is started, and they make their lines one behind the other. They work in rounds, in each of which all have the
+/// same share, but that at the end there may be fewer items. A round makes the lines of no more than 262,144 items (and of fewer more than
+/// there are workers, where their number does not divide that), and no more than 32 MiB of text and a line of each worker, which take no
+/// more than twice that memory: a worker with so much text stops, and the next round begins behind the first that did. A worker goes on
+/// from where it stood in the round before, so what it passes over it passes over once, unless another one stopped.
 ///
 /// In each round each worker, also one with no item, calls the gate with its number and 1 before its first line, and with 2 behind its
 /// last one.
