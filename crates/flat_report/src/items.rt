@@ -59,8 +59,7 @@ pub fn kept_text<S: Shown>(
     ensures err { OnErr result (out.new.items ≡ out.old.items) }
 {
     let before = out.len();
-    let design = texts.design();
-    if push_line(alloc, design, texts, item, out).is_err() {
+    if push_line(alloc, texts, item, out).is_err() {
         out.truncate(before);
         return Err(NoMemory);
     }
@@ -81,19 +80,17 @@ pub fn keep_path<S: Shown>(texts: &mut PathTexts<'_, S>, item: ItemRef<'_>)
 #[inline(always)]
 fn push_line<S: Shown>(
     alloc: Global,
-    design: &S,
     texts: &PathTexts<'_, S>,
     item: ItemRef<'_>,
     out: &mut Vec<u8>,
 ) -> Result<(), NoMemory>
-    requires same { texts.now ≡ S.design design.now }
-    ensures ok { OnOk result (out.new.items ≡ out.old.items ++ item_line (S.design design.now) (item_of item.entry)) }
+    ensures ok { OnOk result (out.new.items ≡ out.old.items ++ item_line texts.now (item_of item.entry)) }
     ensures grows { Grows out.old.items out.new.items }
 {
-    if push_whole(alloc, design, texts, item, out)? {
+    if push_whole(alloc, texts, item, out)? {
         return Ok(());
     }
-    push_item(alloc, design, texts, item, out)?;
+    push_item(alloc, texts, item, out)?;
     out.push(b'\n')?;
     Ok(())
 }
@@ -101,13 +98,11 @@ fn push_line<S: Shown>(
 /// Appends the words of an item. After `NoMemory` some bytes may stand behind those before.
 fn push_item<S: Shown>(
     alloc: Global,
-    design: &S,
     texts: &PathTexts<'_, S>,
     item: ItemRef<'_>,
     out: &mut Vec<u8>,
 ) -> Result<(), NoMemory>
-    requires same { texts.now ≡ S.design design.now }
-    ensures ok { OnOk result (out.new.items ≡ out.old.items ++ spaced (item_words (S.design design.now) (item_of item.entry))) }
+    ensures ok { OnOk result (out.new.items ≡ out.old.items ++ spaced (item_words texts.now (item_of item.entry))) }
     ensures grows { Grows out.old.items out.new.items }
 {
     match item {
@@ -115,34 +110,32 @@ fn push_item<S: Shown>(
             path,
             cell,
             properties,
-        } => push_enter(alloc, design, texts, path, cell, properties, out),
-        ItemRef::Net { path, net, first } => push_net(design, texts, path, net, first, out),
+        } => push_enter(alloc, texts, path, cell, properties, out),
+        ItemRef::Net { path, net, first } => push_net(texts, path, net, first, out),
         ItemRef::Pin {
             path,
             port,
             bit,
             first,
-        } => push_pin(design, texts, path, port, bit, first, out),
+        } => push_pin(texts, path, port, bit, first, out),
     }
 }
 
 /// Appends the words of an occurrence. After `NoMemory` some bytes may stand behind those before.
 fn push_enter<S: Shown>(
     alloc: Global,
-    design: &S,
     texts: &PathTexts<'_, S>,
     path: &[u32],
     cell: CellId,
     properties: PropertiesRef<'_>,
     out: &mut Vec<u8>,
 ) -> Result<(), NoMemory>
-    requires same { texts.now ≡ S.design design.now }
-    ensures ok { OnOk result (out.new.items ≡ out.old.items ++ spaced (item_words (S.design design.now) (Item.Enter path.now cell (properties_of properties.entry)))) }
+    ensures ok { OnOk result (out.new.items ≡ out.old.items ++ spaced (item_words texts.now (Item.Enter path.now cell (properties_of properties.entry)))) }
     ensures grows { Grows out.old.items out.new.items }
 {
     out.extend_from_slice(b"inst")?;
-    push_place(design, texts, path, out)?;
-    push_cell(design, cell, out)?;
+    push_place(texts, path, out)?;
+    push_cell(texts.design(), cell, out)?;
     push_lent(alloc, properties, out)
 }
 
@@ -175,25 +168,22 @@ fn push_cell<S: Shown>(design: &S, cell: CellId, out: &mut Vec<u8>) -> Result<()
 
 /// Appends the words of a net. After `NoMemory` some bytes may stand behind those before.
 fn push_net<S: Shown>(
-    design: &S,
     texts: &PathTexts<'_, S>,
     path: &[u32],
     net: u32,
     first: NetRef<'_>,
     out: &mut Vec<u8>,
 ) -> Result<(), NoMemory>
-    requires same { texts.now ≡ S.design design.now }
-    ensures ok { OnOk result (out.new.items ≡ out.old.items ++ spaced (item_words (S.design design.now) (Item.Net path.now net (net_of first.entry)))) }
+    ensures ok { OnOk result (out.new.items ≡ out.old.items ++ spaced (item_words texts.now (Item.Net path.now net (net_of first.entry)))) }
     ensures grows { Grows out.old.items out.new.items }
 {
     out.extend_from_slice(b"net")?;
-    push_net_words(design, texts, path, net, out)?;
-    push_first(design, texts, first, out)
+    push_net_words(texts, path, net, out)?;
+    push_first(texts, first, out)
 }
 
 /// Appends the words of a pin. After `NoMemory` some bytes may stand behind those before.
 fn push_pin<S: Shown>(
-    design: &S,
     texts: &PathTexts<'_, S>,
     path: &[u32],
     port: u32,
@@ -201,14 +191,13 @@ fn push_pin<S: Shown>(
     first: Option<NetRef<'_>>,
     out: &mut Vec<u8>,
 ) -> Result<(), NoMemory>
-    requires same { texts.now ≡ S.design design.now }
-    ensures ok { OnOk result (out.new.items ≡ out.old.items ++ spaced (item_words (S.design design.now) (Item.Pin path.now port bit (option_map net_of first.entry)))) }
+    ensures ok { OnOk result (out.new.items ≡ out.old.items ++ spaced (item_words texts.now (Item.Pin path.now port bit (option_map net_of first.entry)))) }
     ensures grows { Grows out.old.items out.new.items }
 {
     out.extend_from_slice(b"pin")?;
-    let cell = push_place(design, texts, path, out)?;
-    push_bit(port_name(design, cell, port), bit, out)?;
-    push_joined(design, texts, first, out)
+    let cell = push_place(texts, path, out)?;
+    push_bit(port_name(texts.design(), cell, port), bit, out)?;
+    push_joined(texts, first, out)
 }
 
 /// Appends a port's identifier and a bit, each behind a blank. After `NoMemory` some bytes may stand behind those before.
@@ -223,18 +212,16 @@ fn push_bit(port: &[u8], bit: u32, out: &mut Vec<u8>) -> Result<(), NoMemory>
 /// Appends the representative of the net that joins a pin, or `-` where none does, each word behind a blank. After `NoMemory` some
 /// bytes may stand behind those before.
 fn push_joined<S: Shown>(
-    design: &S,
     texts: &PathTexts<'_, S>,
     first: Option<NetRef<'_>>,
     out: &mut Vec<u8>,
 ) -> Result<(), NoMemory>
-    requires same { texts.now ≡ S.design design.now }
     ensures ok { OnOk result (out.new.items
-        ≡ out.old.items ++ behind_blanks (option_map_or (net_words (S.design design.now)) (option_map net_of first.entry) (codes "-" ∷ []))) }
+        ≡ out.old.items ++ behind_blanks (option_map_or (net_words texts.now) (option_map net_of first.entry) (codes "-" ∷ []))) }
     ensures grows { Grows out.old.items out.new.items }
 {
     match first {
-        Some(first) => push_first(design, texts, first, out),
+        Some(first) => push_first(texts, first, out),
         None => push_word(b"-", out),
     }
 }

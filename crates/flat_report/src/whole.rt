@@ -23,13 +23,11 @@ use std::alloc::Global;
 #[inline(always)]
 pub(crate) fn push_whole<S: Shown>(
     alloc: Global,
-    design: &S,
     texts: &PathTexts<'_, S>,
     item: ItemRef<'_>,
     out: &mut Vec<u8>,
 ) -> Result<bool, NoMemory>
-    requires same { texts.now ≡ S.design design.now }
-    ensures whole { IfOk result (IsWhole out.old.items out.new.items (item_line (S.design design.now) (item_of item.entry))) }
+    ensures whole { IfOk result (IsWhole out.old.items out.new.items (item_line texts.now (item_of item.entry))) }
     ensures grows { Grows out.old.items out.new.items }
 {
     match item {
@@ -37,14 +35,14 @@ pub(crate) fn push_whole<S: Shown>(
             path,
             cell,
             properties,
-        } => whole_enter(alloc, design, texts, path, cell, properties, out),
-        ItemRef::Net { path, net, first } => whole_net(design, texts, path, net, first, out),
+        } => whole_enter(alloc, texts, path, cell, properties, out),
+        ItemRef::Net { path, net, first } => whole_net(texts, path, net, first, out),
         ItemRef::Pin {
             path,
             port,
             bit,
             first,
-        } => whole_pin(design, texts, path, port, bit, first, out),
+        } => whole_pin(texts, path, port, bit, first, out),
     }
 }
 
@@ -52,15 +50,13 @@ pub(crate) fn push_whole<S: Shown>(
 #[inline(always)]
 fn whole_enter<S: Shown>(
     alloc: Global,
-    design: &S,
     texts: &PathTexts<'_, S>,
     path: &[u32],
     cell: CellId,
     properties: PropertiesRef<'_>,
     out: &mut Vec<u8>,
 ) -> Result<bool, NoMemory>
-    requires same { texts.now ≡ S.design design.now }
-    ensures whole { IfOk result (IsWhole out.old.items out.new.items (item_line (S.design design.now) (Item.Enter path.now cell (properties_of properties.entry)))) }
+    ensures whole { IfOk result (IsWhole out.old.items out.new.items (item_line texts.now (Item.Enter path.now cell (properties_of properties.entry)))) }
     ensures grows { Grows out.old.items out.new.items }
 {
     let Some(unchanged) = properties.unchanged() else {
@@ -69,6 +65,7 @@ fn whole_enter<S: Shown>(
     let Some(at) = texts.find(path) else {
         return Ok(false);
     };
+    let design = texts.design();
     let words: &[&[u8]] = &[b"inst", at.text, lib_name(design, cell)];
     push_ended(alloc, words, cell_name(design, cell), unchanged, out)?;
     Ok(true)
@@ -124,15 +121,13 @@ fn push_ended(
 /// The line of a net.
 #[inline(always)]
 fn whole_net<S: Shown>(
-    design: &S,
     texts: &PathTexts<'_, S>,
     path: &[u32],
     net: u32,
     first: NetRef<'_>,
     out: &mut Vec<u8>,
 ) -> Result<bool, NoMemory>
-    requires same { texts.now ≡ S.design design.now }
-    ensures whole { IfOk result (IsWhole out.old.items out.new.items (item_line (S.design design.now) (Item.Net path.now net (net_of first.entry)))) }
+    ensures whole { IfOk result (IsWhole out.old.items out.new.items (item_line texts.now (Item.Net path.now net (net_of first.entry)))) }
     ensures grows { Grows out.old.items out.new.items }
 {
     let Some(at) = texts.find(path) else {
@@ -141,6 +136,7 @@ fn whole_net<S: Shown>(
     let Some(to) = texts.find(first.path) else {
         return Ok(false);
     };
+    let design = texts.design();
     push_spaced(
         &[
             b"net",
@@ -157,7 +153,6 @@ fn whole_net<S: Shown>(
 /// The line of a pin.
 #[inline(always)]
 fn whole_pin<S: Shown>(
-    design: &S,
     texts: &PathTexts<'_, S>,
     path: &[u32],
     port: u32,
@@ -165,13 +160,13 @@ fn whole_pin<S: Shown>(
     first: Option<NetRef<'_>>,
     out: &mut Vec<u8>,
 ) -> Result<bool, NoMemory>
-    requires same { texts.now ≡ S.design design.now }
-    ensures whole { IfOk result (IsWhole out.old.items out.new.items (item_line (S.design design.now) (Item.Pin path.now port bit (option_map net_of first.entry)))) }
+    ensures whole { IfOk result (IsWhole out.old.items out.new.items (item_line texts.now (Item.Pin path.now port bit (option_map net_of first.entry)))) }
     ensures grows { Grows out.old.items out.new.items }
 {
     let Some(at) = texts.find(path) else {
         return Ok(false);
     };
+    let design = texts.design();
     let name = port_name(design, Some(at.cell), port);
     let mut buffer = Buffer::new();
     let digits = buffer.format(bit).as_bytes();

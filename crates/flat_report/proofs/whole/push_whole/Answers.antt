@@ -9,5 +9,5 @@ use Rattle.flat_report.proofs.whole.push_whole.Goals as goal
 pub returns-in-Enter-clause-whole : goal.returns-in-Enter-clause-whole
 returns-in-Enter-clause-whole g c =
     subst
-    (λ (item : ItemRef). IfOk c.whole_enter.result (IsWhole c.args.out.now.items c.whole_enter.new.out.items (item_line (g.S.Shown.design c.args.design.now) (item_of item))))
+    (λ (item : ItemRef). IfOk c.whole_enter.result (IsWhole c.args.out.now.items c.whole_enter.new.out.items (item_line c.args.texts.now (item_of item))))
     (sym c.in-Enter.is) c.whole_enter.ensures.whole
