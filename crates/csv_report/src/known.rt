@@ -44,49 +44,40 @@ fn net_in<S: Shown>(design: &S, cell: CellId, net: u32) -> &[u8]
 
 /// A port of the occurrence at a path, where its text is kept.
 pub(crate) fn known_port<'a, S: Shown>(
-    design: &'a S,
     texts: &'a PathTexts<'_, S>,
     path: &[u32],
     port: u32,
 ) -> Option<Known<'a>>
-    requires same { texts.now ≡ S.design design.now }
-    ensures path { IfSome result (λ k. k.path.now ≡ path_text (S.design design.now) path.now) }
-    ensures name { IfSome result (λ k. k.name.now ≡ port_text (S.design design.now) path.now port) }
+    ensures path { IfSome result (λ k. k.path.now ≡ path_text texts.now path.now) }
+    ensures name { IfSome result (λ k. k.name.now ≡ port_text texts.now path.now port) }
 {
     let found = texts.find(path)?;
     Some(Known {
         path: found.text,
-        name: port_in(design, found.cell, port),
+        name: port_in(texts.design(), found.cell, port),
     })
 }
 
 /// A net, where the text of its path is kept.
-fn known_net<'a, S: Shown>(
-    design: &'a S,
-    texts: &'a PathTexts<'_, S>,
-    net: NetRef<'_>,
-) -> Option<Known<'a>>
-    requires same { texts.now ≡ S.design design.now }
-    ensures { IfSome result (λ k. k.path.now ∷ k.name.now ∷ [] ≡ net_words (S.design design.now) (net_of net.entry)) }
+fn known_net<'a, S: Shown>(texts: &'a PathTexts<'_, S>, net: NetRef<'_>) -> Option<Known<'a>>
+    ensures { IfSome result (λ k. k.path.now ∷ k.name.now ∷ [] ≡ net_words texts.now (net_of net.entry)) }
 {
     let found = texts.find(net.path)?;
     Some(Known {
         path: found.text,
-        name: net_in(design, found.cell, net.net),
+        name: net_in(texts.design(), found.cell, net.net),
     })
 }
 
 /// A representative, where the text of its path is kept; two empty texts where there is none.
 pub(crate) fn known_first<'a, S: Shown>(
-    design: &'a S,
     texts: &'a PathTexts<'_, S>,
     first: Option<NetRef<'_>>,
 ) -> Option<Known<'a>>
-    requires same { texts.now ≡ S.design design.now }
-    ensures { IfSome result (λ k. k.path.now ∷ k.name.now ∷ [] ≡ net_fields (S.design design.now) (option_map net_of first.entry)) }
+    ensures { IfSome result (λ k. k.path.now ∷ k.name.now ∷ [] ≡ net_fields texts.now (option_map net_of first.entry)) }
 {
     match first {
-        Some(net) => known_net(design, texts, net),
+        Some(net) => known_net(texts, net),
         None => Some(Known {
             path: &[],
             name: &[],

@@ -2,6 +2,7 @@
 #![tactic(auto)]
 
 mod known;
+mod pin;
 mod pins;
 mod places;
 mod rows;

@@ -1,15 +1,14 @@
 //! The rows of pins on their way to a sink.
-ghost use Rattle.std.specs.Prelude.{◌≡◌, [], ◌∷◌};
-ghost use Rattle.std.specs.Option.{option_map};
-ghost use Rattle.flat_csv_spec.specs.Fields.{row};
-ghost use Rattle.flat_csv_spec.specs.PinTable.{pin_fields, pin_row as row_of_item};
+ghost use Rattle.flat_csv_spec.specs.PinTable.{pin_row as row_of_item};
 ghost use Rattle.netdb_outside.specs.Buffered.{Writes};
-ghost use Rattle.flat_items.specs.Lent.{item_of, net_of};
+ghost use Rattle.flat_items.specs.Lent.{item_of};
+ghost use Rattle.csv_report.specs.Parts.{row_of_pin};
 
 use crate::known::{known_first, known_port};
+use crate::pin::PinRef;
 use crate::places::{first_name, first_path_bytes, path_bytes, port_name};
 use crate::sink::RowSink;
-use flat_items::{ItemRef, NetRef};
+use flat_items::ItemRef;
 use itoa::Buffer;
 use netdb_outside::Sink;
 use netlist_schema::Shown;
@@ -32,50 +31,42 @@ pub fn put_item<S: Shown, K: Sink>(
             port,
             bit,
             first,
-        } => put_pin(
-            alloc,
-            texts.design(),
-            texts,
-            path,
-            port,
-            bit,
-            first,
-            rows,
-            out,
-        ),
+        } => {
+            let pin = PinRef {
+                path,
+                port,
+                bit,
+                first,
+            };
+            put_pin(alloc, texts, pin, rows, out);
+        }
         ItemRef::Enter { .. } => (),
         ItemRef::Net { .. } => (),
     }
 }
 
 /// Writes the row of a pin.
-fn put_pin<'x, S: Shown, K: Sink>(
+fn put_pin<S: Shown, K: Sink>(
     alloc: Global,
-    design: &'x S,
-    texts: &'x PathTexts<'_, S>,
-    path: &[u32],
-    port: u32,
-    bit: u32,
-    first: Option<NetRef<'_>>,
+    texts: &PathTexts<'_, S>,
+    pin: PinRef<'_>,
     rows: &mut RowSink,
     out: &mut K,
 )
-    requires same { texts.now ≡ S.design design.now }
-    ensures { Writes K.written K.faults out.old rows.old out.new rows.new
-        (row (pin_fields (S.design design.now) path.now port bit (option_map net_of first.entry))) }
+    ensures { Writes K.written K.faults out.old rows.old out.new rows.new (row_of_pin texts.now pin.entry) }
 {
-    let Some(at) = known_port(design, texts, path, port) else {
-        return put_made(alloc, design, path, port, bit, first, rows, out);
+    let Some(at) = known_port(texts, pin.path, pin.port) else {
+        return put_made(alloc, texts.design(), pin, rows, out);
     };
-    let Some(net) = known_first(design, texts, first) else {
-        return put_made(alloc, design, path, port, bit, first, rows, out);
+    let Some(net) = known_first(texts, pin.first) else {
+        return put_made(alloc, texts.design(), pin, rows, out);
     };
     let mut buffer = Buffer::new();
     rows.put_row(
         &[
             at.path,
             at.name,
-            buffer.format(bit).as_bytes(),
+            buffer.format(pin.bit).as_bytes(),
             net.path,
             net.name,
         ],
@@ -87,24 +78,20 @@ fn put_pin<'x, S: Shown, K: Sink>(
 fn put_made<S: Shown, K: Sink>(
     alloc: Global,
     design: &S,
-    path: &[u32],
-    port: u32,
-    bit: u32,
-    first: Option<NetRef<'_>>,
+    pin: PinRef<'_>,
     rows: &mut RowSink,
     out: &mut K,
 )
-    ensures { Writes K.written K.faults out.old rows.old out.new rows.new
-        (row (pin_fields (S.design design.now) path.now port bit (option_map net_of first.entry))) }
+    ensures { Writes K.written K.faults out.old rows.old out.new rows.new (row_of_pin (S.design design.now) pin.entry) }
 {
     if rows.is_stuck() {
         return;
     }
-    let Ok(place) = path_bytes(alloc, design, path) else {
+    let Ok(place) = path_bytes(alloc, design, pin.path) else {
         rows.run_out();
         return;
     };
-    let Ok(net_place) = first_path_bytes(alloc, design, first) else {
+    let Ok(net_place) = first_path_bytes(alloc, design, pin.first) else {
         rows.run_out();
         return;
     };
@@ -112,10 +99,10 @@ fn put_made<S: Shown, K: Sink>(
     rows.put_row(
         &[
             place.as_slice(),
-            port_name(design, path, port),
-            buffer.format(bit).as_bytes(),
+            port_name(design, pin.path, pin.port),
+            buffer.format(pin.bit).as_bytes(),
             net_place.as_slice(),
-            first_name(design, first),
+            first_name(design, pin.first),
         ],
         out,
     );

@@ -1,13 +1,13 @@
 //! The row of an item.
 ghost use Rattle.std.specs.Prelude.{◌≡◌, ◌++◌, IfOk, OnErr, OnOk};
-ghost use Rattle.flat_csv_spec.specs.PinTable.{header as names_of_columns, pin_fields, pin_row as row_of_item};
-ghost use Rattle.std.specs.Option.{option_map};
-ghost use Rattle.flat_csv_spec.specs.Fields.{row};
-ghost use Rattle.flat_items.specs.Lent.{item_of, net_of};
+ghost use Rattle.flat_csv_spec.specs.PinTable.{header as names_of_columns, pin_row as row_of_item};
+ghost use Rattle.flat_items.specs.Lent.{item_of};
+ghost use Rattle.csv_report.specs.Parts.{row_of_pin};
 
+use crate::pin::PinRef;
 use crate::places::{first_name, first_path_bytes, path_bytes, port_name};
 use crate::written::row_bytes;
-use flat_items::{ItemRef, NetRef};
+use flat_items::ItemRef;
 use flat_spec::Item;
 use itoa::Buffer;
 use netlist_schema::{NoMemory, Shown};
@@ -53,7 +53,15 @@ pub fn lent_row<S: Shown>(
             port,
             bit,
             first,
-        } => push_pin(alloc, design, path, port, bit, first, out),
+        } => {
+            let pin = PinRef {
+                path,
+                port,
+                bit,
+                first,
+            };
+            push_pin(alloc, design, pin, out)
+        }
         ItemRef::Enter { .. } => Ok(()),
         ItemRef::Net { .. } => Ok(()),
     }
@@ -63,42 +71,32 @@ pub fn lent_row<S: Shown>(
 fn push_pin<S: Shown>(
     alloc: Global,
     design: &S,
-    path: &[u32],
-    port: u32,
-    bit: u32,
-    first: Option<NetRef<'_>>,
+    pin: PinRef<'_>,
     out: &mut Vec<u8>,
 ) -> Result<(), NoMemory>
-    ensures ok { OnOk result (out.new.items ≡ out.old.items ++ row (pin_fields (S.design design.now) path.now port bit (option_map net_of first.entry))) }
+    ensures ok { OnOk result (out.new.items ≡ out.old.items ++ row_of_pin (S.design design.now) pin.entry) }
     ensures err { OnErr result (out.new.items ≡ out.old.items) }
 {
-    let text = pin_bytes(alloc, design, path, port, bit, first)?;
+    let text = pin_bytes(alloc, design, pin)?;
     out.extend_from_slice(&text)?;
     Ok(())
 }
 
 /// The row of a pin.
-fn pin_bytes<S: Shown>(
-    alloc: Global,
-    design: &S,
-    path: &[u32],
-    port: u32,
-    bit: u32,
-    first: Option<NetRef<'_>>,
-) -> Result<Vec<u8>, NoMemory>
-    ensures { IfOk result (λ text. text.items ≡ row (pin_fields (S.design design.now) path.now port bit (option_map net_of first.entry))) }
+fn pin_bytes<S: Shown>(alloc: Global, design: &S, pin: PinRef<'_>) -> Result<Vec<u8>, NoMemory>
+    ensures { IfOk result (λ text. text.items ≡ row_of_pin (S.design design.now) pin.entry) }
 {
-    let place = path_bytes(alloc, design, path)?;
-    let net_place = first_path_bytes(alloc, design, first)?;
+    let place = path_bytes(alloc, design, pin.path)?;
+    let net_place = first_path_bytes(alloc, design, pin.first)?;
     let mut buffer = Buffer::new();
     row_bytes(
         alloc,
         &[
             place.as_slice(),
-            port_name(design, path, port),
-            buffer.format(bit).as_bytes(),
+            port_name(design, pin.path, pin.port),
+            buffer.format(pin.bit).as_bytes(),
             net_place.as_slice(),
-            first_name(design, first),
+            first_name(design, pin.first),
         ],
     )
 }
