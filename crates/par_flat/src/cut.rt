@@ -1,6 +1,7 @@
 //! How the items of a flattening are cut.
 ghost use Rattle.std.specs.Prelude.{◌≡◌, ◌<◌, ◌≤◌, ◌+◌, ◌*◌, ◌^◌};
 ghost use Rattle.par_flat.specs.Parts.{first_of, most_of, share_of};
+ghost use Rattle.par_flat.specs.declared.limits.TheConstants.{MOST_WORKERS};
 
 /// How the items are cut: each worker has a share, and each of the first so many one item more. The last worker has all that are left.
 #[derive(Clone, Copy)]
@@ -49,7 +50,7 @@ fn share_of(cut: Cut, worker: u32) -> u64
 /// The most items that a worker gives: no limit for the last one.
 pub fn most_of(cut: Cut, worker: u32) -> Option<u64>
     requires one { worker < cut.workers }
-    requires few { cut.workers ≤ 64 }
+    requires few { cut.workers ≤ MOST_WORKERS }
     requires fits { cut.workers * cut.share + cut.more < 2 ^ 64 }
     ensures { result ≡ most_of cut worker }
 {

@@ -2,6 +2,7 @@
 ghost use Rattle.std.specs.Prelude.{◌≡◌, ◌<◌, ◌≤◌, ◌+◌, ◌*◌, ◌^◌, ◌++◌, ◌↔◌, ℕ, Err, IfOk, IsOk, None, OnOk, slice_index_or, vec_len};
 ghost use Rattle.flat_spec.specs.Flattening.{flattening};
 ghost use Rattle.par_flat.specs.Parts.{AreJoined, items_in, part_of};
+ghost use Rattle.par_flat.specs.declared.limits.TheConstants.{MOST_WORKERS};
 
 use crate::cut::{Cut, even_cut, first_of, most_of};
 use crate::parts::items_from;
@@ -20,7 +21,7 @@ fn part_of<S: Shown + Drop>(
     worker: u32,
 ) -> Result<Row<Item>, NoMemory>
     requires one { worker < cut.workers }
-    requires few { cut.workers ≤ 64 }
+    requires few { cut.workers ≤ MOST_WORKERS }
     requires fits { cut.workers * cut.share + cut.more < 2 ^ 64 }
     ensures { IfOk result (λ part. part ≡ part_of (flattening ground.now) cut worker) }
 {
@@ -36,7 +37,7 @@ fn work<S: Shown + Drop, G: Gate>(
     worker: u32,
 ) -> Result<Row<Item>, NoMemory>
     requires one { worker < cut.workers }
-    requires few { cut.workers ≤ 64 }
+    requires few { cut.workers ≤ MOST_WORKERS }
     requires fits { cut.workers * cut.share + cut.more < 2 ^ 64 }
     ensures { IfOk result (λ part. part ≡ part_of (flattening ground.now) cut worker) }
 {
@@ -53,7 +54,7 @@ fn work_each<R: Threads + Sync, S: Shown + Drop + Sync, G: Gate + Sync>(
     cut: Cut,
     gate: &G,
 ) -> Result<Vec<Result<Row<Item>, NoMemory>>, NoMemory>
-    requires few { cut.workers ≤ 64 }
+    requires few { cut.workers ≤ MOST_WORKERS }
     requires fits { cut.workers * cut.share + cut.more < 2 ^ 64 }
     ensures len { IfOk result (λ parts. vec_len parts ≡ cut.workers) }
     ensures each { IfOk result (λ parts. (w : ℕ) (d : _) → w < cut.workers → IfOk (slice_index_or parts.items w d) (λ part. part ≡ part_of (flattening ground.now) cut w)) }
@@ -63,7 +64,7 @@ fn work_each<R: Threads + Sync, S: Shown + Drop + Sync, G: Gate + Sync>(
         ground.alloc(),
         cut.workers as usize,
         &|worker: usize| -> Result<Row<Item>, NoMemory>
-            requires { (worker < cut.workers) × (cut.workers ≤ 64) × (cut.workers * cut.share + cut.more < 2 ^ 64) }
+            requires { (worker < cut.workers) × (cut.workers ≤ MOST_WORKERS) × (cut.workers * cut.share + cut.more < 2 ^ 64) }
             ensures { IfOk result (λ part. part ≡ part_of (flattening ground.entry.now) cut worker) }
         { work(ground, cut, gate, worker as u32) },
     )?;
@@ -103,7 +104,7 @@ fn all_items<R: Threads + Sync, S: Shown + Drop + Sync, G: Gate + Sync>(
     workers: u32,
     gate: &G,
 ) -> Result<Vec<Item>, NoMemory>
-    requires many { (1 ≤ workers) × (workers ≤ 64) }
+    requires many { (1 ≤ workers) × (workers ≤ MOST_WORKERS) }
     ensures { IfOk result (λ items. items.items ≡ flattening ground.now) }
 {
     let cut = even_cut(workers, ground.item_count());
@@ -125,7 +126,7 @@ pub fn par_flat<R: Threads + Sync, S: Shown + Sync, G: Gate + Sync>(
     workers: u32,
     gate: &G,
 ) -> Result<Row<Item>, WalkError>
-    requires { (1 ≤ workers) × (workers ≤ 64) }
+    requires { (1 ≤ workers) × (workers ≤ MOST_WORKERS) }
     ensures items { IfOk result (λ items. items ≡ flattening (S.design design.now)) }
     ensures no_top { (result ≡ Err WalkError.NoTop) ↔ ((S.design design.now).top ≡ None) }
 {

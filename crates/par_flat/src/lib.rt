@@ -4,6 +4,7 @@
 mod cut;
 mod desks;
 mod items;
+mod limits;
 mod lines;
 mod parts;
 mod rounds;
@@ -11,5 +12,6 @@ mod write;
 
 pub use flat_writer::FlatError;
 pub use items::par_flat;
+pub use limits::MOST_WORKERS;
 pub use occ_walk::WalkError;
 pub use write::write_par_flat;

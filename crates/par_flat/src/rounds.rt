@@ -1,5 +1,6 @@
 //! How many items are made into lines at once.
 ghost use Rattle.std.specs.Prelude.{◌≡◌, ◌<◌, ◌≤◌, ◌+◌, ◌*◌, ◌/◌, min};
+ghost use Rattle.par_flat.specs.declared.limits.TheConstants.{MOST_WORKERS};
 
 use crate::desks::Most;
 
@@ -29,7 +30,7 @@ pub fn are_few(workers: u32, count: u64) -> bool {
 
 /// What each worker makes at most, where all of them make so many items: an even share of these, and of the bytes.
 pub fn share_of(workers: u32, left: u64) -> Most
-    requires { (1 ≤ workers) × (workers ≤ 64) }
+    requires { (1 ≤ workers) × (workers ≤ MOST_WORKERS) }
     ensures all { left ≤ workers * result.items }
     ensures even { workers * result.items < left + workers }
     ensures bytes { result.bytes ≡ MOST_BYTES / workers }

@@ -8,6 +8,7 @@ ghost use Rattle.flat_spec.specs.Types.{Item};
 ghost use Rattle.flat_lines_spec.specs.Lines.{flattening_text, item_lines};
 ghost use Rattle.par_flat.specs.Desks.{AreDesks, AreParts, IsMade, IsReady, IsSeat};
 ghost use Rattle.par_flat.specs.Lines.{IsRound};
+ghost use Rattle.par_flat.specs.declared.limits.TheConstants.{MOST_WORKERS};
 
 use crate::desks::{Desk, Most, desks_of};
 use crate::lines::make_lines;
@@ -174,7 +175,7 @@ fn put_items<R: Threads + Sync, S: Shown + Drop + Sync, G: Gate + Sync, K: Sink>
     gate: &G,
     out: &mut K,
 ) -> Result<(), WriteError>
-    requires many { (1 ≤ workers) × (workers ≤ 64) }
+    requires many { (1 ≤ workers) × (workers ≤ MOST_WORKERS) }
     requires count { count ≡ length (flattening ground.now) }
     requires few { count < MOST_ITEMS }
     ensures ok { OnOk result (Appends (K.written out.old) (K.written out.new) (item_lines ground.now (flattening ground.now))) }
@@ -210,7 +211,7 @@ fn put_all<R: Threads + Sync, S: Shown + Drop + Sync, G: Gate + Sync, K: Sink>(
     gate: &G,
     out: &mut K,
 ) -> Result<(), WriteError>
-    requires many { (1 ≤ workers) × (workers ≤ 64) }
+    requires many { (1 ≤ workers) × (workers ≤ MOST_WORKERS) }
     requires count { count ≡ length (flattening ground.now) }
     requires few { count < MOST_ITEMS }
     ensures ok { OnOk result (Appends (K.written out.old) (K.written out.new) (item_lines ground.now (flattening ground.now) ++ (codes "end" ++ 10 ∷ []))) }
@@ -232,7 +233,7 @@ fn write_counted<R: Threads + Sync, S: Shown, W: Shown + Drop + Sync, G: Gate + 
     out: &mut K,
 ) -> Result<(), FlatError>
     requires same { ground.now ≡ S.design design.now }
-    requires many { (1 ≤ workers) × (workers ≤ 64) }
+    requires many { (1 ≤ workers) × (workers ≤ MOST_WORKERS) }
     ensures has_top { result ≡ Err FlatError.NoTop → ⊥ }
     ensures ok { OnOk result (Appends (K.written out.old) (K.written out.new) (flattening_text (S.design design.now) None)) }
     ensures err { OnErr result (AppendsFront (K.written out.old) (K.written out.new) (flattening_text (S.design design.now) None)) }
@@ -267,7 +268,7 @@ pub fn write_par_flat<R: Threads + Sync, S: Shown + Sync, G: Gate + Sync, K: Sin
     gate: &G,
     out: &mut K,
 ) -> Result<(), FlatError>
-    requires { (1 ≤ workers) × (workers ≤ 64) }
+    requires { (1 ≤ workers) × (workers ≤ MOST_WORKERS) }
     ensures no_top { (result ≡ Err FlatError.NoTop) ↔ ((S.design design.now).top ≡ None) }
     ensures untouched { result ≡ Err FlatError.NoTop → out.new ≡ out.old }
     ensures ok { OnOk result (Appends (K.written out.old) (K.written out.new) (flattening_text (S.design design.now) None)) }

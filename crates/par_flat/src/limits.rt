@@ -1,0 +1,4 @@
+//! How many workers there may be.
+
+/// The most workers beside each other.
+pub const MOST_WORKERS: u32 = 64;
