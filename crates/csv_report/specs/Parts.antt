@@ -1,6 +1,5 @@
--- What a field is made of, and the fields of a pin.
-use Rattle.std.specs.Prelude.{ℕ, List, ◌++◌, codes}
-use Rattle.std.specs.List.{flat_map}
+-- The row of a pin.
+use Rattle.std.specs.Prelude.{ℕ, List}
 use Rattle.std.specs.Option.{option_map}
 use Rattle.netlist_schema.specs.Design.{Design}
 use Rattle.flat_items.specs.Lent.{net_of}
@@ -8,10 +7,6 @@ use Rattle.flat_csv_spec.specs.Fields.{row}
 use Rattle.flat_csv_spec.specs.PinTable.{pin_fields}
 use Rattle.csv_report.specs.declared.pin.PinRef.{PinRef}
 
--- each identifier behind `/`
-abbrev pub behind_slashes : List (List ℕ) → List ℕ
-behind_slashes names = flat_map (λ name. codes "/" ++ name) names
-
--- the row of a pin
+-- its fields, as a row
 abbrev pub row_of_pin : Design → PinRef → List ℕ
 row_of_pin d pin = row (pin_fields d pin.path.now pin.port pin.bit (option_map net_of pin.first))

@@ -1,15 +1,14 @@
 //! Paths of occurrences as text, and identifiers of what stands at them.
-ghost use Rattle.std.specs.Prelude.{◌≡◌, [], ◌++◌, IfOk, OnOk, option_and_then};
+ghost use Rattle.std.specs.Prelude.{◌≡◌, [], IfOk, option_and_then};
 ghost use Rattle.std.specs.Option.{option_map, option_map_or};
-ghost use Rattle.flat_spec.specs.Effective.{names_along};
 ghost use Rattle.flat_spec.specs.Paths.{cell_along};
 ghost use Rattle.flat_lines_spec.specs.Lines.{net_text, path_text, port_text};
-ghost use Rattle.csv_report.specs.Parts.{behind_slashes};
 ghost use Rattle.flat_items.specs.Lent.{net_of};
 
 use flat_items::NetRef;
-use flat_lookup::{cell_along, inst_at, net_at};
+use flat_lookup::{cell_along, net_at};
 use netlist_schema::{CellId, NoMemory, Shown};
+use path_texts::{PathTexts, push_path};
 use std::alloc::Global;
 
 /// The path of an occurrence: `/` before the identifier of each instance to which it leads from the top, and `/` alone for the top.
@@ -17,34 +16,8 @@ pub fn path_bytes<S: Shown>(alloc: Global, design: &S, path: &[u32]) -> Result<V
     ensures { IfOk result (λ text. text.items ≡ path_text (S.design design.now) path.now) }
 {
     let mut text = Vec::new(alloc);
-    if let Some(top) = design.top() {
-        push_names(design, top.cell, path, &mut text)?;
-    }
-    if text.is_empty() {
-        text.push(b'/')?;
-    }
+    push_path(&PathTexts::new(alloc, design), path, &mut text)?;
     Ok(text)
-}
-
-/// Appends `/` and the identifier of each instance to which the steps lead from a cell, up to a step that leads nowhere.
-fn push_names<S: Shown>(
-    design: &S,
-    root: CellId,
-    steps: &[u32],
-    out: &mut Vec<u8>,
-) -> Result<(), NoMemory>
-    ensures { OnOk result (out.new.items ≡ out.old.items ++ behind_slashes (names_along (S.design design.now) root steps.now)) }
-{
-    let mut at = root;
-    for step in steps {
-        let Some(inst) = inst_at(design, at, *step) else {
-            return Ok(());
-        };
-        out.push(b'/')?;
-        out.extend_from_slice(inst.name.id.as_slice())?;
-        at = inst.of;
-    }
-    Ok(())
 }
 
 /// The cell of the occurrence at a path, where there is one.

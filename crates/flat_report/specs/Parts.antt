@@ -1,4 +1,4 @@
--- What a line is made of: words behind blanks, identifiers behind `/`, and what stands at a place of the design.
+-- What a line is made of: words behind blanks, and what stands at a place of the design.
 use Rattle.std.specs.Prelude.{◌≡◌, ℕ, Bool, true, false, List, ◌++◌, codes, Option, slice_get, option_and_then}
 use Rattle.std.specs.List.{flat_map}
 use Rattle.netlist_schema.specs.Design.{Design}
@@ -8,10 +8,6 @@ use Rattle.flat_spec.specs.Paths.{nets_at}
 -- each word behind a blank
 abbrev pub behind_blanks : List (List ℕ) → List ℕ
 behind_blanks words = flat_map (λ word. codes " " ++ word) words
-
--- each identifier behind `/`
-abbrev pub behind_slashes : List (List ℕ) → List ℕ
-behind_slashes names = flat_map (λ name. codes "/" ++ name) names
 
 -- a net of a cell, where there is the cell and it has one of that number
 abbrev pub net_in : Design → Option CellId → ℕ → Option Net

@@ -13,6 +13,10 @@ use Rattle.path_texts.specs.declared.marks.Marked.{Marked}
 abbrev pub steps_text : Design → CellId → List ℕ → List ℕ
 steps_text d c steps = flat_map (λ inst. codes "/" ++ inst.name.id) (insts_along d c steps)
 
+-- each identifier behind `/`
+abbrev pub behind_slashes : List (List ℕ) → List ℕ
+behind_slashes names = flat_map (λ name. codes "/" ++ name) names
+
 -- the steps lead to the cell, and their text has that length
 pub record IsMark (d : Design) (root : CellId) (steps : List ℕ) (m : Mark) : Type 0 where
   pub cell_is : Reaches d root steps m.cell

@@ -2,6 +2,8 @@
 #![tactic(auto)]
 
 mod kept;
+mod made;
 mod marks;
 
 pub use kept::{PathText, PathTexts};
+pub use made::push_path;
