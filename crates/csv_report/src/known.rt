@@ -1,15 +1,13 @@
 //! What stands at a path whose text is kept.
-ghost use Rattle.std.specs.Prelude.{◌≡◌, [], ◌∷◌, IfSome, option_and_then, slice_get};
-ghost use Rattle.std.specs.Option.{option_map, option_map_or};
-ghost use Rattle.netlist_schema.specs.Design.{cell_at};
-ghost use Rattle.flat_spec.specs.Paths.{nets_at};
+ghost use Rattle.std.specs.Prelude.{◌≡◌, [], ◌∷◌, IfSome};
+ghost use Rattle.std.specs.Option.{option_map};
 ghost use Rattle.flat_lines_spec.specs.Lines.{net_words, path_text, port_text};
 ghost use Rattle.flat_csv_spec.specs.PinTable.{net_fields};
 ghost use Rattle.flat_items.specs.Lent.{net_of};
 
 use flat_items::NetRef;
-use flat_lookup::net_at;
-use netlist_schema::{CellId, Shown};
+use flat_lookup::{net_name, port_name};
+use netlist_schema::Shown;
 use path_texts::PathTexts;
 
 /// The path of an occurrence, and the identifier of a port or net there.
@@ -17,29 +15,6 @@ use path_texts::PathTexts;
 pub struct Known<'a> {
     pub path: &'a [u8],
     pub name: &'a [u8],
-}
-
-/// The identifier of a port of a cell; nothing where there is no such port.
-fn port_in<S: Shown>(design: &S, cell: CellId, port: u32) -> &[u8]
-    ensures { result.now ≡ option_map_or (λ p. p.name.id) (option_and_then (λ body. slice_get body.ports port) (cell_at (S.design design.now) cell)) [] }
-{
-    let Some(body) = design.cell(cell) else {
-        return &[];
-    };
-    match body.ports.as_slice().get(port as usize) {
-        Some(port) => port.name.id.as_slice(),
-        None => &[],
-    }
-}
-
-/// The identifier of a net of a cell; nothing where there is no such net.
-fn net_in<S: Shown>(design: &S, cell: CellId, net: u32) -> &[u8]
-    ensures { result.now ≡ option_map_or (λ n. n.name.id) (slice_get (nets_at (S.design design.now) cell) net) [] }
-{
-    match net_at(design, cell, net) {
-        Some(net) => net.name.id.as_slice(),
-        None => &[],
-    }
 }
 
 /// A port of the occurrence at a path, where its text is kept.
@@ -54,7 +29,7 @@ pub(crate) fn known_port<'a, S: Shown>(
     let found = texts.find(path)?;
     Some(Known {
         path: found.text,
-        name: port_in(texts.design(), found.cell, port),
+        name: port_name(texts.design(), Some(found.cell), port),
     })
 }
 
@@ -65,7 +40,7 @@ fn known_net<'a, S: Shown>(texts: &'a PathTexts<'_, S>, net: NetRef<'_>) -> Opti
     let found = texts.find(net.path)?;
     Some(Known {
         path: found.text,
-        name: net_in(texts.design(), found.cell, net.net),
+        name: net_name(texts.design(), Some(found.cell), net.net),
     })
 }
 

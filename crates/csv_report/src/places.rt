@@ -1,12 +1,12 @@
 //! Paths of occurrences as text, and identifiers of what stands at them.
-ghost use Rattle.std.specs.Prelude.{◌≡◌, [], IfOk, option_and_then};
+ghost use Rattle.std.specs.Prelude.{◌≡◌, [], IfOk};
 ghost use Rattle.std.specs.Option.{option_map, option_map_or};
-ghost use Rattle.flat_spec.specs.Paths.{cell_along};
+ghost use Rattle.flat_spec.specs.Paths.{cell_below_top};
 ghost use Rattle.flat_lines_spec.specs.Lines.{net_text, path_text, port_text};
 ghost use Rattle.flat_items.specs.Lent.{net_of};
 
 use flat_items::NetRef;
-use flat_lookup::{cell_along, net_at};
+use flat_lookup::cell_along;
 use netlist_schema::{CellId, NoMemory, Shown};
 use path_texts::{PathTexts, push_path};
 use std::alloc::Global;
@@ -22,7 +22,7 @@ pub fn path_bytes<S: Shown>(alloc: Global, design: &S, path: &[u32]) -> Result<V
 
 /// The cell of the occurrence at a path, where there is one.
 fn cell_at_path<S: Shown>(design: &S, path: &[u32]) -> Option<CellId>
-    ensures { result ≡ option_and_then (λ top. cell_along (S.design design.now) top.cell path.now) (S.design design.now).top }
+    ensures { result ≡ cell_below_top (S.design design.now) path.now }
 {
     match design.top() {
         Some(top) => cell_along(design, top.cell, path),
@@ -34,29 +34,14 @@ fn cell_at_path<S: Shown>(design: &S, path: &[u32]) -> Option<CellId>
 pub fn port_name<'a, S: Shown>(design: &'a S, path: &[u32], port: u32) -> &'a [u8]
     ensures { result.now ≡ port_text (S.design design.now) path.now port }
 {
-    let Some(id) = cell_at_path(design, path) else {
-        return &[];
-    };
-    let Some(body) = design.cell(id) else {
-        return &[];
-    };
-    match body.ports.as_slice().get(port as usize) {
-        Some(port) => port.name.id.as_slice(),
-        None => &[],
-    }
+    flat_lookup::port_name(design, cell_at_path(design, path), port)
 }
 
 /// The identifier of a net; nothing where there is no such net.
 pub fn net_name<'a, S: Shown>(design: &'a S, net: NetRef<'_>) -> &'a [u8]
     ensures { result.now ≡ net_text (S.design design.now) (net_of net.entry) }
 {
-    let Some(id) = cell_at_path(design, net.path) else {
-        return &[];
-    };
-    match net_at(design, id, net.net) {
-        Some(net) => net.name.id.as_slice(),
-        None => &[],
-    }
+    flat_lookup::net_name(design, cell_at_path(design, net.path), net.net)
 }
 
 /// The path of a representative; no bytes where there is none.

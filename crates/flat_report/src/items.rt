@@ -8,11 +8,12 @@ ghost use Rattle.edif_spec.specs.PropertyText.{property_text};
 ghost use Rattle.flat_report.specs.Parts.{behind_blanks};
 ghost use Rattle.flat_items.specs.Lent.{item_of, net_of, properties_of};
 
-use crate::names::{cell_name, lib_name, port_name};
+use crate::names::{cell_name, lib_name};
 use crate::paths::{push_first, push_net_words, push_place};
 use crate::whole::push_whole;
 use crate::words::{push_number, push_properties, push_word};
 use flat_items::{ItemRef, NetRef, PropertiesRef};
+use flat_lookup::port_name;
 use flat_spec::Item;
 use netlist_schema::{CellId, NoMemory, Shown};
 use path_texts::PathTexts;

@@ -6,9 +6,9 @@ ghost use Rattle.flat_report.specs.Parts.{behind_blanks};
 ghost use Rattle.flat_spec.specs.Paths.{at_path, cell_below_top};
 ghost use Rattle.flat_items.specs.Lent.{net_of};
 
-use crate::names::net_name;
 use crate::words::push_word;
 use flat_items::NetRef;
+use flat_lookup::net_name;
 use netlist_schema::{CellId, NoMemory, Shown};
 use path_texts::{PathTexts, push_path};
 

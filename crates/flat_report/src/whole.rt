@@ -7,10 +7,11 @@ ghost use Rattle.flat_lines_spec.specs.Lines.{item_line, spaced};
 ghost use Rattle.flat_report.specs.Parts.{IsWhole};
 ghost use Rattle.flat_items.specs.Lent.{item_of, net_of, properties_of};
 
-use crate::names::{cell_name, lib_name, net_name, port_name};
+use crate::names::{cell_name, lib_name};
 use crate::words::push_properties;
 use edif_names::property_text;
 use flat_items::{ItemRef, NetRef, PropertiesRef};
+use flat_lookup::{net_name, port_name};
 use flat_spec::Item;
 use itoa::Buffer;
 use joined_words::push_words;
