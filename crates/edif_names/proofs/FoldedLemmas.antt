@@ -1,12 +1,13 @@
 -- Names that are the same: what is noted of one is noted of the other, and what one more name changes.
-use Rattle.std.proofs.Common.{nat_eq, eq-eqb, eqb-true, ◌≡◌, ℕ, List, [], ◌∷◌, ◌++◌, Bool, true, false, ◌||◌, not, cond, refl, sym, ap, ◌∙◌, Option, Some, None, true≢false}
+use Rattle.std.proofs.Common.{nat_eq, eq-eqb, eqb-true, ◌≡◌, ◌+◌, ◌<◌, ℕ, suc, List, [], ◌∷◌, ◌++◌, length, Bool, true, false, ◌||◌, not, cond, refl, sym, ap, ◌∙◌, subst, Option, Some, None, slice_get, true≢false, arith}
+use Rattle.std.specs.Prelude.{IfSome}
 use Rattle.std.specs.List.{list_any}
-use Rattle.std.specs.Option.{option_map_or}
-use Rattle.netlist_schema.proofs.Lists.{same_test}
+use Rattle.indexmap.specs.IndexMap.{get}
+use Rattle.netlist_schema.proofs.Lists.{get_behind, get_front, same_test}
 use Rattle.edif_spec.specs.Keyword.{same}
-use Rattle.edif_names.specs.declared.folded.Numbered.{Numbered}
-use Rattle.edif_names.specs.declared.folded.Noted.{Noted}
-use Rattle.edif_names.specs.Folded.{noted, noted_after, noted_from, one_more, are_several, hash_of, hash_from, seen_in}
+use Rattle.edif_names.specs.declared.folded.Folded.{Folded}
+use Rattle.edif_names.specs.declared.folded.Spot.{Spot}
+use Rattle.edif_names.specs.Folded.{AreSpotsOf, Numbered, noted, noted_after, noted_at, noted_by, one_more, hash_of, hash_from}
 use Rattle.edif_spec.proofs.SameLemmas.{same_says, says_same}
 
 -- two names that are the same are the same as the same names
@@ -20,18 +21,6 @@ same_as a b h x = let e = same_says a b h in
 pub same_hash : (a b : List ℕ) → same a b ≡ true → hash_of a ≡ hash_of b
 unfolding hash_of
 same_hash a b h = ap (hash_from 0) (same_says a b h)
-
-any_as : (a b : List ℕ) → same a b ≡ true → (ns : List Numbered) → list_any (λ m. same a m.name) ns ≡ list_any (λ m. same b m.name) ns
-any_as a b h [] = refl
-any_as a b h (n ∷ ns) = ap (λ v. v || list_any (λ m. same a m.name) ns) (same_as a b h n.name) ∙ ap (λ v. same b n.name || v) (any_as a b h ns)
-
--- and the same is noted of them
-pub noted_as : (a b : List ℕ) → same a b ≡ true → (ns : List Numbered) → noted a ns ≡ noted b ns
-noted_as a b h [] = refl
-noted_as a b h (n ∷ ns) =
-    ap (λ v. cond v (Some (record { id = n.id; is_only = not (list_any (λ m. same a m.name) ns) })) (noted a ns)) (same_as a b h n.name)
-    ∙ ap (λ v. cond (same b n.name) (Some (record { id = n.id; is_only = not v })) (noted a ns)) (any_as a b h ns)
-    ∙ ap (λ v. cond (same b n.name) (Some (record { id = n.id; is_only = not (list_any (λ m. same b m.name) ns) })) v) (noted_as a b h ns)
 
 any_push : (q : List ℕ) (ns : List Numbered) (n : Numbered) → list_any (λ m. same q m.name) (ns ++ n ∷ []) ≡ (list_any (λ m. same q m.name) ns || same q n.name)
 any_push q [] n = by (same q n.name)
@@ -62,46 +51,85 @@ noted_push q (m ∷ ns) n = by (same q m.name) (same q n.name) (list_any (λ m. 
     by true false false d e h = ap (λ v. Some (record { id = m.id; is_only = not v })) e
     by false b c d e h = h
 
--- the first of some names, and then the others
-pub noted_first : (q : List ℕ) (n : Numbered) (ns : List Numbered) → noted_from (seen_in q n) q ns ≡ noted q (n ∷ ns)
-noted_first q n ns = by (same q n.name)
-  where
-    by : (b : Bool) → noted_from (cond b (Some n.id) None) q ns ≡ cond b (Some (record { id = n.id; is_only = not (list_any (λ m. same q m.name) ns) })) (noted q ns)
-    by true = refl
-    by false = refl
+longer : {A : Type 0} (xs : List A) (x : A) → length (xs ++ x ∷ []) ≡ suc (length xs)
+longer [] x = refl
+longer (y ∷ xs) x = ap (λ n. suc n) (longer xs x)
 
--- where two are noted already, one more that is the same changes nothing
-pub several_stay : (n : List ℕ) (id : ℕ) (ns : List Numbered) → are_several (noted n ns) ≡ true → (q : List ℕ) → noted q ns ≡ noted_after q n id (noted q ns)
-several_stay n id ns h q = by (same q n) refl
-  where
-    kept : (r : Option Noted) → are_several r ≡ true → r ≡ one_more id r
-    kept None f = absurd (true≢false (sym f))
-    kept (Some r) f = again r.is_only refl
-      where
-        again : (b : Bool) → r.is_only ≡ b → Some r ≡ Some (record { id = r.id; is_only = false })
-        again true e = absurd (true≢false (sym (sym (ap not e) ∙ f)))
-        again false e = ap (λ v. Some (record { id = r.id; is_only = v })) e
+-- one more name that is not the same changes nothing
+stays : (q : List ℕ) (ns : List Numbered) (n : Numbered) → same q n.name ≡ false → noted q (ns ++ n ∷ []) ≡ noted q ns
+stays q ns n h = noted_push q ns n ∙ ap (λ b. cond b (one_more n.id (noted q ns)) (noted q ns)) h
 
-    by : (b : Bool) → same q n ≡ b → noted q ns ≡ cond b (one_more id (noted q ns)) (noted q ns)
-    by true e = kept (noted q ns) (ap are_several (noted_as q n e ns) ∙ h)
+-- what the spot of another hash tells stays
+apart : (q : List ℕ) (ns : List Numbered) (n : Numbered) (o : Option Spot) → same q n.name ≡ false → IfSome o (λ s. s.first < length ns) → noted_by q ns o ≡ noted q ns
+    → noted_by q (ns ++ n ∷ []) o ≡ noted q (ns ++ n ∷ [])
+apart q ns n None h within e = e ∙ sym (stays q ns n h)
+apart q ns n (Some s) h within e = by s.is_alone e
+  where
+    by : (b : Bool) → cond b (noted_at q (slice_get ns s.first)) (noted q ns) ≡ noted q ns → cond b (noted_at q (slice_get (ns ++ n ∷ []) s.first)) (noted q (ns ++ n ∷ [])) ≡ noted q (ns ++ n ∷ [])
+    by true e = ap (noted_at q) (get_front ns (n ∷ []) s.first within) ∙ e ∙ sym (stays q ns n h)
     by false e = refl
 
--- A table by hashes in which the names of one hash have one more: what is noted of each name.
-pub updated : {X : Type 0} (f : List ℕ → X → Option Noted) (g new : ℕ → Option X) (h : ℕ) (n : List ℕ) (id : ℕ) (w : X) → h ≡ hash_of n
-    → ((k : ℕ) → new k ≡ cond (nat_eq h k) (Some w) (g k))
-    → ((q : List ℕ) → f q w ≡ noted_after q n id (option_map_or (f q) (g h) None))
-    → (q : List ℕ) → option_map_or (f q) (new (hash_of q)) None ≡ noted_after q n id (option_map_or (f q) (g (hash_of q)) None)
-updated {X} f g new h n id w is table one q = by (nat_eq h (hash_of q)) refl
+-- the spot of the first name of its hash
+pub alone : (q : List ℕ) (ns : List Numbered) (n : Numbered) (place : ℕ) → length ns ≡ place → noted q ns ≡ None
+    → noted_by q (ns ++ n ∷ []) (Some (record { first = place; is_alone = true })) ≡ noted q (ns ++ n ∷ [])
+alone q ns n place p e =
+    let here : slice_get (ns ++ n ∷ []) place ≡ Some n = ap (slice_get (ns ++ n ∷ [])) (let z : place ≡ length ns + 0 = omega (arith, p) in z) ∙ get_behind ns (n ∷ []) 0 in
+    ap (noted_at q) here ∙ sym (noted_push q ns n ∙ ap (λ o. noted_after q n.name n.id o) e)
+
+differs : (q : List ℕ) (n : Numbered) (h : ℕ) → h ≡ hash_of n.name → nat_eq h (hash_of q) ≡ false → same q n.name ≡ false
+differs q n h is m = by (same q n.name) refl
   where
-    after : Option X → Option Noted
-    after o = noted_after q n id (option_map_or (f q) o None)
+    by : (b : Bool) → same q n.name ≡ b → b ≡ false
+    by true e = absurd (true≢false (sym (eq-eqb h (hash_of q) (is ∙ sym (same_hash q n.name e))) ∙ m))
+    by false e = refl
 
-    apart : (b : Bool) → same q n ≡ b → nat_eq h (hash_of q) ≡ false → option_map_or (f q) (g (hash_of q)) None ≡ cond b (one_more id (option_map_or (f q) (g (hash_of q)) None)) (option_map_or (f q) (g (hash_of q)) None)
-    apart true e m = absurd (true≢false (sym (eq-eqb h (hash_of q) (is ∙ sym (same_hash q n e))) ∙ m))
-    apart false e m = refl
+-- one more name at the end, by the spot that its hash has then
+added : (ns : List Numbered) (n : Numbered) (f g : Folded) (h : ℕ) (w : Spot) → h ≡ hash_of n.name
+    → ((k : ℕ) → get nat_eq g.spots k ≡ cond (nat_eq h k) (Some w) (get nat_eq f.spots k))
+    → ((q : List ℕ) → noted_by q ns (get nat_eq f.spots h) ≡ noted q ns → noted_by q (ns ++ n ∷ []) (Some w) ≡ noted q (ns ++ n ∷ []))
+    → w.first < suc (length ns)
+    → AreSpotsOf ns f → AreSpotsOf (ns ++ n ∷ []) g
+added ns n f g h w is table here first old = (told, within)
+  where
+    told : (q : List ℕ) → noted_by q (ns ++ n ∷ []) (get nat_eq g.spots (hash_of q)) ≡ noted q (ns ++ n ∷ [])
+    told q = by (nat_eq h (hash_of q)) refl
+      where
+        by : (b : Bool) → nat_eq h (hash_of q) ≡ b → noted_by q (ns ++ n ∷ []) (get nat_eq g.spots (hash_of q)) ≡ noted q (ns ++ n ∷ [])
+        by true e = ap (noted_by q (ns ++ n ∷ [])) (table (hash_of q) ∙ ap (λ v. cond v (Some w) (get nat_eq f.spots (hash_of q))) e)
+            ∙ here q (ap (λ k. noted_by q ns (get nat_eq f.spots k)) (eqb-true h (hash_of q) e) ∙ old.0 q)
+        by false e = ap (noted_by q (ns ++ n ∷ [])) (table (hash_of q) ∙ ap (λ v. cond v (Some w) (get nat_eq f.spots (hash_of q))) e)
+            ∙ apart q ns n (get nat_eq f.spots (hash_of q)) (differs q n h is e) (old.1 (hash_of q)) (old.0 q)
 
-    by : (b : Bool) → nat_eq h (hash_of q) ≡ b → option_map_or (f q) (new (hash_of q)) None ≡ after (g (hash_of q))
-    by true e = ap (λ o. option_map_or (f q) o None) (table (hash_of q) ∙ ap (λ v. cond v (Some w) (g (hash_of q))) e)
-        ∙ one q ∙ ap (λ k. after (g k)) (eqb-true h (hash_of q) e)
-    by false e = ap (λ o. option_map_or (f q) o None) (table (hash_of q) ∙ ap (λ v. cond v (Some w) (g (hash_of q))) e)
-        ∙ apart (same q n) refl e
+    wider : (o : Option Spot) → IfSome o (λ s. s.first < length ns) → IfSome o (λ s. s.first < length (ns ++ n ∷ []))
+    wider None l = tt
+    wider (Some s) l = let e = longer ns n in omega (arith, l, e)
+
+    within : (k : ℕ) → IfSome (get nat_eq g.spots k) (λ s. s.first < length (ns ++ n ∷ []))
+    within k = subst (λ o. IfSome o (λ s. s.first < length (ns ++ n ∷ []))) (sym (table k)) (by (nat_eq h k))
+      where
+        by : (b : Bool) → IfSome (cond b (Some w) (get nat_eq f.spots k)) (λ s. s.first < length (ns ++ n ∷ []))
+        by true = let e = longer ns n in omega (arith, first, e)
+        by false = wider (get nat_eq f.spots k) (old.1 k)
+
+-- the first name of its hash
+pub added_alone : (ns : List Numbered) (n : Numbered) (f g : Folded) (h place : ℕ) → h ≡ hash_of n.name → length ns ≡ place → get nat_eq f.spots h ≡ None
+    → ((k : ℕ) → get nat_eq g.spots k ≡ cond (nat_eq h k) (Some (record { first = place; is_alone = true })) (get nat_eq f.spots k))
+    → AreSpotsOf ns f → AreSpotsOf (ns ++ n ∷ []) g
+added_alone ns n f g h place is p none table old = added ns n f g h (record { first = place; is_alone = true }) is table
+    (λ q e. alone q ns n place p (sym (sym (ap (noted_by q ns) none) ∙ e)))
+    (omega (arith, p)) old
+
+-- another name of a hash
+pub added_beside : (ns : List Numbered) (n : Numbered) (f g : Folded) (h : ℕ) (s : Spot) → h ≡ hash_of n.name → get nat_eq f.spots h ≡ Some s
+    → ((k : ℕ) → get nat_eq g.spots k ≡ cond (nat_eq h k) (Some (record { first = s.first; is_alone = false })) (get nat_eq f.spots k))
+    → AreSpotsOf ns f → AreSpotsOf (ns ++ n ∷ []) g
+added_beside ns n f g h s is there table old = added ns n f g h (record { first = s.first; is_alone = false }) is table
+    (λ q e. refl)
+    (let l : s.first < length ns = subst (λ o. IfSome o (λ v. v.first < length ns)) there (old.1 h) in omega (arith, l)) old
+
+-- the same spots tell the same
+pub same_spots : (ns : List Numbered) (f g : Folded) → ((k : ℕ) → get nat_eq g.spots k ≡ get nat_eq f.spots k) → AreSpotsOf ns f → AreSpotsOf ns g
+same_spots ns f g e old = (
+  λ q. ap (noted_by q ns) (e (hash_of q)) ∙ old.0 q,
+  λ k. subst (λ o. IfSome o (λ s. s.first < length ns)) (sym (e k)) (old.1 k),
+)

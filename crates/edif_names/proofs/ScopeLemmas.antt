@@ -10,11 +10,10 @@ use Rattle.netlist_schema.proofs.Lists.{same_test}
 use Rattle.edif_spec.specs.Keyword.{same}
 use Rattle.edif_spec.specs.Means.{equal, first_place, only_place, equal_or, meant}
 use Rattle.edif_spec.specs.Means as edif
-use Rattle.edif_names.specs.declared.folded.Numbered.{Numbered}
 use Rattle.edif_names.specs.declared.folded.Noted.{Noted}
 use Rattle.edif_names.specs.declared.scope.Entry.{Entry}
 use Rattle.edif_names.specs.declared.scope.Meant.TheVariants as answers
-use Rattle.edif_names.specs.Folded.{noted}
+use Rattle.edif_names.specs.Folded.{Numbered, noted}
 use Rattle.edif_names.specs.Scope.{Definition, names, equal_to, Says}
 
 -- the definitions as numbered names

@@ -2,8 +2,10 @@
 use Rattle.std.specs.Prelude.{◌≡◌, ℕ, List, [], ◌∷◌, ◌++◌, map, Option, None, Some, option_map, slice_get, if◌then◌else◌}
 use Rattle.edif_spec.specs.Means.{equal, Found, Absent, Several}
 use Rattle.edif_spec.specs.Means as edif
+use Rattle.edif_names.specs.Folded.{Numbered}
 use Rattle.edif_names.specs.declared.scope.Defined.{Defined}
 use Rattle.edif_names.specs.declared.scope.Defined.TheVariants as outcomes
+use Rattle.edif_names.specs.declared.scope.Entry.{Entry}
 use Rattle.edif_names.specs.declared.scope.Meant.{Meant}
 use Rattle.edif_names.specs.declared.scope.Meant.TheVariants as answers
 
@@ -16,6 +18,10 @@ pub record Definition : Type 0 where
 -- the names, in order
 abbrev pub names : List Definition → List (List ℕ)
 names ds = map (λ d. d.name) ds
+
+-- the names of a table in order, each with its number
+abbrev pub numbered : List (List ℕ × Entry) → List Numbered
+numbered es = map (λ e. record { name = e.0; id = e.1.id }) es
 
 -- the first definition of a name that is equal byte for byte
 abbrev pub equal_to : List ℕ → List Definition → Option Definition

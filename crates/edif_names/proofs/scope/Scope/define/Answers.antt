@@ -1,11 +1,11 @@
-use Rattle.std.proofs.Common.{◌≡◌, [], ◌∷◌, ◌++◌, sym, ap, refl, ◌∙◌, nat_eq, option_map}
+use Rattle.std.proofs.Common.{◌≡◌, List, [], ◌∷◌, ◌++◌, length, sym, ap, refl, subst, ◌∙◌, nat_eq, option_map, arith}
 use Rattle.std.specs.Cmp.Lexicographic.{pointwise}
 use Rattle.std.specs.Map.{lookup}
+use Rattle.std.proofs.lemmas.List.{length-map}
 use Rattle.indexmap.proofs.CallerLemmas.{insert_entry-new}
-use Rattle.edif_names.specs.Folded.{noted, noted_after}
-use Rattle.edif_names.specs.Scope.{equal_to}
-use Rattle.edif_names.proofs.ScopeLemmas.{looked, none_of, numbered, one_defined, one_numbered, on_ok}
-use Rattle.edif_names.proofs.FoldedLemmas.{noted_push}
+use Rattle.edif_names.specs.Folded.{AreSpotsOf, Numbered}
+use Rattle.edif_names.specs.Scope.{equal_to, numbered}
+use Rattle.edif_names.proofs.ScopeLemmas.{looked, none_of, one_defined, one_numbered, on_ok}
 use Rattle.edif_names.proofs.scope.Scope.define.Goals as goal
 
 pub returns-in-Some-clause-ok : goal.returns-in-Some-clause-ok
@@ -26,11 +26,12 @@ invariant_of-self-2 c =
     let put = on_ok _ _ c.unwrap.ensures c.insert.ensures.entries
     ∙ insert_entry-new (λ x y. pointwise nat_eq x y) c.reserve.new.self c.in_ok-key.key (record { id = c.args.id; place = c.args.place }) absent
     ∙ ap (λ es. es ++ (c.in_ok-key.key, record { id = c.args.id; place = c.args.place }) ∷ []) kept in
-    λ q. c.in_ok-add.ensures.ok q
-    ∙ ap (λ o. noted_after q c.args.name.now c.args.id o) (c.self.invariant q)
-    ∙ sym (noted_push q (numbered (λ v. v) c.self.inside.exact.entries) (record { name = c.args.name.now; id = c.args.id }))
-    ∙ ap (λ n. noted q (numbered (λ v. v) c.self.inside.exact.entries ++ record { name = n; id = c.args.id } ∷ [])) (sym key)
-    ∙ ap (noted q) (sym (one_numbered (λ v. v) c.self.inside.exact.entries c.insert.new.self.entries c.in_ok-key.key (record { id = c.args.id; place = c.args.place }) put))
+    let ns : List Numbered = numbered c.self.inside.exact.entries in
+    let n : Numbered = record { name = c.in_ok-key.key; id = c.args.id } in
+    let all : numbered c.insert.new.self.entries ≡ ns ++ n ∷ [] = one_numbered (λ v. v) c.self.inside.exact.entries c.insert.new.self.entries c.in_ok-key.key (record { id = c.args.id; place = c.args.place }) put in
+    let there : length c.reserve.new.self.entries ≡ c.in-Ok.last = grind arith in
+    let long : length ns ≡ c.in-Ok.last = length-map c.self.inside.exact.entries (λ e. record { name = e.0; id = e.1.id }) ∙ sym (ap length kept) ∙ there in
+    subst (λ v. AreSpotsOf v c.add.new.self) (sym all) (c.in_ok-add.ensures.ok ns n long key c.self.invariant)
 
 pub returns-clause-ok : goal.returns-clause-ok
 returns-clause-ok c =
