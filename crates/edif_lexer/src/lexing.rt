@@ -8,7 +8,7 @@ ghost use Rattle.edif_spelling_spec.specs.declared.token.Token.{Token};
 ghost use Rattle.edif_lexer.specs.declared.errors.LexError.{LexError};
 
 use crate::errors::LexError;
-use crate::runs::{blanks, unquoted, word_bytes};
+use crate::runs::{blanks, is_paren, unquoted, word_bytes};
 use crate::strings::decode;
 use crate::words::{is_word_byte, word_kind};
 use edif_spelling_spec::{LexKind, Token, TokenKind};
@@ -172,6 +172,7 @@ impl Lexer {
     }
 
     /// The next byte of the text, whatever it is.
+    #[inline(always)]
     fn step(&mut self, byte: u8, out: &mut Vec<Token>) -> Result<(), LexError>
         ensures { (gained : List Token) × (out.new.items ≡ out.old.items ++ gained)
             × Advances Anything self.old (byte ∷ []) self.new gained result }
@@ -281,6 +282,18 @@ impl Lexer {
         self.begin(byte, out)
     }
 
+    /// The next byte of the text, alone.
+    #[inline(always)]
+    fn one_byte(&mut self, rest: &[u8], out: &mut Vec<Token>) -> Result<usize, LexError>
+        requires { 0 < length rest.now }
+        ensures read { (gained : List Token) × (out.new.items ≡ out.old.items ++ gained)
+            × ReadsFront self.old rest.now self.new gained result }
+        ensures some { IfOk result (λ count. (0 < count) × (count ≤ length rest.now)) }
+    {
+        self.step(rest[0], out)?;
+        Ok(1)
+    }
+
     /// The next bytes of the text, of which there is one at least: how many were read. Bytes of one word or string and blanks are read
     /// together.
     #[inline(always)]
@@ -290,6 +303,9 @@ impl Lexer {
             × ReadsFront self.old rest.now self.new gained result }
         ensures some { IfOk result (λ count. (0 < count) × (count ≤ length rest.now)) }
     {
+        if is_paren(rest[0]) {
+            return self.one_byte(rest, out);
+        }
         let word = self.whole(rest);
         if word > 0 {
             self.word_before(&rest[..word], rest[word], out)?;
@@ -305,8 +321,7 @@ impl Lexer {
             self.pass(passed as u64)?;
             return Ok(passed);
         }
-        self.step(rest[0], out)?;
-        Ok(1)
+        self.one_byte(rest, out)
     }
 
     /// The next bytes of the text.

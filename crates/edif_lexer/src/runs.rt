@@ -5,6 +5,12 @@ ghost use Rattle.edif_spelling_spec.specs.Bytes.{is_space, is_unquoted, is_word_
 
 use crate::words::is_word_byte;
 
+/// Whether the byte is a parenthesis.
+#[inline(always)]
+pub(crate) fn is_paren(byte: u8) -> bool {
+    byte == b'(' || byte == b')'
+}
+
 /// How many bytes of a word stand in front.
 #[inline(always)]
 pub(crate) fn word_bytes(bytes: &[u8]) -> usize
