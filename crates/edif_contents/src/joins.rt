@@ -75,10 +75,9 @@ impl Joins {
             port: end.port,
             bit: end.bit,
         };
-        if let Some(earlier) = self.places.get(&key).copied() {
+        if let Some(earlier) = self.places.insert(key, place)? {
             return Err(clash(ClashKind::EndTwice, place, earlier));
         }
-        self.places.insert(key, place)?;
         Ok(())
     }
 }
