@@ -55,11 +55,10 @@ impl OwnNames {
         ensures ok { OnOk result (DefinesName self.old name.now place self.new None) }
         ensures err { IfErr result (FailsBy (IsAgain self.old name.now place)) }
     {
-        if let Some(earlier) = self.places.get(name).copied() {
+        let key = name.copy(self.alloc)?;
+        if let Some(earlier) = self.places.insert(key, place)? {
             return Err(clash(ClashKind::Duplicate, place, earlier));
         }
-        let key = name.copy(self.alloc)?;
-        self.places.insert(key, place)?;
         Ok(())
     }
 }
