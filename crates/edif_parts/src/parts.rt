@@ -20,6 +20,7 @@ use netlist_schema::{Ident, NoMemory, Text};
 use std::alloc::Global;
 
 /// The parts of a form with this keyword. Takes memory for a fault alone.
+#[inline(always)]
 pub fn read_parts<'a>(
     alloc: Global,
     node: Node<'a>,
