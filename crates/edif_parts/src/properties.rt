@@ -87,6 +87,8 @@ fn add_properties(
 pub fn read_properties(alloc: Global, inner: Nodes<'_>) -> Result<Row<Property>, EdifError>
     ensures { Answers (λ ps. MeansProperties (map bare (all inner.entry)) ps × All IsTypedProperty ps × HasDistinctKeys ps) (PropertiesFault (those_of PropertyWord (all inner.entry))) result }
 {
-    let mut names = Keys::new(alloc);
-    add_properties(alloc, inner, &mut names)
+    match inner.split_first() {
+        Some(_) => add_properties(alloc, inner, &mut Keys::new(alloc)),
+        None => Ok(Row::of(Vec::new(alloc))),
+    }
 }
