@@ -12,6 +12,6 @@ pub returns-in-None : goal.returns-in-None
 returns-in-None c =
     let ts = all c.args.inner in
     let F : List Placed → Type 0 = λ v. NamedForms MeansProperty IsTypedProperty (λ (p : Property). p.key.id) keywords.Property v [] [] in
-    let f = subst F (sym c.in-None.ensures) (forms_start MeansProperty IsTypedProperty (λ (p : Property). p.key.id) keywords.Property) in
-    let none : c.of.result ≡ [] = c.of.ensures ∙ c.new.ensures.items in
+    let f = subst F (sym c.in-None.ensures.none) (forms_start MeansProperty IsTypedProperty (λ (p : Property). p.key.id) keywords.Property) in
+    let none : c.of.result ≡ [] = c.of.ensures ∙ c.new-in-None.ensures.items in
     rw none (forms_each MeansProperty IsTypedProperty (λ (p : Property). p.key.id) keywords.Property ts [] [] f, forms_valid MeansProperty IsTypedProperty (λ (p : Property). p.key.id) keywords.Property ts [] [] f, forms_distinct MeansProperty IsTypedProperty (λ (p : Property). p.key.id) keywords.Property ts [] [] f)
