@@ -7,11 +7,14 @@
 //! - `pins PATH NET`, `drivers PATH NET` and `loads PATH NET`: a line `pin PATH PORT BIT` each, and `end`; `pin PATH NET`: the first alone;
 //! - `fan-out PATH`: `net NET loads N` for each net of the occurrence that is its own first, and `end`;
 //! - `same PATH NET PATH NET`: `yes` or `no`;
+//! - `named TEXT`: `path PATH`, where TEXT is a path by identifiers; `named TEXT inst NAME`, `named TEXT net NAME` and
+//!   `named TEXT port NAME`: `place N`, of what has that identifier in the occurrence;
 //! - `again N QUESTION` asks so many times, and answers once.
 //!
 //! Where there is nothing, the answer is `none`; a line that is no question is answered by `what`.
 #![tactic(auto)]
 
+use ask_names::Names;
 use edif_file::{DesignReader, NoDesign};
 use flat_ask::{Ask, AskError};
 use flat_items::{ItemRef, NetRef};
@@ -301,6 +304,48 @@ fn answer_words<W: Write>(
     }
 }
 
+/// The place of what has an identifier in the occurrence at a path.
+fn place_of(
+    ask: &Ask<Design>,
+    names: &Names<&Design>,
+    path: &[u32],
+    kind: &str,
+    name: &str,
+) -> Option<u32> {
+    let cell = ask.at(path)?;
+    match kind {
+        "inst" => names.inst(cell, name.as_bytes()),
+        "net" => names.net(cell, name.as_bytes()),
+        "port" => names.port(cell, name.as_bytes()),
+        _ => None,
+    }
+}
+
+/// Answers where the text of a path leads, or the place of a name there.
+fn answer_named<W: Write>(
+    out: &mut W,
+    ask: &Ask<Design>,
+    names: &Names<&Design>,
+    words: &[&str],
+) -> Result<(), Stop> {
+    let text = words.first().copied().unwrap_or("");
+    let Some(path) = names.path(text.as_bytes())? else {
+        writeln!(out, "none")?;
+        return Ok(());
+    };
+    if words.len() < 3 {
+        write!(out, "path ")?;
+        write_path(out, path.as_slice())?;
+        writeln!(out)?;
+        return Ok(());
+    }
+    match place_of(ask, names, path.as_slice(), words[1], words[2]) {
+        Some(place) => writeln!(out, "place {place}")?,
+        None => writeln!(out, "none")?,
+    }
+    Ok(())
+}
+
 /// Says that the line is no question.
 fn unknown<W: Write>(out: &mut W) -> Result<(), Stop> {
     writeln!(out, "what")?;
@@ -308,9 +353,18 @@ fn unknown<W: Write>(out: &mut W) -> Result<(), Stop> {
 }
 
 /// Answers one line.
-fn answer<W: Write>(out: &mut W, ask: &Ask<Design>, alloc: Global, line: &str) -> Result<(), Stop> {
+fn answer<W: Write>(
+    out: &mut W,
+    ask: &Ask<Design>,
+    names: &Names<&Design>,
+    alloc: Global,
+    line: &str,
+) -> Result<(), Stop> {
     let words: Vec<&str> = line.split_whitespace().collect(alloc)?;
     let words = words.as_slice();
+    if !words.is_empty() && words[0] == "named" {
+        return answer_named(out, ask, names, &words[1..]);
+    }
     if words.len() < 2 || words[0] != "again" {
         return answer_words(out, ask, alloc, words);
     }
@@ -330,9 +384,10 @@ fn main(rt: HostRuntime) -> Result<(), Stop> {
         return Err(Stop::NoFile);
     };
     let ask = Ask::of(rt.alloc(), open(&rt, name.as_str())?)?;
+    let names = Names::of(rt.alloc(), ask.design())?;
     let mut out = BufWriter::new(rt.alloc(), io::writer(&rt))?;
     for line in BufReader::new(rt.alloc(), rt.reader())?.lines(rt.alloc()) {
-        answer(&mut out, &ask, rt.alloc(), line?.as_str())?;
+        answer(&mut out, &ask, &names, rt.alloc(), line?.as_str())?;
     }
     out.flush()?;
     Ok(())

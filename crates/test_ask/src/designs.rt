@@ -102,6 +102,30 @@ pub static TWICE: &str = "(edif e (edifVersion 2 0 0) (edifLevel 0) (keywordMap 
  (design d (cellRef T (libraryRef w))))
 ";
 
+/// Three levels; identifiers that differ in case alone, and such as begin alike.
+pub static DEEP: &str = "(edif e (edifVersion 2 0 0) (edifLevel 0) (keywordMap (keywordLevel 0))
+ (library w (edifLevel 0) (technology)
+  (cell P (cellType GENERIC) (view v (viewType NETLIST) (interface (port a (direction INPUT)))))
+  (cell A (cellType GENERIC) (view v (viewType NETLIST)
+   (interface)
+   (contents
+    (instance x (viewRef v (cellRef P)))
+    (instance p (viewRef v (cellRef P))))))
+  (cell B (cellType GENERIC) (view v (viewType NETLIST)
+   (interface)
+   (contents
+    (instance b2 (viewRef v (cellRef A)))
+    (instance b10 (viewRef v (cellRef A)))
+    (instance a_1 (viewRef v (cellRef A))))))
+  (cell T (cellType GENERIC) (view v (viewType NETLIST)
+   (interface)
+   (contents
+    (instance u (viewRef v (cellRef B)))
+    (instance U (viewRef v (cellRef A)))
+    (instance t (viewRef v (cellRef P)))))))
+ (design T (cellRef T (libraryRef w))))
+";
+
 /// A design without a top.
 pub static EMPTY: &str = "(edif e (edifVersion 2 0 0) (edifLevel 0) (keywordMap (keywordLevel 0)))
 ";

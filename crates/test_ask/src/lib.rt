@@ -6,6 +6,8 @@ mod checks;
 #[cfg(test)]
 mod designs;
 #[cfg(test)]
+mod names;
+#[cfg(test)]
 mod rows;
 #[cfg(test)]
 mod threads;
