@@ -1,6 +1,8 @@
-//! Tests of views of a version.
+//! Tests of views, and of the calls on what was opened.
 #![tactic(auto)]
 
+#[cfg(test)]
+mod asked;
 #[cfg(test)]
 mod designs;
 #[cfg(test)]

@@ -1,0 +1,77 @@
+-- The texts of a version, by their numbers, and what writing one comes to.
+use Rattle.std.specs.Prelude.{◌≡◌, ◌≢◌, ℕ, List, [], Option, Some, None, Result, Ok, Err}
+use Rattle.netlist_schema.specs.Design.{Design}
+use Rattle.edif_spec.specs.Arranged.{canonical_text}
+use Rattle.erc_spec.specs.Lines.{findings_text}
+use Rattle.flat_csv_spec.specs.PinTable.{pin_table}
+use Rattle.flat_lines_spec.specs.Lines.{flattening_text}
+use Rattle.flat_writer.specs.declared.error.FlatError.{FlatError}
+use Rattle.flat_writer.specs.declared.error.FlatError.TheVariants as flat
+use Rattle.netdb_outside.specs.Outside.{Appends, AppendsFront}
+use Rattle.netdb_outside.specs.declared.write_error.WriteError.{WriteError}
+use Rattle.netdb_outside.specs.declared.write_error.WriteError.TheVariants as write
+use Rattle.db_spec.specs.State.{design, head}
+use Rattle.db_core.specs.Story.{state}
+use Rattle.script_run_spec.specs.Written.{written_report}
+use Rattle.used_spec.specs.Lines.{uses_text}
+use Rattle.netdb_desk.specs.Seats.{DeskFacts}
+use Rattle.netdb_view.specs.Facts.{ViewFacts}
+use Rattle.netdb_calls.specs.declared.opened.Inside.{Inside}
+use Rattle.netdb_calls.specs.declared.opened.Inside.TheVariants.{Desk, Refused, View}
+use Rattle.netdb_calls.specs.declared.status.Status.{Status}
+use Rattle.netdb_calls.specs.declared.status.Status.TheVariants as says
+use Rattle.netdb_calls.specs.declared.texts.Kind.{Kind}
+use Rattle.netdb_calls.specs.declared.texts.Kind.TheVariants as kind
+
+abbrev pub kind_at : ℕ → Option Kind
+kind_at 0 = Some kind.Edif
+kind_at 1 = Some kind.Flat
+kind_at 2 = Some kind.Csv
+kind_at 3 = Some kind.Erc
+kind_at 4 = Some kind.Uses
+kind_at number = None
+
+-- the text of a design
+abbrev pub text_of : Kind → Design → List ℕ
+text_of kind.Edif d = canonical_text d
+text_of kind.Flat d = flattening_text d None
+text_of kind.Csv d = pin_table d
+text_of kind.Erc d = findings_text d
+text_of kind.Uses d = uses_text d
+
+abbrev pub status_of_write : Result (Unit {0}) WriteError → Status
+status_of_write (Ok done) = says.Done
+status_of_write (Err write.WriteFault) = says.WriteFault
+status_of_write (Err write.NoMemory) = says.NoMemory
+
+abbrev pub status_of_flat : Result (Unit {0}) FlatError → Status
+status_of_flat (Ok done) = says.Done
+status_of_flat (Err flat.NoTop) = says.NoTop
+status_of_flat (Err flat.WriteFault) = says.WriteFault
+status_of_flat (Err flat.NoMemory) = says.NoMemory
+
+-- the whole text was written; or a front of it, where it could not be; there is no top, where one is wanted, and nothing was written
+abbrev pub WritesText : Design → List ℕ → Option (List ℕ) → Option (List ℕ) → Status → Type 0
+WritesText d text old new says.Done = Appends old new text
+WritesText d text old new says.WriteFault = AppendsFront old new text
+WritesText d text old new says.NoMemory = AppendsFront old new text
+WritesText d text old new says.NoTop = (d.top ≡ None) × (new ≡ old)
+WritesText d text old new other = ⊥
+
+-- a text of a view's version was written so
+abbrev pub Writes : ViewFacts → Kind → Option (List ℕ) → Option (List ℕ) → Status → Type 0
+Writes view kind old new status = WritesText view.version.design (text_of kind view.version.design) old new status
+
+-- the design of the last version
+abbrev pub head_design : DeskFacts → Design
+head_design d = design (state d.story) (head (state d.story))
+
+-- the history of a database was written, with no transcripts
+abbrev pub WritesHistory : DeskFacts → Option (List ℕ) → Option (List ℕ) → Status → Type 0
+WritesHistory d old new status = WritesText (head_design d) (written_report (head_design d) d.story.events []) old new status
+
+-- the same of what was opened; where that is no view, nothing was written
+abbrev pub WritesOf : Inside → Kind → Option (List ℕ) → Option (List ℕ) → Status → Type 0
+WritesOf (View view) kind old new status = Writes view kind old new status
+WritesOf (Desk desk) kind old new status = (status ≡ says.WrongUse) × (new ≡ old)
+WritesOf Refused kind old new status = (status ≡ says.WrongUse) × (new ≡ old)
