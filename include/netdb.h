@@ -19,7 +19,8 @@
    - A handle is closed before its memory goes; else what it owns is lost.
    - A handle is not copied: two copies of one would free it twice.
    - malloc, realloc and free come from one allocator, which aligns blocks as C wants it.
-   - No call is made from a signal handler, or from a forked child of a process with threads. */
+   - No call is made from a signal handler, or from a forked child of a process with threads.
+   - Where a file descriptor may be a pipe that nobody reads, SIGPIPE is ignored: else the system ends the process at the write. */
 #ifndef NETDB_H
 #define NETDB_H
 #include <stdbool.h>

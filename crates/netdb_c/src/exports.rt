@@ -3,7 +3,7 @@ ghost use Rattle.std.specs.Prelude.{◌≡◌, ◌++◌, None, Some, drop, lengt
 ghost use Rattle.netdb_calls.specs.declared.calls.Call.TheVariants as asks;
 ghost use Rattle.netdb_calls.specs.declared.calls.DeskCall.TheVariants as desk;
 ghost use Rattle.netdb_calls.specs.declared.calls.ViewCall.TheVariants as view;
-ghost use Rattle.netdb_c.specs.Exports.{Answers, Copies, Gives, HasAsked, HasOpened, HasPut, HasViewed, Says};
+ghost use Rattle.netdb_c.specs.Exports.{Answers, Copies, Gives, HasAsked, HasOpened, HasPut, HasViewed, Says, text_of};
 
 use crate::handle::Handle;
 use netdb_calls::{Call, DeskCall, Opened, Status, Told, ViewCall, ask, open, open_view};
@@ -103,7 +103,10 @@ pub extern "C" fn netdb_c_view(alloc: Global, of: &mut Handle, seat: u32, out: &
 
 /// The number of bytes of the text; 0 of a closed handle.
 #[unsafe(no_mangle)]
-pub extern "C" fn netdb_c_text_length(alloc: Global, of: &mut Handle) -> usize {
+pub extern "C" fn netdb_c_text_length(alloc: Global, of: &mut Handle) -> usize
+    ensures same { of.new.held ≡ of.old.held }
+    ensures bytes { result ≡ length (text_of of.old.held) }
+{
     on(alloc, of, Call::Length).number as usize
 }
 

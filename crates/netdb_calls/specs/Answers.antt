@@ -1,6 +1,6 @@
 -- What each call answers.
 use Rattle.std.specs.Prelude.{◌≡◌, ◌⊎◌, ℕ, List, [], ◌∷◌, length, Option, Some, None, Result, Ok, Err, true, false}
-use Rattle.std.specs.Option.{option_and_then, option_map}
+use Rattle.std.specs.Option.{option_and_then, option_map, option_map_or}
 use Rattle.netlist_schema.specs.Design.{Design}
 use Rattle.netlist_schema.specs.Types.{Object}
 use Rattle.netlist_schema.specs.declared.memory.NoMemory.{NoMemory}
@@ -89,12 +89,15 @@ abbrev pub SaysLast : Option Reply → List ℕ → Told → Type 0
 SaysLast (Some reply) text answer = ((answer ≡ only says.Done) × (text ≡ line (reply_text reply ∷ []))) ⊎ ((answer ≡ only says.TextLost) × (text ≡ []))
 SaysLast None text answer = (answer ≡ only says.TextLost) × (text ≡ [])
 
+abbrev pub told_of_line : LineError → Told
+told_of_line said.BadLine = only says.BadLine
+told_of_line said.TooLong = only says.TooLarge
+told_of_line said.NoMemory = only says.NoMemory
+
 -- the text of a line that was run; one that was not leaves the text
 abbrev pub SaysRun : Result (Result (Unit {0}) LineError) WrongUse → Option Reply → List ℕ → List ℕ → Told → Type 0
 SaysRun (Ok (Ok done)) reply before after answer = SaysLast reply after answer
-SaysRun (Ok (Err said.BadLine)) reply before after answer = (answer ≡ only says.BadLine) × (after ≡ before)
-SaysRun (Ok (Err said.TooLong)) reply before after answer = (answer ≡ only says.TooLarge) × (after ≡ before)
-SaysRun (Ok (Err said.NoMemory)) reply before after answer = (answer ≡ only says.NoMemory) × (after ≡ before)
+SaysRun (Ok (Err error)) reply before after answer = (answer ≡ told_of_line error) × (after ≡ before)
 SaysRun (Err wrong) reply before after answer = (answer ≡ only says.WrongUse) × (after ≡ before)
 
 abbrev pub HasRun : ℕ → List ℕ → DeskFacts → DeskFacts → List ℕ → List ℕ → Told → Type 0
@@ -105,12 +108,15 @@ HasRun seat text old new before after answer =
 abbrev pub SaysClash : Design → Object → ℕ → List ℕ → Type 0
 SaysClash d object version text = (text ≡ line (conflict_words d object version)) ⊎ (text ≡ [])
 
--- after a commit: only a conflict has a text, by the names of the last version
+-- of a commit that was refused only a conflict has a text, by the names of the last version
+abbrev pub SaysRefused : CommitError → Design → List ℕ → List ℕ → Told → Type 0
+SaysRefused commit.LogFull d before after answer = (answer ≡ only says.LogFull) × (after ≡ before)
+SaysRefused (commit.Conflict object version) d before after answer = (answer ≡ told says.Conflict version) × SaysClash d object version after
+SaysRefused commit.NoMemory d before after answer = (answer ≡ only says.NoMemory) × (after ≡ before)
+
 abbrev pub SaysCommit : Result (Result ℕ CommitError) WrongUse → Design → List ℕ → List ℕ → Told → Type 0
 SaysCommit (Ok (Ok version)) d before after answer = (answer ≡ told says.Done version) × (after ≡ before)
-SaysCommit (Ok (Err commit.LogFull)) d before after answer = (answer ≡ only says.LogFull) × (after ≡ before)
-SaysCommit (Ok (Err (commit.Conflict object version))) d before after answer = (answer ≡ told says.Conflict version) × SaysClash d object version after
-SaysCommit (Ok (Err commit.NoMemory)) d before after answer = (answer ≡ only says.NoMemory) × (after ≡ before)
+SaysCommit (Ok (Err error)) d before after answer = SaysRefused error d before after answer
 SaysCommit (Err wrong) d before after answer = (answer ≡ only says.WrongUse) × (after ≡ before)
 
 abbrev pub HasCommitted : ℕ → DeskFacts → DeskFacts → List ℕ → List ℕ → Told → Type 0
@@ -166,10 +172,10 @@ told_of_begin_at (Err begin.NoTop) = only says.NoTop
 told_of_begin_at (Err begin.NoPath) = only says.NoPath
 told_of_begin_at (Err begin.NoMemory) = only says.NoMemory
 
--- the text is the line of the item that is shown; or there was no memory for it, and it is empty
+-- the text is the line of the item that is shown, or nothing where none is; or there was no memory for it, and it is empty
 abbrev pub SaysLine : ViewFacts → List ℕ → Told → Type 0
 SaysLine view text answer =
-    ((answer ≡ only says.Done) × (Some text ≡ option_map (item_line view.version.design) view.shown)) ⊎ ((answer ≡ only says.TextLost) × (text ≡ []))
+    ((answer ≡ only says.Done) × (text ≡ option_map_or (item_line view.version.design) view.shown [])) ⊎ ((answer ≡ only says.TextLost) × (text ≡ []))
 
 -- the next item was shown, and its line said; or no item was, and the text stays
 abbrev pub HasShown : ViewFacts → ViewFacts → List ℕ → List ℕ → Told → Type 0

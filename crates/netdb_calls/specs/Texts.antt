@@ -1,5 +1,5 @@
 -- The texts of a version, by their numbers, and what writing one comes to.
-use Rattle.std.specs.Prelude.{◌≡◌, ◌≢◌, ℕ, List, [], Option, Some, None, Result, Ok, Err}
+use Rattle.std.specs.Prelude.{◌≡◌, ℕ, List, [], Option, Some, None, Result, Ok, Err, if◌then◌else◌, ◌==◌}
 use Rattle.netlist_schema.specs.Design.{Design}
 use Rattle.edif_spec.specs.Arranged.{canonical_text}
 use Rattle.erc_spec.specs.Lines.{findings_text}
@@ -24,12 +24,13 @@ use Rattle.netdb_calls.specs.declared.texts.Kind.{Kind}
 use Rattle.netdb_calls.specs.declared.texts.Kind.TheVariants as kind
 
 abbrev pub kind_at : ℕ → Option Kind
-kind_at 0 = Some kind.Edif
-kind_at 1 = Some kind.Flat
-kind_at 2 = Some kind.Csv
-kind_at 3 = Some kind.Erc
-kind_at 4 = Some kind.Uses
-kind_at number = None
+kind_at number =
+    if number == 0 then Some kind.Edif
+    else if number == 1 then Some kind.Flat
+    else if number == 2 then Some kind.Csv
+    else if number == 3 then Some kind.Erc
+    else if number == 4 then Some kind.Uses
+    else None
 
 -- the text of a design
 abbrev pub text_of : Kind → Design → List ℕ

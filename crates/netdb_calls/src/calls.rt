@@ -65,20 +65,20 @@ impl Told {
 fn ask_desk(alloc: Global, opened: &mut Opened, call: DeskCall<'_>) -> Told
     ensures { AsksDesk call.entry opened.old opened.new result }
 {
-    match &mut opened.inside {
-        Inside::Desk(desk) => answer_desk(alloc, desk, call, &mut opened.text),
-        Inside::View(_) | Inside::Refused => Told::only(Status::WrongUse),
-    }
+    let Inside::Desk(desk) = &mut opened.inside else {
+        return Told::only(Status::WrongUse);
+    };
+    answer_desk(alloc, desk, call, &mut opened.text)
 }
 
 /// Answers a call on a view. Where no view was opened it is a `WrongUse`, and nothing is changed.
 fn ask_view(opened: &mut Opened, call: ViewCall<'_>) -> Told
     ensures { AsksView call.entry opened.old opened.new result }
 {
-    match &mut opened.inside {
-        Inside::View(view) => answer_view(view, call, &mut opened.text),
-        Inside::Desk(_) | Inside::Refused => Told::only(Status::WrongUse),
-    }
+    let Inside::View(view) = &mut opened.inside else {
+        return Told::only(Status::WrongUse);
+    };
+    answer_view(view, call, &mut opened.text)
 }
 
 /// A call on what was opened.

@@ -1,10 +1,9 @@
 //! The calls on a database.
 ghost use Rattle.std.specs.Prelude.{◌≡◌};
-ghost use Rattle.db_spec.specs.State.{head};
-ghost use Rattle.db_core.specs.Story.{shot, state};
 ghost use Rattle.netdb_desk.specs.Calls.{last_reply};
 ghost use Rattle.netdb_desk.specs.Seats.{held_at};
-ghost use Rattle.netdb_calls.specs.Answers.{AnswersDesk, HasCommitted, HasRun, SaysClash, SaysLast, told_of_begin, told_of_collect, told_of_done, told_of_pin, told_of_pin_at};
+ghost use Rattle.netdb_calls.specs.Answers.{AnswersDesk, HasCommitted, HasRun, SaysClash, SaysLast, SaysRefused, told_of_begin, told_of_collect, told_of_done, told_of_line, told_of_pin, told_of_pin_at};
+ghost use Rattle.netdb_calls.specs.Texts.{head_design};
 
 use crate::calls::{DeskCall, Told};
 use crate::status::Status;
@@ -79,6 +78,17 @@ fn of_collect(answer: Result<Result<u32, CollectError>, WrongUse>) -> Told
     }
 }
 
+/// Why a line was not run.
+fn of_line(error: LineError) -> Told
+    ensures { result ≡ told_of_line error }
+{
+    match error {
+        LineError::BadLine => Told::only(Status::BadLine),
+        LineError::TooLong => Told::only(Status::TooLarge),
+        LineError::NoMemory => Told::only(Status::NoMemory),
+    }
+}
+
 /// Answers a call. The text is that of a line's reply, or of a conflict; the other calls leave it.
 pub(crate) fn answer_desk(
     alloc: Global,
@@ -106,9 +116,7 @@ fn run(alloc: Global, desk: &mut Desk, seat: u32, line: &[u8], text: &mut Vec<u8
 {
     match desk.line(seat, line) {
         Ok(Ok(())) => say_last(alloc, desk, seat, text),
-        Ok(Err(LineError::BadLine)) => Told::only(Status::BadLine),
-        Ok(Err(LineError::TooLong)) => Told::only(Status::TooLarge),
-        Ok(Err(LineError::NoMemory)) => Told::only(Status::NoMemory),
+        Ok(Err(error)) => of_line(error),
         Err(WrongUse) => Told::only(Status::WrongUse),
     }
 }
@@ -136,22 +144,31 @@ fn commit(alloc: Global, desk: &mut Desk, seat: u32, text: &mut Vec<u8>) -> Told
 {
     match desk.commit(seat) {
         Ok(Ok(version)) => Told::done(version),
-        Ok(Err(CommitError::LogFull)) => Told::only(Status::LogFull),
-        Ok(Err(CommitError::Conflict { object, version })) => {
+        Ok(Err(error)) => refused(alloc, desk, error, text),
+        Err(WrongUse) => Told::only(Status::WrongUse),
+    }
+}
+
+/// Says why a commit was refused.
+fn refused(alloc: Global, desk: &Desk, error: CommitError, text: &mut Vec<u8>) -> Told
+    ensures { SaysRefused error (head_design desk.now) text.old.items text.new.items result }
+{
+    match error {
+        CommitError::LogFull => Told::only(Status::LogFull),
+        CommitError::Conflict { object, version } => {
             say_clash(alloc, desk, object, version, text);
             Told {
                 status: Status::Conflict,
                 number: version,
             }
         }
-        Ok(Err(CommitError::NoMemory)) => Told::only(Status::NoMemory),
-        Err(WrongUse) => Told::only(Status::WrongUse),
+        CommitError::NoMemory => Told::only(Status::NoMemory),
     }
 }
 
 /// Says a conflict, with the names of the last version; nothing where there is no memory.
 fn say_clash(alloc: Global, desk: &Desk, object: Object, version: u64, text: &mut Vec<u8>)
-    ensures { SaysClash (shot (state desk.now.story) (head (state desk.now.story))).design object version text.new.items }
+    ensures { SaysClash (head_design desk.now) object version text.new.items }
 {
     text.clear();
     let Ok(()) = say_conflict(alloc, desk.head(), object, version, text) else {

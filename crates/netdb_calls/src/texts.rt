@@ -87,8 +87,8 @@ pub(crate) fn write_history<K: Sink>(alloc: Global, desk: &Desk, out: &mut K) ->
 pub fn write_text<K: Sink>(opened: &Opened, kind: Kind, out: &mut K) -> Status
     ensures { WritesOf opened.now.inside kind (K.written out.old) (K.written out.new) result }
 {
-    match &opened.inside {
-        Inside::View(view) => write_of(view, kind, out),
-        Inside::Desk(_) | Inside::Refused => Status::WrongUse,
-    }
+    let Inside::View(view) = &opened.inside else {
+        return Status::WrongUse;
+    };
+    write_of(view, kind, out)
 }

@@ -1,0 +1,8 @@
+use Rattle.std.proofs.Common.{subst, sym}
+use Rattle.netdb_calls.specs.Texts.{WritesOf}
+use Rattle.netdb_calls.specs.declared.opened.Inside.{Inside}
+use Rattle.netdb_calls.proofs.Others.{no_view_written}
+use Rattle.netdb_calls.proofs.texts.write_text.Goals as goal
+
+pub returns-in_default : goal.returns-in_default
+returns-in_default g c = no_view_written c.args.opened.now.inside c.args.kind (g.K.Sink.written c.args.out.now) c.in_default.not-View
