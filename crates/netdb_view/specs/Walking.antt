@@ -1,5 +1,5 @@
 -- What a walk of a view shows.
-use Rattle.std.specs.Prelude.{◌≡◌, ◌≢◌, ℕ, List, [], ◌∷◌, Option, Some, None, Result, Ok, Err}
+use Rattle.std.specs.Prelude.{◌≡◌, ◌≢◌, ℕ, List, [], ◌∷◌, Some, None, Result, Ok, Err}
 use Rattle.flat_spec.specs.Flattening.{flattening}
 use Rattle.flat_spec.specs.Paths.{cell_below_top}
 use Rattle.flat_spec.specs.Types.{Item}
