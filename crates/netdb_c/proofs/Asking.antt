@@ -7,4 +7,4 @@ use Rattle.netdb_c.specs.Exports.{HasAsked, text_of}
 
 pub measured : (old new : Option Opened) (answer : Told) → HasAsked asks.Length old new answer → (new ≡ old) × (answer.number ≡ length (text_of old))
 measured None new answer is = (is.0, ap (λ (a : Told). a.number) is.1)
-measured (Some opened) new answer is = (is.1 ∙ ap Some is.2, ap (λ (a : Told). a.number) is.3)
+measured (Some opened) new answer is = (is.1 ∙ ap Some is.2.0, ap (λ (a : Told). a.number) is.2.1)

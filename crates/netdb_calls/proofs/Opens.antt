@@ -1,5 +1,5 @@
 -- What bytes open, by what reading them comes to.
-use Rattle.std.proofs.Common.{◌≡◌, ◌≤◌, List, ℕ, Result, Ok, Err, IfOk, IfErr, length, subst, sym}
+use Rattle.std.proofs.Common.{◌≤◌, List, ℕ, Result, Ok, Err, IfOk, IfErr, length, subst, sym}
 use Rattle.netlist_schema.specs.Design.{Design}
 use Rattle.netlist_schema.specs.declared.limits.TheConstants.{MOST_FILE_BYTES}
 use Rattle.edif_spec.specs.Files.{IsDesignFile, IsWrong}

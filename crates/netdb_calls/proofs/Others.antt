@@ -1,5 +1,5 @@
 -- What is answered where what was opened is not of the kind that a call wants.
-use Rattle.std.proofs.Common.{◌≡◌, List, ℕ, Option, None, Some, Result, Ok, Err, refl}
+use Rattle.std.proofs.Common.{◌≡◌, List, ℕ, Option, Result, Err, refl}
 use Rattle.netdb_desk.specs.Seats.{DeskFacts}
 use Rattle.netdb_view.specs.Facts.{ViewFacts}
 use Rattle.netdb_calls.specs.Answers.{AskedDesk, AskedView, IsWrong, ViewsInside, WritesReport, only}

@@ -1,4 +1,4 @@
-use Rattle.std.proofs.Common.{◌≡◌, subst, Option}
+use Rattle.std.proofs.Common.{subst, Option}
 use Rattle.netdb_calls.specs.Answers.{Asks}
 use Rattle.netdb_calls.specs.declared.opened.Opened.{Opened}
 use Rattle.netdb_c.specs.Exports.{HasAsked}

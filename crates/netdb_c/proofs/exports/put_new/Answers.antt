@@ -1,4 +1,4 @@
-use Rattle.std.proofs.Common.{◌≡◌, ap, ◌∙◌, inl, Some}
+use Rattle.std.proofs.Common.{ap, ◌∙◌, inl, Some}
 use Rattle.netdb_c.proofs.exports.put_new.Goals as goal
 
 pub returns-in-Ok : goal.returns-in-Ok

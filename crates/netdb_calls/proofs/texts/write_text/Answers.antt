@@ -1,6 +1,3 @@
-use Rattle.std.proofs.Common.{subst, sym}
-use Rattle.netdb_calls.specs.Texts.{WritesOf}
-use Rattle.netdb_calls.specs.declared.opened.Inside.{Inside}
 use Rattle.netdb_calls.proofs.Others.{no_view_written}
 use Rattle.netdb_calls.proofs.texts.write_text.Goals as goal
 
