@@ -2,6 +2,7 @@
    gets an address. Nothing else is decided here. */
 #define _POSIX_C_SOURCE 200809L
 #include "netdb.h"
+#include <errno.h>
 #include <stdio.h>
 #include <unistd.h>
 
@@ -144,9 +145,12 @@ static netdb_status hand_on(int fd, netdb_take *take, void *context) {
     char piece[65536];
     ssize_t got;
     if (lseek(fd, 0, SEEK_SET)) return NETDB_WRITE_FAULT;
-    while ((got = read(fd, piece, sizeof piece)) > 0)
+    for (;;) {
+        got = read(fd, piece, sizeof piece);
+        if (got < 0 && errno == EINTR) continue;
+        if (got <= 0) return got ? NETDB_WRITE_FAULT : NETDB_DONE;
         if (take(context, piece, (size_t)got)) return NETDB_STOPPED;
-    return got ? NETDB_WRITE_FAULT : NETDB_DONE;
+    }
 }
 
 /* What was written to a temporary file, handed on: all of it, or the front that there is. */

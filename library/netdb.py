@@ -198,10 +198,11 @@ class View(_Owner):
 
 
 class Transaction:
-    """A transaction of a seat. As a context manager it commits at its end; where an exception comes, or a conflict, it is abandoned."""
+    """A transaction of a seat. As a context manager it commits at its end, where it is not over by then; where an exception comes, or a
+    conflict, it is abandoned."""
 
     def __init__(self, db: Netdb, seat: ctypes.c_uint32) -> None:
-        self._db, self._seat = db, seat
+        self._db, self._seat, self._is_over = db, seat, False
         self.version: int | None = None
         db._ask("netdb_begin", seat)
 
@@ -213,28 +214,30 @@ class Transaction:
 
     def commit(self) -> int:
         self.version = self._db._number("netdb_commit", self._seat)
+        self._is_over = True
         return self.version
 
     def abandon(self) -> None:
         self._db._ask("netdb_abandon", self._seat)
+        self._is_over = True
 
     def __enter__(self) -> Transaction:
         return self
 
     def __exit__(self, kind: object, *_: object) -> None:
         try:
-            if kind is None:
+            if kind is None and not self._is_over:
                 self.commit()
         finally:
-            if self.version is None:
+            if not self._is_over:
                 self.abandon()
 
 
 class Pin:
-    """A pin of a seat. As a context manager it is released at its end."""
+    """A pin of a seat. As a context manager it is released at its end, where it is not by then."""
 
     def __init__(self, db: Netdb, seat: int, version: int) -> None:
-        self._db, self._seat, self.version = db, ctypes.c_uint32(seat), version
+        self._db, self._seat, self._is_over, self.version = db, ctypes.c_uint32(seat), False, version
 
     def transaction(self) -> Transaction:
         return Transaction(self._db, self._seat)
@@ -246,12 +249,14 @@ class Pin:
 
     def release(self) -> None:
         self._db._ask("netdb_release", self._seat)
+        self._is_over = True
 
     def __enter__(self) -> Pin:
         return self
 
     def __exit__(self, *_: object) -> None:
-        self.release()
+        if not self._is_over:
+            self.release()
 
 
 class Netdb(_Owner):

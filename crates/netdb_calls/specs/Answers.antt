@@ -1,5 +1,5 @@
 -- What each call answers.
-use Rattle.std.specs.Prelude.{◌≡◌, ◌⊎◌, ℕ, List, [], ◌∷◌, length, Option, Some, None, Result, Ok, Err}
+use Rattle.std.specs.Prelude.{◌≡◌, ◌≢◌, ◌⊎◌, ℕ, List, [], ◌∷◌, length, Option, Some, None, Result, Ok, Err}
 use Rattle.std.specs.Option.{option_and_then, option_map, option_map_or}
 use Rattle.netlist_schema.specs.Design.{Design}
 use Rattle.netlist_schema.specs.Types.{Object}
@@ -189,12 +189,12 @@ HasShown old new before after answer =
 abbrev pub field_shown : ViewFacts → ℕ → Option (List ℕ)
 field_shown view number = option_and_then (λ which. option_and_then (λ item. field_text view.version.design item which) view.shown) (field_at number)
 
--- the text is that field; there is none; or there was no memory. Then the text is empty
+-- the text is that field; there is none; or there is one, and no memory for it. Then the text is empty
 abbrev pub SaysField : ViewFacts → ℕ → List ℕ → Told → Type 0
 SaysField view number text answer =
     ((answer ≡ only says.Done) × (field_shown view number ≡ Some text))
     ⊎ ((answer ≡ only says.NoField) × (field_shown view number ≡ None) × (text ≡ []))
-    ⊎ ((answer ≡ only says.NoMemory) × (text ≡ []))
+    ⊎ ((answer ≡ only says.NoMemory) × (field_shown view number ≢ None) × (text ≡ []))
 
 abbrev pub AnswersView : ViewCall → ViewFacts → ViewFacts → List ℕ → List ℕ → Told → Type 0
 AnswersView views.Version old new before after answer = (new ≡ old) × (after ≡ before) × (answer ≡ told says.Done old.version.version)
@@ -253,7 +253,9 @@ pub record IsViewOf (desk : DeskFacts) (seat : ℕ) (made : Opened) : Type 0 whe
 
 abbrev pub ViewsDesk : DeskFacts → ℕ → Result Opened Status → Type 0
 ViewsDesk desk seat (Ok made) = IsViewOf desk seat made
-ViewsDesk desk seat (Err status) = (status ≡ says.NoMemory) ⊎ ((status ≡ says.WrongUse) × (pin_of (held_at desk seat) ≡ None))
+ViewsDesk desk seat (Err says.NoMemory) = pin_of (held_at desk seat) ≢ None
+ViewsDesk desk seat (Err says.WrongUse) = pin_of (held_at desk seat) ≡ None
+ViewsDesk desk seat (Err other) = ⊥
 
 abbrev pub ViewsInside : Inside → ℕ → Result Opened Status → Type 0
 ViewsInside (Desk desk) seat result = ViewsDesk desk seat result

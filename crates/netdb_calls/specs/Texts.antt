@@ -1,5 +1,5 @@
 -- The texts of a version, by their numbers, and what writing one comes to.
-use Rattle.std.specs.Prelude.{◌≡◌, ℕ, List, [], Option, Some, None, Result, Ok, Err, if◌then◌else◌, ◌==◌}
+use Rattle.std.specs.Prelude.{◌≡◌, ◌≢◌, ℕ, List, [], Option, Some, None, Result, Ok, Err, if◌then◌else◌, ◌==◌}
 use Rattle.netlist_schema.specs.Design.{Design}
 use Rattle.edif_spec.specs.Arranged.{canonical_text}
 use Rattle.erc_spec.specs.Lines.{findings_text}
@@ -32,14 +32,6 @@ kind_at number =
     else if number == 4 then Some kind.Uses
     else None
 
--- the text of a design
-abbrev pub text_of : Kind → Design → List ℕ
-text_of kind.Edif d = canonical_text d
-text_of kind.Flat d = flattening_text d None
-text_of kind.Csv d = pin_table d
-text_of kind.Erc d = findings_text d
-text_of kind.Uses d = uses_text d
-
 abbrev pub status_of_write : Result (Unit {0}) WriteError → Status
 status_of_write (Ok done) = says.Done
 status_of_write (Err write.WriteFault) = says.WriteFault
@@ -51,17 +43,28 @@ status_of_flat (Err flat.NoTop) = says.NoTop
 status_of_flat (Err flat.WriteFault) = says.WriteFault
 status_of_flat (Err flat.NoMemory) = says.NoMemory
 
--- the whole text was written; or a front of it, where it could not be; there is no top, where one is wanted, and nothing was written
-abbrev pub WritesText : Design → List ℕ → Option (List ℕ) → Option (List ℕ) → Status → Type 0
-WritesText d text old new says.Done = Appends old new text
-WritesText d text old new says.WriteFault = AppendsFront old new text
-WritesText d text old new says.NoMemory = AppendsFront old new text
-WritesText d text old new says.NoTop = (d.top ≡ None) × (new ≡ old)
-WritesText d text old new other = ⊥
+-- the whole text was written, or a front of it, where it could not be
+abbrev pub WritesText : List ℕ → Option (List ℕ) → Option (List ℕ) → Status → Type 0
+WritesText text old new says.Done = Appends old new text
+WritesText text old new says.WriteFault = AppendsFront old new text
+WritesText text old new says.NoMemory = AppendsFront old new text
+WritesText text old new other = ⊥
+
+-- a text that wants a top was written so; or there is none, and nothing was written
+abbrev pub WritesBelow : Design → List ℕ → Option (List ℕ) → Option (List ℕ) → Status → Type 0
+WritesBelow d text old new says.Done = (d.top ≢ None) × Appends old new text
+WritesBelow d text old new says.WriteFault = (d.top ≢ None) × AppendsFront old new text
+WritesBelow d text old new says.NoMemory = (d.top ≢ None) × AppendsFront old new text
+WritesBelow d text old new says.NoTop = (d.top ≡ None) × (new ≡ old)
+WritesBelow d text old new other = ⊥
 
 -- a text of a view's version was written so
 abbrev pub Writes : ViewFacts → Kind → Option (List ℕ) → Option (List ℕ) → Status → Type 0
-Writes view kind old new status = WritesText view.version.design (text_of kind view.version.design) old new status
+Writes view kind.Edif old new status = WritesText (canonical_text view.version.design) old new status
+Writes view kind.Flat old new status = WritesBelow view.version.design (flattening_text view.version.design None) old new status
+Writes view kind.Csv old new status = WritesBelow view.version.design (pin_table view.version.design) old new status
+Writes view kind.Erc old new status = WritesBelow view.version.design (findings_text view.version.design) old new status
+Writes view kind.Uses old new status = WritesText (uses_text view.version.design) old new status
 
 -- the design of the last version
 abbrev pub head_design : DeskFacts → Design
@@ -69,7 +72,7 @@ head_design d = design (state d.story) (head (state d.story))
 
 -- the history of a database was written, with no transcripts
 abbrev pub WritesHistory : DeskFacts → Option (List ℕ) → Option (List ℕ) → Status → Type 0
-WritesHistory d old new status = WritesText (head_design d) (written_report (head_design d) d.story.events []) old new status
+WritesHistory d old new status = WritesText (written_report (head_design d) d.story.events []) old new status
 
 -- the same of what was opened; where that is no view, nothing was written
 abbrev pub WritesOf : Inside → Kind → Option (List ℕ) → Option (List ℕ) → Status → Type 0

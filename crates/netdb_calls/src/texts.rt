@@ -1,5 +1,6 @@
 //! The texts of a version, on their way to a sink.
-ghost use Rattle.std.specs.Prelude.{◌≡◌};
+ghost use Rattle.std.specs.Prelude.{◌≡◌, ◌≤◌};
+ghost use Rattle.netdb_outside.specs.Outside.{Rose};
 ghost use Rattle.netdb_calls.specs.Texts.{Writes, WritesHistory, WritesOf, kind_at, status_of_flat, status_of_write};
 
 use crate::opened::{Inside, Opened};
@@ -62,9 +63,12 @@ fn of_flat(written: Result<(), FlatError>) -> Status
     }
 }
 
-/// Writes a text of a view's version. At `Done` the whole text was written, and else a front of it.
+/// Writes a text of a view's version. At `Done` the whole text was written, and else a front of it. `WriteFault` comes only where the sink
+/// had a fault.
 fn write_of<K: Sink>(view: &View, kind: Kind, out: &mut K) -> Status
-    ensures { Writes view.now kind (K.written out.old) (K.written out.new) result }
+    ensures wrote { Writes view.now kind (K.written out.old) (K.written out.new) result }
+    ensures fault { result ≡ Status.WriteFault → Rose (K.faults out.old) (K.faults out.new) }
+    ensures never_falls { K.faults out.old ≤ K.faults out.new }
 {
     match kind {
         Kind::Edif => of_write(view.write(out)),
@@ -78,14 +82,18 @@ fn write_of<K: Sink>(view: &View, kind: Kind, out: &mut K) -> Status
 /// Writes the history of a database as the report of a run has it, with no transcripts: its events, and the canonical text of the last
 /// version. At `Done` the whole text was written, and else a front of it.
 pub(crate) fn write_history<K: Sink>(alloc: Global, desk: &Desk, out: &mut K) -> Status
-    ensures { WritesHistory desk.now (K.written out.old) (K.written out.new) result }
+    ensures wrote { WritesHistory desk.now (K.written out.old) (K.written out.new) result }
+    ensures fault { result ≡ Status.WriteFault → Rose (K.faults out.old) (K.faults out.new) }
+    ensures never_falls { K.faults out.old ≤ K.faults out.new }
 {
     of_write(write_report(alloc, desk.head(), desk.log(), &[], out))
 }
 
 /// The same of what was opened, where that is a view.
 pub fn write_text<K: Sink>(opened: &Opened, kind: Kind, out: &mut K) -> Status
-    ensures { WritesOf opened.now.inside kind (K.written out.old) (K.written out.new) result }
+    ensures wrote { WritesOf opened.now.inside kind (K.written out.old) (K.written out.new) result }
+    ensures fault { result ≡ Status.WriteFault → Rose (K.faults out.old) (K.faults out.new) }
+    ensures never_falls { K.faults out.old ≤ K.faults out.new }
 {
     let Inside::View(view) = &opened.inside else {
         return Status::WrongUse;

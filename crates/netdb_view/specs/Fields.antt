@@ -50,9 +50,9 @@ field_text d (Pin path port bit first) field.Bit = Some (decimal bit)
 field_text d (Pin path port bit first) field.Direction = option_map way_text (way_at d path port)
 field_text d item other = None
 
--- a text that is there was appended; there is none, and nothing was; or there was no memory, and nothing was
+-- a text that is there was appended, or there was no memory for it, and nothing was; there is none, and nothing was
 abbrev pub Adds : Option (List ℕ) → List ℕ → List ℕ → Result Bool NoMemory → Type 0
 Adds (Some text) old new (Ok true) = new ≡ old ++ text
+Adds (Some text) old new (Err error) = new ≡ old
 Adds None old new (Ok false) = new ≡ old
-Adds found old new (Err error) = new ≡ old
 Adds found old new other = ⊥

@@ -36,9 +36,9 @@ pub record Shows (old new : ViewFacts) : Type 0 where
   pub was : old.left ≡ Some (item ∷ others)
   pub is : new ≡ record { version = old.version; left = Some others; shown = Some item }
 
--- the next item is shown; none is left; no walk was begun; or nothing was changed
+-- the next item is shown; none is left; no walk was begun; or nothing was changed of a walk that was
 abbrev pub StepsOn : ViewFacts → ViewFacts → Step → Type 0
 StepsOn old new step.Shown = Shows old new
 StepsOn old new step.End = (old.left ≡ Some []) × (new ≡ record { version = old.version; left = Some []; shown = None })
 StepsOn old new step.NoWalk = (old.left ≡ None) × (new ≡ old)
-StepsOn old new step.NoMemory = new ≡ old
+StepsOn old new step.NoMemory = (new ≡ old) × (old.left ≢ None)
