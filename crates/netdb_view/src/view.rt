@@ -1,5 +1,5 @@
 //! `View`: a version, and a walk over it.
-ghost use Rattle.std.specs.Prelude.{◌≡◌, ◌++◌, None, OnErr, OnOk, IfNone, IfSome};
+ghost use Rattle.std.specs.Prelude.{◌≡◌, ◌≢◌, ◌++◌, None, OnErr, OnOk, IfNone, IfSome};
 ghost use Rattle.flat_lines_spec.specs.Lines.{item_line};
 ghost use Rattle.netdb_view.specs.Walking.{Begins, BeginsAt, StepsOn};
 
@@ -139,7 +139,7 @@ impl View {
     }
 
     /// Shows the next item of the walk. `End` comes exactly where none is left, and `NoWalk` exactly where none was begun. After
-    /// `NoMemory` nothing was changed.
+    /// `NoMemory`, which comes only of a walk that was, nothing was changed.
     pub fn next(&mut self) -> Step
         ensures { StepsOn self.old self.new result }
     {
@@ -166,11 +166,12 @@ impl View {
         &self.shown
     }
 
-    /// Appends the line of the item that is shown; nothing where none is. After `NoMemory` the bytes are as before.
+    /// Appends the line of the item that is shown; nothing where none is. After `NoMemory`, which comes only where one is, the bytes are as
+    /// before.
     pub fn line(&self, out: &mut Vec<u8>) -> Result<(), NoMemory>
         ensures none { IfNone self.now.shown (out.new.items ≡ out.old.items) }
         ensures ok { IfSome self.now.shown (λ item. OnOk result (out.new.items ≡ out.old.items ++ item_line self.now.version.design item)) }
-        ensures err { OnErr result (out.new.items ≡ out.old.items) }
+        ensures err { OnErr result ((out.new.items ≡ out.old.items) × (self.now.shown ≢ None)) }
     {
         match &self.shown {
             Some(item) => item_text(self.alloc, &self.version, item, out),
