@@ -1,0 +1,4 @@
+mod Opens
+mod Others
+mod Saying
+mod Writing

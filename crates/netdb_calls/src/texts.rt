@@ -1,0 +1,102 @@
+//! The texts of a version, on their way to a sink.
+ghost use Rattle.std.specs.Prelude.{◌≡◌, ◌≤◌};
+ghost use Rattle.netdb_outside.specs.Outside.{Rose};
+ghost use Rattle.netdb_calls.specs.Texts.{Writes, WritesHistory, WritesOf, kind_at, status_of_flat, status_of_write};
+
+use crate::opened::{Inside, Opened};
+use crate::status::Status;
+use netdb_desk::Desk;
+use netdb_outside::{Sink, WriteError};
+use netdb_view::{FlatError, View};
+use script_report::write_report;
+use std::alloc::Global;
+
+/// A text of a version.
+#[derive(Clone, Copy, Debug, PartialEq, Eq)]
+pub enum Kind {
+    /// The canonical text.
+    Edif,
+    /// The lines of the flattening, and `end`.
+    Flat,
+    /// The pin table.
+    Csv,
+    /// What an electrical check finds, and `end`.
+    Erc,
+    /// Where each cell is used.
+    Uses,
+}
+
+/// The text of a number, where it is one.
+pub fn kind_of(number: u32) -> Option<Kind>
+    ensures { result ≡ kind_at number }
+{
+    match number {
+        0 => Some(Kind::Edif),
+        1 => Some(Kind::Flat),
+        2 => Some(Kind::Csv),
+        3 => Some(Kind::Erc),
+        4 => Some(Kind::Uses),
+        _ => None,
+    }
+}
+
+/// What writing a text came to.
+fn of_write(written: Result<(), WriteError>) -> Status
+    ensures { result ≡ status_of_write written }
+{
+    match written {
+        Ok(()) => Status::Done,
+        Err(WriteError::WriteFault) => Status::WriteFault,
+        Err(WriteError::NoMemory) => Status::NoMemory,
+    }
+}
+
+/// What writing a text of the flattening came to.
+fn of_flat(written: Result<(), FlatError>) -> Status
+    ensures { result ≡ status_of_flat written }
+{
+    match written {
+        Ok(()) => Status::Done,
+        Err(FlatError::NoTop) => Status::NoTop,
+        Err(FlatError::WriteFault) => Status::WriteFault,
+        Err(FlatError::NoMemory) => Status::NoMemory,
+    }
+}
+
+/// Writes a text of a view's version. At `Done` the whole text was written, and else a front of it. `WriteFault` comes only where the sink
+/// had a fault.
+fn write_of<K: Sink>(view: &View, kind: Kind, out: &mut K) -> Status
+    ensures wrote { Writes view.now kind (K.written out.old) (K.written out.new) result }
+    ensures fault { result ≡ Status.WriteFault → Rose (K.faults out.old) (K.faults out.new) }
+    ensures never_falls { K.faults out.old ≤ K.faults out.new }
+{
+    match kind {
+        Kind::Edif => of_write(view.write(out)),
+        Kind::Flat => of_flat(view.flat(None, out)),
+        Kind::Csv => of_flat(view.csv(out)),
+        Kind::Erc => of_flat(view.erc(out)),
+        Kind::Uses => of_write(view.uses(out)),
+    }
+}
+
+/// Writes the history of a database as the report of a run has it, with no transcripts: its events, and the canonical text of the last
+/// version. At `Done` the whole text was written, and else a front of it.
+pub(crate) fn write_history<K: Sink>(alloc: Global, desk: &Desk, out: &mut K) -> Status
+    ensures wrote { WritesHistory desk.now (K.written out.old) (K.written out.new) result }
+    ensures fault { result ≡ Status.WriteFault → Rose (K.faults out.old) (K.faults out.new) }
+    ensures never_falls { K.faults out.old ≤ K.faults out.new }
+{
+    of_write(write_report(alloc, desk.head(), desk.log(), &[], out))
+}
+
+/// The same of what was opened, where that is a view.
+pub fn write_text<K: Sink>(opened: &Opened, kind: Kind, out: &mut K) -> Status
+    ensures wrote { WritesOf opened.now.inside kind (K.written out.old) (K.written out.new) result }
+    ensures fault { result ≡ Status.WriteFault → Rose (K.faults out.old) (K.faults out.new) }
+    ensures never_falls { K.faults out.old ≤ K.faults out.new }
+{
+    let Inside::View(view) = &opened.inside else {
+        return Status::WrongUse;
+    };
+    write_of(view, kind, out)
+}
