@@ -190,7 +190,10 @@ pub extern "C" fn netdb_c_commit(
 ) -> u32
     ensures { Says (asks.Desk (desk.Commit seat)) of.old.held of.new.held version.old version.new result }
 {
-    give(on(alloc, of, Call::Desk(DeskCall::Commit { seat })), version)
+    give(
+        on(alloc, of, Call::Desk(DeskCall::Commit { seat })),
+        version,
+    )
 }
 
 /// Ends a seat's transaction without a commit.

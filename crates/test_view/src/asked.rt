@@ -52,7 +52,10 @@ fn the_later_of_two_commits_has_a_text(rt: HostRuntime) -> Result<(), Fail> {
     assert_eq!(rt; first, told(Status::Done, 1));
     let second = ask(alloc, &mut db, Call::Desk(DeskCall::Commit { seat: 0 }));
     assert_eq!(rt; second, told(Status::Conflict, 1));
-    assert_eq!(rt; db.text.as_slice(), b"conflict contents w T version 1\n".as_slice());
+    assert_eq!(rt;
+        db.text.as_slice(),
+        b"conflict contents w T version 1\n".as_slice()
+    );
     Ok(())
 }
 

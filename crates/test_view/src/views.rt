@@ -57,7 +57,10 @@ fn a_walk_at_a_path_shows_what_is_below(rt: HostRuntime) -> Result<(), Fail> {
     assert_eq!(rt; view.begin_at(&[1]), Err(BeginError::NoPath));
     assert_eq!(rt; view.begin_at(&[0]), Ok(()));
     assert_eq!(rt; view.next(), Step::Shown);
-    assert_eq!(rt; line_of(rt.alloc(), &view)?.as_slice(), b"inst /i w L\n".as_slice());
+    assert_eq!(rt;
+        line_of(rt.alloc(), &view)?.as_slice(),
+        b"inst /i w L\n".as_slice()
+    );
     Ok(())
 }
 
@@ -116,7 +119,10 @@ fn texts_go_to_a_sink(rt: HostRuntime) -> Result<(), Fail> {
     let view = view_of(rt.alloc(), PAIR)?;
     let mut flat = MemSink::new(rt.alloc(), None);
     assert_eq!(rt; view.flat(Some(2), &mut flat), Ok(()));
-    assert_eq!(rt; flat.written(), b"inst / w T\nnet / n / n\nmore\n".as_slice());
+    assert_eq!(rt;
+        flat.written(),
+        b"inst / w T\nnet / n / n\nmore\n".as_slice()
+    );
     let mut short = MemSink::new(rt.alloc(), Some(3));
     assert_eq!(rt; view.flat(None, &mut short), Err(FlatError::WriteFault));
     let mut edif = MemSink::new(rt.alloc(), None);
