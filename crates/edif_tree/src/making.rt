@@ -142,7 +142,7 @@ impl Making {
     {
         let root = self.loose.first().copied();
         match root {
-            Some(root) if self.forms.is_empty() => Ok(Tree::of(self.nodes, root)),
+            Some(root) if self.forms.is_empty() => Ok(Tree::of(self.nodes, root)?),
             _ => Err(TreeError::At {
                 kind: TreeKind::Unended,
                 place: end,

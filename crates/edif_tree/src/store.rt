@@ -1,13 +1,12 @@
-//! A list of nodes, which only grows.
-ghost use Rattle.std.specs.Prelude.{◌≡◌, ◌<◌, ◌∷◌, ◌++◌, [], length, Some, IfOk, OnOk, OnErr, slice_get, option_map};
+//! A list of nodes, which only grows until it is whole.
+ghost use Rattle.std.specs.Prelude.{◌≡◌, ◌∷◌, ◌++◌, [], length, IfOk, OnOk, OnErr};
 ghost use Rattle.edif_tree.specs.Making.{IsLeaf, leaf_of};
-ghost use Rattle.edif_tree.specs.Keywords.{seen_keyword};
-ghost use Rattle.edif_tree.specs.Nodes.{FormOf, IntegerOf, StringOf, WordOf, seen};
+ghost use Rattle.edif_tree.specs.Nodes.{FormOf, IntegerOf, StringOf, WordOf};
 
 use crate::node_lists::NodeLists;
-use crate::stored::{NodeId, PackedKind, StoredKind, StoredNode, StoredShape};
+use crate::rows::Rows;
+use crate::stored::{NodeId, PackedKind, StoredKind, StoredNode};
 use crate::words::Words;
-use edif_keywords::Keyword;
 use edif_spelling_spec::TokenKind;
 use netlist_schema::{Ident, NoMemory, Text};
 use std::alloc::Global;
@@ -130,35 +129,24 @@ impl Store {
         add_node(&mut self.nodes, place, StoredKind::Form(at))
     }
 
-    /// The place of a node.
-    pub fn place(&self, id: NodeId) -> u64
-        requires { id.0 < length self.now }
-        ensures { option_map (λ row. row.place) (slice_get self.now id.0) ≡ Some result }
+    /// The same nodes, to which no others come.
+    pub fn finish(self) -> Result<Rows, NoMemory>
+        ensures { IfOk result (λ rows. rows ≡ self) }
     {
-        u64::from(self.nodes[id.0 as usize].place)
-    }
-
-    /// What stands at a node.
-    pub fn shape(&self, id: NodeId) -> StoredShape<'_>
-        requires { id.0 < length self.now }
-        ensures { option_map (λ row. row.shape) (slice_get self.now id.0) ≡ Some (seen result) }
-    {
-        match self.nodes[id.0 as usize].kind.unpack() {
-            StoredKind::Form(at) => StoredShape::Form(self.arguments.get(at as usize)),
-            StoredKind::Word(at) => StoredShape::Word(self.words.name(at as usize)),
-            StoredKind::Integer(at) => StoredShape::Integer(self.integers[at as usize]),
-            StoredKind::String(at) => StoredShape::String(&self.strings[at as usize]),
-        }
-    }
-
-    /// The keyword that the word at a node spells, or `None` where it spells none, or no word stands there.
-    pub fn keyword(&self, id: NodeId) -> Option<Keyword>
-        requires { id.0 < length self.now }
-        ensures { option_map (λ row. seen_keyword row.shape) (slice_get self.now id.0) ≡ Some result }
-    {
-        match self.nodes[id.0 as usize].kind.unpack() {
-            StoredKind::Word(at) => self.words.keyword(at as usize),
-            _ => None,
-        }
+        let Store {
+            nodes,
+            arguments,
+            words,
+            integers,
+            strings,
+        } = self;
+        let words = words.finish()?;
+        Ok(Rows {
+            nodes,
+            arguments,
+            words,
+            integers,
+            strings,
+        })
     }
 }

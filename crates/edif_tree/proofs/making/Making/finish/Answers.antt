@@ -19,8 +19,8 @@ of-requires c =
     let found = ends_closed c.args.self c.requires.0 c.args.end c.in-Some.root empty first c.requires.1 in
     root_is c.args.self.nodes c.in-Some.root found.1.0 found.2 found.1.1
 
-pub returns-in-Some-clause-ok : goal.returns-in-Some-clause-ok
-returns-in-Some-clause-ok c ts h =
+pub returns-in_ok-of-in-Some-clause-ok : goal.returns-in_ok-of-in-Some-clause-ok
+returns-in_ok-of-in-Some-clause-ok c ts h =
     let forms = c.args.self.forms.ok.0 in
     let none = eqb-true (vec_len c.args.self.forms) 0 (sym c.if-is_empty.ensures) in
     let empty : length c.args.self.forms.items ≡ 0 = omega arith in
@@ -28,7 +28,7 @@ returns-in-Some-clause-ok c ts h =
     ap (λ v. slice_get v 0) (sym c.deref.ensures.value) ∙ (sym c.first.ensures.value ∙ (sym c.copied-root.ensures ∙ c.in-Some.is)) in
     let found = ends_closed c.args.self ts c.args.end c.in-Some.root empty first h in
     let T : Table → Type 0 = λ v. (t : Placed) × IsAt v.rows v.root t × Lists ts t in
-    (found.0, subst T (sym c.of.ensures) found.1)
+    (found.0, subst T (sym c.in_ok-of-in-Some.ensures) found.1)
 
 pub returns-in_default-clause-at : goal.returns-in_default-clause-at
 returns-in_default-clause-at c ts h =

@@ -1,11 +1,10 @@
 use Rattle.std.proofs.Common.{ap, sym, ◌∙◌, Some, [], get_or}
 use Rattle.std.specs.Prelude.{slice_get}
-use Rattle.edif_spec.specs.Keyword.{keyword}
 use Rattle.edif_tree.specs.Nodes.{WordOf, Stores, shape_of}
 use Rattle.edif_tree.specs.declared.stored.StoredKind.TheVariants as kinds
 use Rattle.edif_tree.proofs.NodeLemmas.{looked}
 use Rattle.edif_tree.proofs.WordLemmas.{keyword_got, keyword_seen, no_word}
-use Rattle.edif_tree.proofs.store.Store.keyword.Goals as goal
+use Rattle.edif_tree.proofs.rows.Rows.keyword.Goals as goal
 
 pub keyword-requires : goal.keyword-requires
 keyword-requires c =

@@ -1,11 +1,11 @@
-use Rattle.std.proofs.Common.{◌≡◌, ◌∙◌, [], ℤ, pos, ap, sym, subst, Some, length, get_or, arith}
+use Rattle.std.proofs.Common.{◌≡◌, ◌∙◌, [], ℤ, pos, ap, sym, subst, Some, get_or, arith}
 use Rattle.std.specs.Int.{w64}
 use Rattle.std.specs.Prelude.{FitsSigned}
 use Rattle.std.proofs.lemmas.Int.{to_z-of_z}
 use Rattle.edif_tree.specs.Nodes.{FormOf, IntegerOf, StringOf, WordOf, Stores}
 use Rattle.edif_tree.specs.declared.stored.StoredKind.TheVariants as kinds
 use Rattle.edif_tree.proofs.NodeLemmas.{looked, read_got, read_within}
-use Rattle.edif_tree.proofs.store.Store.shape.Goals as goal
+use Rattle.edif_tree.proofs.rows.Rows.shape.Goals as goal
 
 pub get-requires : goal.get-requires
 get-requires c =
