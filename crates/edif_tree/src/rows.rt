@@ -37,9 +37,9 @@ impl Model for Rows {
 
     ghost Value = { List NodeRow };
 
-    ghost view = { λ a. map (row_of (record { arguments = a.arguments; words = a.words; integers = a.integers.items; strings = a.strings.items })) a.nodes.items };
+    ghost view = { λ a. map (row_of (record { arguments = a.arguments.lists; words = a.words; integers = a.integers.items; strings = a.strings.items })) a.nodes.items };
 
-    ghost invariant = { λ a. AreWithin (record { arguments = a.arguments; words = a.words; integers = a.integers.items; strings = a.strings.items }) a.nodes.items };
+    ghost invariant = { λ a. AreWithin (record { arguments = a.arguments.lists; words = a.words; integers = a.integers.items; strings = a.strings.items }) a.nodes.items };
 }
 
 impl Rows {

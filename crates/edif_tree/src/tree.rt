@@ -1,5 +1,5 @@
 //! A tree as a list of nodes.
-ghost use Rattle.std.specs.Prelude.{◌≡◌, ◌<◌, IfOk, length, option_map, slice_get, Some, true};
+ghost use Rattle.std.specs.Prelude.{◌≡◌, ◌<◌, ◌++◌, IfOk, length, option_map, slice_get, Some, true};
 ghost use Rattle.edif_spelling_spec.specs.Tree.{Placed};
 ghost use Rattle.edif_tree.specs.Keywords.{seen_keyword};
 ghost use Rattle.edif_tree.specs.Nodes.{IsAt, seen};
@@ -41,8 +41,8 @@ impl Model for Tree {
 impl Tree {
     /// The tree of these nodes.
     pub(crate) fn of(nodes: Store, root: NodeId) -> Result<Tree, NoMemory>
-        requires { is_node nodes root ≡ true }
-        ensures { IfOk result (λ tree. tree ≡ record { rows = nodes; root = root }) }
+        requires { is_node (nodes.rows ++ nodes.loose) root ≡ true }
+        ensures { IfOk result (λ tree. tree ≡ record { rows = nodes.rows ++ nodes.loose; root = root }) }
     {
         let nodes = nodes.finish()?;
         Ok(Tree { nodes, root })
