@@ -1,8 +1,9 @@
 -- The tree at a node stands there.
-use Rattle.std.proofs.Common.{◌≡◌, ◌<◌, ◌+◌, ℕ, zero, suc, true, List, [], ◌∷◌, length, map, take, drop, get_or, Option, Some, refl, sym, ap, ◌∙◌, subst, arith}
+use Rattle.std.proofs.Common.{◌≡◌, ◌<◌, ◌+◌, ℕ, zero, suc, true, List, [], ◌∷◌, length, map, take, drop, Option, Some, refl, sym, ap, ◌∙◌, subst, arith}
 use Rattle.std.specs.Prelude.{slice_get, option_map, nat_lt}
 use Rattle.std.specs.List.{list_all}
 use Rattle.std.proofs.lemmas.Bool.{ltb-true, lt-ltb, and_parts, and_from}
+use Rattle.std.proofs.lemmas.Option.{slice_get-map}
 use Rattle.edif_spelling_spec.specs.Tree.{Placed, Trees, Form', Word', Integer', String', End, More, trees}
 use Rattle.edif_tree.specs.Nodes.{Seen, FormOf, WordOf, IntegerOf, StringOf, NodeRow, IsAt, AreAt, place_of}
 use Rattle.edif_tree.specs.Order.{in_order_at, in_order_from, is_node, are_nodes}
@@ -111,18 +112,16 @@ pub within : (rows : List NodeRow) (id : NodeId) → is_node rows id ≡ true �
 within rows id h = ltb-true id.0 (length rows) (and_parts (in_order_from 0 rows) (nat_lt id.0 (length rows)) h).1
 
 -- one of nodes, and parts of them
-pub node_of : (rows : List NodeRow) (ids : List NodeId) (i : ℕ) (d : NodeId) → are_nodes rows ids ≡ true → i < length ids → is_node rows (get_or ids i d) ≡ true
-node_of rows [] i d h l = absurd (omega arith)
-node_of rows (id ∷ ids) zero d h l = (and_parts (is_node rows id) (are_nodes rows ids) h).0
-node_of rows (id ∷ ids) (suc i) d h l = node_of rows ids i d (and_parts (is_node rows id) (are_nodes rows ids) h).1 (omega arith)
+pub node_of : (rows : List NodeRow) (ids : List NodeId) (i : ℕ) (id : NodeId) → are_nodes rows ids ≡ true → slice_get ids i ≡ Some id → is_node rows id ≡ true
+node_of rows [] i id h e = absurd (cc e)
+node_of rows (x ∷ ids) zero id h e =
+    let same : x ≡ id = cc e in
+    let P : NodeId → Type 0 = λ v. is_node rows v ≡ true in
+    subst P same (and_parts (is_node rows x) (are_nodes rows ids) h).0
+node_of rows (x ∷ ids) (suc i) id h e = node_of rows ids i id (and_parts (is_node rows x) (are_nodes rows ids) h).1 e
 
-pub tree_of : (rows : List NodeRow) (ids : List NodeId) (i : ℕ) (d : NodeId) → i < length ids → slice_get (map (tree_at rows) ids) i ≡ Some (tree_at rows (get_or ids i d))
-tree_of rows [] i d l = absurd (omega arith)
-tree_of rows (id ∷ ids) zero d l = refl
-tree_of rows (id ∷ ids) (suc i) d l = tree_of rows ids i d (omega arith)
-
-pub first_of : (rows : List NodeRow) (ids others : List NodeId) (first : NodeId) → are_nodes rows ids ≡ true → ids ≡ first ∷ others → (is_node rows first ≡ true) × (are_nodes rows others ≡ true)
-first_of rows ids others first h e = and_parts (is_node rows first) (are_nodes rows others) (sym (ap (are_nodes rows) e) ∙ h)
+pub tree_of : (rows : List NodeRow) (ids : List NodeId) (i : ℕ) (id : NodeId) → slice_get ids i ≡ Some id → slice_get (map (tree_at rows) ids) i ≡ Some (tree_at rows id)
+tree_of rows ids i id e = slice_get-map (tree_at rows) ids i ∙ ap (option_map (tree_at rows)) e
 
 pub taken : (rows : List NodeRow) (n : ℕ) (ids : List NodeId) → are_nodes rows ids ≡ true → are_nodes rows (take n ids) ≡ true
 taken rows zero ids h = refl
@@ -135,12 +134,3 @@ pub dropped : (rows : List NodeRow) (n : ℕ) (ids : List NodeId) → are_nodes 
 dropped rows zero ids h = h
 dropped rows (suc n) [] h = refl
 dropped rows (suc n) (id ∷ ids) h = dropped rows n ids (and_parts (is_node rows id) (are_nodes rows ids) h).1
-
-pub map_take : {A B : Type 0} (f : A → B) (n : ℕ) (xs : List A) → map f (take n xs) ≡ take n (map f xs)
-map_take f zero xs = refl
-map_take f (suc n) [] = refl
-map_take f (suc n) (x ∷ xs) = ap (λ v. f x ∷ v) (map_take f n xs)
-
-pub none_at : (ids : List NodeId) → length ids ≡ 0 → ids ≡ []
-none_at [] e = refl
-none_at (id ∷ ids) e = absurd (omega arith)

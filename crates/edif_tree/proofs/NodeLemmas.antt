@@ -1,15 +1,17 @@
 -- Facts on the nodes of a list.
-use Rattle.std.proofs.Common.{◌≡◌, ℕ, ℤ, pos, Bool, true, false, if◌then◌else◌, nat_eq, zero, suc, ◌<◌, ◌≤◌, List, [], ◌∷◌, ◌++◌, length, map, Some, refl, sym, ap, ◌∙◌, subst, arith, append-nil, length-append, get_or, Result, Ok, Err}
+use Rattle.std.proofs.Common.{◌≡◌, ℕ, ℤ, pos, Bool, true, false, if◌then◌else◌, nat_eq, zero, suc, ◌+◌, ◌-◌, ◌<◌, ◌≤◌, List, [], ◌∷◌, ◌++◌, length, map, take, drop, Some, refl, sym, ap, ◌∙◌, subst, arith, append-nil, length-append, get_or, Result, Ok, Err}
 use Rattle.std.specs.Int.{w64}
-use Rattle.std.specs.Prelude.{FitsSigned, slice_get, option_map, IfOk, OnOk, OnErr}
+use Rattle.std.specs.Prelude.{FitsSigned, slice_get, option_map, OnOk, OnErr}
 use Rattle.netlist_schema.specs.declared.memory.NoMemory.{NoMemory}
 use Rattle.std.specs.List.{list_any}
 use Rattle.std.specs.Cmp.Lexicographic.{pointwise, same_text}
-use Rattle.std.proofs.lemmas.List.{map-append, length-map, get_or_append_left}
+use Rattle.std.proofs.lemmas.List.{map-append, length-map, get_or_append_left, drop-map, take-map}
 use Rattle.std.proofs.lemmas.Option.{slice_get_within, slice_get-map, slice_get_read}
 use Rattle.indexmap.specs.IndexSet.{insert_key}
 use Rattle.edif_spelling_spec.specs.Tree.{Placed, Form', Word', Integer', String'}
-use Rattle.edif_tree.specs.Nodes.{FormOf, WordOf, IntegerOf, StringOf, Seen, NodeRow, Stores, shape_of, row_of, IsWithin, AreWithin, IsAt, place_of}
+use Rattle.edif_tree.specs.Nodes.{FormOf, WordOf, IntegerOf, StringOf, Seen, NodeRow, Made, Stores, shape_of, row_of, IsWithin, AreWithin, AreMade, made_of, with_form, with_loose, IsAt, place_of}
+use Rattle.edif_tree.specs.NodeLists.{EndedLists, with_end}
+use Rattle.edif_tree.specs.Ranges.{ids_from}
 use Rattle.edif_tree.specs.declared.stored.NodeId.{NodeId}
 use Rattle.edif_tree.specs.declared.stored.StoredNode.{StoredNode}
 use Rattle.edif_tree.specs.declared.stored.StoredKind.{StoredKind}
@@ -110,27 +112,115 @@ node_pushed s t nodes all node shape g pushed within is h =
           ∙ ap (λ v. map (row_of s) nodes ++ record { place = node.place; shape = v } ∷ []) is,
     )
 
--- what an answer says of a node behind the others
-pub record Added (t : Stores) (all : List StoredNode) (rows : List NodeRow) (row : NodeRow) (result : Result NodeId NoMemory) : Type 0 where
-  pub within : AreWithin t all
-  pub ok : IfOk result (λ id. (id.0 ≡ length rows) × (map (row_of t) all ≡ rows ++ row ∷ []))
-
-pub added : (s t : Stores) (nodes all : List StoredNode) (rows : List NodeRow) (place : ℕ) (kind : StoredKind) (shape : Seen) (result : Result NodeId NoMemory) → map (row_of s) nodes ≡ rows → AreWithin s nodes → Grow s t → IsWithin t kind → shape_of t kind ≡ shape
-    → IfOk result (λ id. id.0 ≡ length nodes) → OnOk result (all ≡ nodes ++ record { place = place; kind = kind } ∷ []) → OnErr result (all ≡ nodes) → Added t all rows (record { place = place; shape = shape }) result
-added s t nodes all rows place kind shape (Ok id) view h g within is at pushed same =
-    let node : StoredNode = record { place = place; kind = kind } in
-    let done = node_pushed s t nodes all node shape g pushed within is h in
-    record {
-      within = done.0;
-      ok = (at ∙ sym (length-map nodes (row_of s)) ∙ ap length view, done.1 ∙ ap (λ v. v ++ record { place = place; shape = shape } ∷ []) view);
-    }
-added s t nodes all rows place kind shape (Err e) view h g within is at pushed same =
-    let W : List StoredNode → Type 0 = AreWithin t in
-    record { within = subst W (sym same) (are_within_more s t nodes g h); ok = tt }
-
 -- a list that stays goes on
 pub stays : {A : Type 0} (xs : List A) → (more : List A) × (xs ≡ xs ++ more)
 stays xs = ([], sym (append-nil xs))
+
+-- what stands beside the nodes goes on
+pub made_more : (s t : Stores) (end : ℕ) (nodes loose : List StoredNode) → Grow s t → AreMade s end nodes loose → AreMade t end nodes loose
+made_more s t end nodes loose g h = record { held = are_within_more s t nodes g h.held; free = are_within_more s t loose g h.free; ended = h.ended }
+
+-- what an answer says of a loose node behind the others
+pub record Added (t : Stores) (end : ℕ) (nodes all : List StoredNode) (made : Made) (row : NodeRow) (result : Result (Unit {0}) NoMemory) : Type 0 where
+  pub within : AreMade t end nodes all
+  pub ok : OnOk result (made_of t nodes all ≡ with_loose made row)
+
+pub added : (s t : Stores) (end : ℕ) (nodes loose all : List StoredNode) (made : Made) (place : ℕ) (kind : StoredKind) (shape : Seen) (result : Result (Unit {0}) NoMemory) → made_of s nodes loose ≡ made → AreMade s end nodes loose → Grow s t → IsWithin t kind → shape_of t kind ≡ shape
+    → OnOk result (all ≡ loose ++ record { place = place; kind = kind } ∷ []) → OnErr result (all ≡ loose) → Added t end nodes all made (record { place = place; shape = shape }) result
+added s t end nodes loose all made place kind shape (Ok u) view h g within is pushed same =
+    let node : StoredNode = record { place = place; kind = kind } in
+    let row : NodeRow = record { place = place; shape = shape } in
+    let done = node_pushed s t loose all node shape g pushed within is h.free in
+    let rows = rows_more s t nodes g h.held in
+    let one : made_of t nodes all ≡ with_loose (made_of s nodes loose) row = λ j. record { rows = rows j; loose = done.1 j } in
+    record {
+      within = record { held = are_within_more s t nodes g h.held; free = done.0; ended = h.ended };
+      ok = one ∙ ap (λ m. with_loose m row) view;
+    }
+added s t end nodes loose all made place kind shape (Err e) view h g within is pushed same =
+    let W : List StoredNode → Type 0 = AreWithin t in
+    record { within = record { held = are_within_more s t nodes g h.held; free = subst W (sym same) (are_within_more s t loose g h.free); ended = h.ended }; ok = tt }
+
+-- nodes within lists, some of them and more
+within_append : (s : Stores) (xs ys : List StoredNode) → AreWithin s xs → AreWithin s ys → AreWithin s (xs ++ ys)
+within_append s [] ys h k = k
+within_append s (x ∷ xs) ys h k = (h.0, within_append s xs ys h.1 k)
+
+within_drop : (s : Stores) (n : ℕ) (xs : List StoredNode) → AreWithin s xs → AreWithin s (drop n xs)
+within_drop s zero xs h = h
+within_drop s (suc n) [] h = h
+within_drop s (suc n) (x ∷ xs) h = within_drop s n xs h.1
+
+within_take : (s : Stores) (n : ℕ) (xs : List StoredNode) → AreWithin s xs → AreWithin s (take n xs)
+within_take s zero xs h = tt
+within_take s (suc n) [] h = tt
+within_take s (suc n) (x ∷ xs) h = (h.0, within_take s n xs h.1)
+
+-- The loose nodes from a place on come behind the others: what stands then.
+pub record Moved (s t : Stores) (end : ℕ) (nodes loose all : List StoredNode) (made : Made) (start : ℕ) : Type 0 where
+  pub within : AreMade t end all (take start loose)
+  pub is : made_of t all (take start loose) ≡ record { rows = made.rows ++ drop start made.loose; loose = take start made.loose }
+  pub first : length nodes ≡ length made.rows
+  pub count : length (drop start loose) ≡ length (drop start made.loose)
+
+pub moved : (s t : Stores) (was end : ℕ) (nodes loose all : List StoredNode) (made : Made) (start : ℕ) → made_of s nodes loose ≡ made → AreMade s was nodes loose → Grow s t → all ≡ nodes ++ drop start loose → end ≡ length all → Moved s t end nodes loose all made start
+moved s t was end nodes loose all made start view h g pushed e =
+    let W : List StoredNode → Type 0 = AreWithin t in
+    let held = are_within_more s t nodes g h.held in
+    let free = are_within_more s t loose g h.free in
+    let R : List StoredNode → List NodeRow = map (row_of t) in
+    let nodes_are : R nodes ≡ made.rows = rows_more s t nodes g h.held ∙ ap (λ m. m.rows) view in
+    let loose_are : R loose ≡ made.loose = rows_more s t loose g h.free ∙ ap (λ m. m.loose) view in
+    let rest_are : R (drop start loose) ≡ drop start made.loose = sym (drop-map (row_of t) start loose) ∙ ap (drop start) loose_are in
+    let rows : R all ≡ made.rows ++ drop start made.loose =
+    ap R pushed ∙ (map-append (row_of t) nodes (drop start loose) ∙ (ap (λ v. v ++ R (drop start loose)) nodes_are ∙ ap (λ v. made.rows ++ v) rest_are)) in
+    let front : R (take start loose) ≡ take start made.loose = sym (take-map (row_of t) start loose) ∙ ap (take start) loose_are in
+    record {
+      within = record { held = subst W (sym pushed) (within_append t nodes (drop start loose) held (within_drop t start loose free)); free = within_take t start loose free; ended = e };
+      is = λ j. record { rows = rows j; loose = front j };
+      first = sym (length-map nodes (row_of t)) ∙ ap length nodes_are;
+      count = sym (length-map (drop start loose) (row_of t)) ∙ ap length rest_are;
+    }
+
+-- all nodes, the loose ones last
+pub all_made : (s : Stores) (end : ℕ) (nodes loose all : List StoredNode) (made : Made) → made_of s nodes loose ≡ made → AreMade s end nodes loose → all ≡ nodes ++ loose → AreWithin s all × (map (row_of s) all ≡ made.rows ++ made.loose)
+all_made s end nodes loose all made view h e =
+    let W : List StoredNode → Type 0 = AreWithin s in (
+      subst W (sym e) (within_append s nodes loose h.held h.free),
+      ap (map (row_of s)) e ∙ (map-append (row_of s) nodes loose ∙ ap (λ m. m.rows ++ m.loose) view),
+    )
+
+-- the loose node of a form whose arguments were moved
+pub record FormAdded (t : Stores) (end : ℕ) (all last : List StoredNode) (made : Made) (place start : ℕ) (result : Result (Unit {0}) NoMemory) : Type 0 where
+  pub within : AreMade t end all last
+  pub ok : OnOk result (made_of t all last ≡ with_form made place start)
+
+pub form_added : (old : EndedLists) (words : List (List ℕ)) (integers : List ℤ) (strings : List (List ℕ)) (nodes loose all left last : List StoredNode) (made : Made) (place start at : ℕ) (new : EndedLists) (result : Result (Unit {0}) NoMemory)
+    → made_of (record { arguments = old.lists; words = words; integers = integers; strings = strings }) nodes loose ≡ made → AreMade (record { arguments = old.lists; words = words; integers = integers; strings = strings }) old.end nodes loose → at ≡ length old.lists
+    → all ≡ nodes ++ drop start loose → new ≡ with_end old (length all) → left ≡ take start loose → OnOk result (last ≡ left ++ record { place = place; kind = kinds.Form at } ∷ []) → OnErr result (last ≡ left)
+    → FormAdded (record { arguments = new.lists; words = words; integers = integers; strings = strings }) new.end all last made place start result
+form_added old words integers strings nodes loose all left last made place start at new result view h number pushed grown kept ok err =
+    let beside : List (List NodeId) → Stores = λ v. record { arguments = v; words = words; integers = integers; strings = strings } in
+    let s : Stores = beside old.lists in
+    let t : Stores = beside new.lists in
+    let ids : List NodeId = ids_from old.end (length all - old.end) in
+    let lists : new.lists ≡ old.lists ++ ids ∷ [] = ap (λ l. l.lists) grown in
+    let end : new.end ≡ length all = ap (λ l. l.end) grown in
+    let g : Grow s t = record { arguments = (ids ∷ [], lists); words = stays words; integers = stays integers; strings = stays strings } in
+    let m = moved s t old.end new.end nodes loose all made start view h g pushed end in
+    let P : List StoredNode → Type 0 = λ v. AreMade t new.end all v in
+    let last_list = read_last [] ids old.lists new.lists at lists number in
+    let first : old.end ≡ length made.rows = h.ended ∙ m.first in
+    let long : length all ≡ length nodes + length (drop start loose) = ap length pushed ∙ length-append nodes (drop start loose) in
+    let start_is = h.ended in
+    let count : length all - old.end ≡ length (drop start made.loose) = omega (arith, long, start_is, m.count) in
+    let same : ids ≡ ids_from (length made.rows) (length (drop start made.loose)) = ap (λ v. ids_from v (length all - old.end)) first ∙ ap (ids_from (length made.rows)) count in
+    let shape : shape_of t (kinds.Form at) ≡ FormOf (ids_from (length made.rows) (length (drop start made.loose))) = ap FormOf (last_list.1 ∙ same) in
+    let now : Made = record { rows = made.rows ++ drop start made.loose; loose = take start made.loose } in
+    let is : made_of t all left ≡ now = ap (made_of t all) kept ∙ m.is in
+    let none : Grow t t = record { arguments = stays new.lists; words = stays words; integers = stays integers; strings = stays strings } in
+    let a = added t t new.end all left last now place (kinds.Form at) (FormOf (ids_from (length made.rows) (length (drop start made.loose)))) result is (subst P (sym kept) m.within) none last_list.0 shape ok err in
+    record { within = a.within; ok = a.ok }
 
 -- the words after one more, and where it stands
 pub words_grow : (name : List ℕ) (old new : List (List ℕ)) → new ≡ insert_key (pointwise nat_eq) old name → (more : List (List ℕ)) × (new ≡ old ++ more)

@@ -3,11 +3,9 @@ use Rattle.std.proofs.Common.{◌≡◌, ◌+◌, ℕ, zero, suc, true, List, []
 use Rattle.std.specs.Prelude.{nat_lt}
 use Rattle.std.specs.List.{list_all}
 use Rattle.std.proofs.lemmas.Bool.{lt-ltb, and_parts, and_from}
-use Rattle.edif_spelling_spec.specs.Tree.{Placed, Trees, End, More}
-use Rattle.edif_spelling_spec.specs.declared.token.TokenKind.{TokenKind}
-use Rattle.edif_spelling_spec.specs.declared.token.TokenKind.TheVariants.{LeftParen, RightParen, Word, Integer, String}
+use Rattle.edif_spelling_spec.specs.Tree.{Placed, Trees, Form', Word', Integer', String', End, More}
 use Rattle.edif_tree.specs.Nodes.{NodeRow, IsAt, AreAt}
-use Rattle.edif_tree.specs.Making.{leaf_of}
+use Rattle.edif_tree.specs.Making.{IsRow}
 use Rattle.edif_tree.specs.Order.{in_order_at, in_order_from, is_node}
 use Rattle.edif_tree.specs.declared.stored.NodeId.{NodeId}
 use Rattle.edif_tree.proofs.NodeLemmas.{node_in_rows}
@@ -38,13 +36,12 @@ all_before rows [] ts h = refl
 all_before rows (id ∷ ids) End h = absurd h
 all_before rows (id ∷ ids) (More t ts) h = and_from (nat_lt id.0 (length rows)) (list_all (λ (j : NodeId). nat_lt j.0 (length rows)) ids) (lt-ltb id.0 (length rows) (node_in_rows rows id t h.0)) (all_before rows ids ts h.1)
 
--- a token has no arguments
-pub token_before : (n : ℕ) (kind : TokenKind) → in_order_at n (leaf_of kind) ≡ true
-token_before n LeftParen = refl
-token_before n RightParen = refl
-token_before n (Word x) = refl
-token_before n (Integer x) = refl
-token_before n (String x) = refl
+-- a row of a tree has arguments that were there before
+pub row_before : (rows : List NodeRow) (row : NodeRow) (t : Placed) → IsRow rows row t → in_order_at (length rows) row.shape ≡ true
+row_before rows row (Form' p ts) h = let P : NodeRow → Type 0 = λ r. in_order_at (length rows) r.shape ≡ true in subst P (sym h.1) (all_before rows h.0 ts h.2)
+row_before rows row (Word' p x) h = let P : NodeRow → Type 0 = λ r. in_order_at (length rows) r.shape ≡ true in subst P (sym h) refl
+row_before rows row (Integer' p x) h = let P : NodeRow → Type 0 = λ r. in_order_at (length rows) r.shape ≡ true in subst P (sym h) refl
+row_before rows row (String' p x) h = let P : NodeRow → Type 0 = λ r. in_order_at (length rows) r.shape ≡ true in subst P (sym h) refl
 
 -- the node of a tree is one of those rows
 pub root_is : (rows : List NodeRow) (id : NodeId) (t : Placed) → in_order_from 0 rows ≡ true → IsAt rows id t → is_node rows id ≡ true

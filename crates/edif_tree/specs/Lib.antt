@@ -8,4 +8,5 @@ pub mod NodeLists
 pub mod Nodes
 pub mod Order
 pub mod Packed
+pub mod Ranges
 pub mod TreeError

@@ -1,14 +1,23 @@
 -- Lists of nodes that stand in one list, one behind the other.
-use Rattle.std.specs.Prelude.{◌≡◌, ◌≤◌, ℕ, List, [], ◌∷◌, length}
-use Rattle.std.specs.List.{slice_range}
+use Rattle.std.specs.Prelude.{◌-◌, ℕ, List, [], ◌∷◌, ◌++◌}
+use Rattle.edif_tree.specs.Ranges.{ids_from}
 use Rattle.edif_tree.specs.declared.stored.NodeId.{NodeId}
 
 -- the lists that end before these places, the first from this place on
-abbrev pub lists_from : ℕ → List NodeId → List ℕ → List (List NodeId)
-lists_from first items [] = []
-lists_from first items (end ∷ ends) = slice_range items first end ∷ lists_from end items ends
+abbrev pub lists_from : ℕ → List ℕ → List (List NodeId)
+lists_from first [] = []
+lists_from first (end ∷ ends) = ids_from first (end - first) ∷ lists_from end ends
 
--- these places are in order, none is before the first, and nothing stands behind the last
-abbrev pub AreEnds : ℕ → List NodeId → List ℕ → Type 0
-AreEnds first items [] = first ≡ length items
-AreEnds first items (end ∷ ends) = (first ≤ end) × AreEnds end items ends
+-- the place before which the last one ends
+abbrev pub last_end : ℕ → List ℕ → ℕ
+last_end first [] = first
+last_end first (end ∷ ends) = last_end end ends
+
+-- lists, and where the last one ends
+pub record EndedLists : Type 0 where
+  pub lists : List (List NodeId)
+  pub end : ℕ
+
+-- with one more behind them
+abbrev pub with_end : EndedLists → ℕ → EndedLists
+with_end l end = record { lists = l.lists ++ ids_from l.end (end - l.end) ∷ []; end = end }

@@ -1,7 +1,8 @@
 -- Which tree stands at a node of a list of nodes.
-use Rattle.std.specs.Prelude.{◌≡◌, ◌<◌, FitsSigned, ℕ, ℤ, pos, List, [], ◌∷◌, Some, get_or, length, slice_get}
+use Rattle.std.specs.Prelude.{◌≡◌, ◌<◌, FitsSigned, ℕ, ℤ, pos, List, [], ◌∷◌, ◌++◌, Some, drop, get_or, length, map, slice_get, take}
 use Rattle.std.specs.Int.{w64}
 use Rattle.edif_spelling_spec.specs.Tree.{Placed, Trees, Form', Word', Integer', String', End, More}
+use Rattle.edif_tree.specs.Ranges.{ids_from, ids_of}
 use Rattle.edif_tree.specs.declared.stored.NodeId.{NodeId}
 use Rattle.edif_tree.specs.declared.stored.StoredNode.{StoredNode}
 use Rattle.edif_tree.specs.declared.stored.StoredKind.{StoredKind}
@@ -25,6 +26,11 @@ pub record NodeRow : Type 0 where
 pub record Table : Type 0 where
   pub rows : List NodeRow
   pub root : NodeId
+
+-- the nodes of a tree that is being made, and those that no closed form holds, the last of which come next
+pub record Made : Type 0 where
+  pub rows : List NodeRow
+  pub loose : List NodeRow
 
 -- the lists beside the nodes: the arguments of each form, and the words, integers and strings
 pub record Stores : Type 0 where
@@ -54,6 +60,25 @@ abbrev pub AreWithin : Stores → List StoredNode → Type 0
 AreWithin lists [] = Unit {0}
 AreWithin lists (node ∷ nodes) = IsWithin lists node.kind × AreWithin lists nodes
 
+-- The same of nodes that stand in two lists, those of forms and loose ones; and where the last form's arguments end.
+pub record AreMade (lists : Stores) (end : ℕ) (nodes loose : List StoredNode) : Type 0 where
+  pub held : AreWithin lists nodes
+  pub free : AreWithin lists loose
+  pub ended : end ≡ length nodes
+
+abbrev pub made_of : Stores → List StoredNode → List StoredNode → Made
+made_of lists nodes loose = record { rows = map (row_of lists) nodes; loose = map (row_of lists) loose }
+
+-- with one more loose node; and with a form closed, whose arguments are the loose nodes from a place on
+abbrev pub with_loose : Made → NodeRow → Made
+with_loose m row = record { rows = m.rows; loose = m.loose ++ row ∷ [] }
+
+abbrev pub with_form : Made → ℕ → ℕ → Made
+with_form m place start = record {
+  rows = m.rows ++ drop start m.loose;
+  loose = take start m.loose ++ record { place = place; shape = FormOf (ids_from (length m.rows) (length (drop start m.loose))) } ∷ [];
+}
+
 -- the tree stands at the node: its place, its kind, and its arguments at the nodes that the node names
 abbrev mutual
   pub IsAt : List NodeRow → NodeId → Placed → Type 0
@@ -77,7 +102,7 @@ place_of (String' place value) = place
 
 -- what is seen where this is lent
 abbrev pub seen : StoredShape → Seen
-seen (shapes.Form ids) = FormOf ids.now
+seen (shapes.Form range) = FormOf (ids_of range)
 seen (shapes.Word name) = WordOf name.now
 seen (shapes.Integer value) = IntegerOf value
 seen (shapes.String text) = StringOf text.now

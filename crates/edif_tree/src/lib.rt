@@ -8,10 +8,12 @@ mod making;
 mod node;
 mod node_lists;
 mod read;
+mod rows;
 mod store;
 mod stored;
 mod tree;
 mod tree_maker;
+mod word_list;
 mod words;
 
 pub use each::Each;

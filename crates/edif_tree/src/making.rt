@@ -6,12 +6,12 @@ ghost use Rattle.edif_spelling_spec.specs.declared.token.Token.{Token};
 ghost use Rattle.edif_spelling_spec.specs.declared.token.TokenKind.TheVariants.{LeftParen, RightParen};
 ghost use Rattle.edif_tree.specs.Making.{IsLeaf, HasRead, CanCome};
 ghost use Rattle.edif_tree.specs.Nodes.{IsAt};
+ghost use Rattle.edif_spelling_spec.specs.declared.tree_fault.TreeKind.TheVariants.{Unended};
 ghost use Rattle.edif_tree.specs.TreeError.{Names};
+ghost use Rattle.edif_tree.specs.declared.errors.TreeError.TheVariants.{At};
 
 use crate::errors::TreeError;
-use crate::node_lists::range;
 use crate::store::Store;
-use crate::stored::NodeId;
 use crate::tree::Tree;
 use edif_spelling_spec::{Token, TokenKind, TreeKind};
 use netlist_schema::{MOST_LEVELS, NoMemory};
@@ -33,8 +33,16 @@ pub struct Making {
     pub nodes: Store,
     /// The open forms, the file's form first.
     pub forms: Vec<OpenForm>,
-    /// The nodes that no closed form holds, in order.
-    pub loose: Vec<NodeId>,
+}
+
+/// The fault of tokens that end too early, where the input has so many bytes.
+fn unended(end: u64) -> TreeError
+    ensures { result ≡ At Unended end }
+{
+    TreeError::At {
+        kind: TreeKind::Unended,
+        place: end,
+    }
 }
 
 impl Making {
@@ -44,7 +52,6 @@ impl Making {
         Making {
             nodes: Store::new(alloc),
             forms: Vec::new(alloc),
-            loose: Vec::new(alloc),
         }
     }
 
@@ -55,14 +62,14 @@ impl Making {
     {
         match kind {
             TokenKind::LeftParen if self.forms.len() >= MOST_LEVELS => Some(TreeKind::TooDeep),
-            TokenKind::LeftParen if self.forms.is_empty() && !self.loose.is_empty() => {
+            TokenKind::LeftParen if self.forms.is_empty() && self.nodes.loose_len() > 0 => {
                 Some(TreeKind::Trailing)
             }
             TokenKind::LeftParen => None,
             TokenKind::RightParen if self.forms.is_empty() => Some(TreeKind::ExtraClose),
             TokenKind::RightParen => None,
             _ if !self.forms.is_empty() => None,
-            _ if self.loose.is_empty() => Some(TreeKind::NotForm),
+            _ if self.nodes.loose_len() == 0 => Some(TreeKind::NotForm),
             _ => Some(TreeKind::Trailing),
         }
     }
@@ -72,7 +79,7 @@ impl Making {
         requires { CanCome LeftParen self.old }
         ensures ok { OnOk result ((ts : List Token) → HasRead self.old ts → HasRead self.new (ts ++ token_at LeftParen place ∷ [])) }
     {
-        let start = self.loose.len();
+        let start = self.nodes.loose_len();
         self.forms.push(OpenForm { place, start })?;
         Ok(())
     }
@@ -83,9 +90,7 @@ impl Making {
         requires inside { 0 < length self.old.forms.items }
         ensures ok { OnOk result ((ts : List Token) → HasRead self.old ts → HasRead self.new (ts ++ token_at kind place ∷ [])) }
     {
-        let id = self.nodes.push_leaf(place, kind)?;
-        self.loose.push(id)?;
-        Ok(())
+        self.nodes.push_leaf(place, kind)
     }
 
     /// Closes the innermost form.
@@ -97,11 +102,7 @@ impl Making {
         let Some(form) = self.forms.pop() else {
             unreachable!();
         };
-        let ids = range(&self.loose, form.start, self.loose.len());
-        let id = self.nodes.push_form(form.place, ids)?;
-        self.loose.truncate(form.start);
-        self.loose.push(id)?;
-        Ok(())
+        self.nodes.push_form(form.place, form.start)
     }
 
     /// Reads the next token.
@@ -140,13 +141,13 @@ impl Making {
         ensures ok { IfOk result (λ made. (ts : List Token) → HasRead self ts → (tree_fault ts end ≡ None) × ((t : Placed) × IsAt made.rows made.root t × Lists ts t)) }
         ensures at { IfErr result (λ e. (ts : List Token) → HasRead self ts → Names e (tree_fault ts end)) }
     {
-        let root = self.loose.first().copied();
-        match root {
-            Some(root) if self.forms.is_empty() => Ok(Tree::of(self.nodes, root)),
-            _ => Err(TreeError::At {
-                kind: TreeKind::Unended,
-                place: end,
-            }),
+        if !self.forms.is_empty() {
+            return Err(unended(end));
         }
+        if self.nodes.loose_len() == 0 {
+            return Err(unended(end));
+        }
+        let root = self.nodes.next()?;
+        Ok(Tree::of(self.nodes, root)?)
     }
 }

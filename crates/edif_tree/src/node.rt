@@ -1,9 +1,10 @@
 //! The nodes of a tree, as it lends them.
 ghost use Rattle.std.specs.Prelude.{◌≡◌, true};
 ghost use Rattle.edif_tree.specs.Order.{is_node, are_nodes};
+ghost use Rattle.edif_tree.specs.Ranges.{ids_of};
 
 use crate::each::Each;
-use crate::stored::{NodeId, StoredShape};
+use crate::stored::{NodeId, NodeRange, StoredShape};
 use crate::tree::Tree;
 use edif_keywords::Keyword;
 use netlist_schema::{Ident, Text};
@@ -20,8 +21,8 @@ pub struct Node<'a> {
 #[derive(Clone, Copy)]
 pub struct Nodes<'a> {
     pub(crate) tree: &'a Tree,
-    pub(crate) ids: &'a [NodeId],
-    pub ghost stand: { are_nodes tree.now.rows ids.now ≡ true },
+    pub(crate) ids: NodeRange,
+    pub ghost stand: { are_nodes tree.now.rows (ids_of ids) ≡ true },
 }
 
 /// What stands at a node.
@@ -106,7 +107,7 @@ impl<'a> Nodes<'a> {
     {
         Node {
             tree: self.tree,
-            id: self.ids[i],
+            id: self.ids.at(i),
         }
     }
 
@@ -118,7 +119,7 @@ impl<'a> Nodes<'a> {
     {
         let tree = self.tree;
         let (first, others) = self.ids.split_first()?;
-        Some((Node { tree, id: *first }, Nodes { tree, ids: others }))
+        Some((Node { tree, id: first }, Nodes { tree, ids: others }))
     }
 
     /// Those before a place, and those from there on. Takes no memory.

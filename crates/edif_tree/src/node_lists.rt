@@ -1,38 +1,26 @@
-//! Lists of nodes, which stand in one list.
-ghost use Rattle.std.specs.Prelude.{◌≡◌, ◌<◌, ◌≤◌, ◌∷◌, ◌++◌, [], get_or, length, Some, OnOk, OnErr, slice_get};
-ghost use Rattle.std.specs.List.{slice_range};
+//! Where the arguments of forms stand in the list of nodes.
+ghost use Rattle.std.specs.Prelude.{◌≡◌, ◌<◌, ◌≤◌, ◌∷◌, ◌++◌, [], get_or, length, Some, OnOk, OnErr, drop, slice_get};
+ghost use Rattle.edif_tree.specs.NodeLists.{EndedLists, last_end, with_end};
+ghost use Rattle.edif_tree.specs.Ranges.{ids_of};
 
-use crate::stored::NodeId;
+use crate::stored::{NodeRange, StoredNode};
 use netlist_schema::NoMemory;
 use std::alloc::Global;
 use std::marker::Model;
 
-/// Lists of nodes, one behind the other in one list, with the place before which each ends. Contracts see them as lists.
+/// Lists of nodes that stand one behind the other in one list, by the places before which they end. Contracts see them as lists, and the
+/// place before which the last one ends.
 #[derive(Drop)]
 pub struct NodeLists {
-    items: Vec<NodeId>,
     ends: Vec<u32>,
 }
 
 impl Model for NodeLists {
-    ghost use Rattle.std.specs.Prelude.{List};
-    ghost use Rattle.edif_tree.specs.NodeLists.{lists_from, AreEnds};
-    ghost use Rattle.edif_tree.specs.declared.stored.NodeId.{NodeId};
+    ghost use Rattle.edif_tree.specs.NodeLists.{EndedLists, last_end, lists_from};
 
-    ghost Value = { List (List NodeId) };
+    ghost Value = { EndedLists };
 
-    ghost view = { λ l. lists_from 0 l.items.items l.ends.items };
-
-    ghost invariant = { λ l. AreEnds 0 l.items.items l.ends.items };
-}
-
-/// The ids from `first` to before `end`.
-pub(crate) fn range(ids: &[NodeId], first: usize, end: usize) -> &[NodeId]
-    requires order { first ≤ end }
-    requires within { end ≤ length ids.now }
-    ensures { result.now ≡ slice_range ids.now first end }
-{
-    &ids[first..end]
+    ghost view = { λ l. record { lists = lists_from 0 l.ends.items; end = last_end 0 l.ends.items } };
 }
 
 /// Adds the place where a list ends.
@@ -61,43 +49,68 @@ fn end_before(ends: &[u32], at: usize) -> u32
 impl NodeLists {
     /// No lists. Takes no memory.
     pub fn new(alloc: Global) -> NodeLists
-        ensures { result ≡ [] }
+        ensures { result ≡ record { lists = []; end = 0 } }
     {
         NodeLists {
-            items: Vec::new(alloc),
             ends: Vec::new(alloc),
         }
     }
 
     /// The number of lists.
     pub fn len(&self) -> usize
-        ensures { result ≡ length self.now }
+        ensures { result ≡ length self.now.lists }
     {
         self.ends.len()
     }
 
-    /// Adds a list behind the others. Where memory is refused, the lists stay.
-    pub fn push(&mut self, list: &[NodeId]) -> Result<(), NoMemory>
-        ensures ok { OnOk result (self.new ≡ self.old ++ list.now ∷ []) }
+    /// Adds the list of the nodes from where the last one ends to before a place. Where memory is refused, the lists stay.
+    pub fn push(&mut self, end: usize) -> Result<(), NoMemory>
+        ensures ok { OnOk result (self.new ≡ with_end self.old end) }
         ensures err { OnErr result (self.new ≡ self.old) }
     {
-        let before = self.items.len();
-        self.items.extend_from_slice(list)?;
-        match add_end(&mut self.ends, self.items.len()) {
-            Ok(()) => Ok(()),
-            Err(error) => {
-                self.items.truncate(before);
-                Err(error)
-            }
-        }
+        add_end(&mut self.ends, end)
     }
 
     /// The list at a place.
-    pub fn get(&self, at: usize) -> &[NodeId]
-        requires { at < length self.now }
-        ensures { slice_get self.now at ≡ Some result.now }
+    pub fn get(&self, at: usize) -> NodeRange
+        requires { at < length self.now.lists }
+        ensures { slice_get self.now.lists at ≡ Some (ids_of result) }
     {
-        let first = end_before(&self.ends, at);
-        range(&self.items, first as usize, self.ends[at] as usize)
+        NodeRange {
+            first: end_before(&self.ends, at),
+            end: self.ends[at],
+        }
+    }
+}
+
+/// The nodes from a place on.
+fn rest(nodes: &[StoredNode], start: usize) -> &[StoredNode]
+    requires { start ≤ length nodes.now }
+    ensures { result.now ≡ drop start nodes.now }
+{
+    &nodes[start..]
+}
+
+/// Adds the loose nodes from a place on behind the others, as one list. Where memory is refused, all stays.
+pub(crate) fn add_list(
+    nodes: &mut Vec<StoredNode>,
+    lists: &mut NodeLists,
+    loose: &[StoredNode],
+    start: usize,
+) -> Result<(), NoMemory>
+    requires start { start ≤ length loose.now }
+    ensures nodes { OnOk result (nodes.new.items ≡ nodes.old.items ++ drop start loose.now) }
+    ensures lists { OnOk result (lists.new ≡ with_end lists.old (length nodes.new.items)) }
+    ensures err_nodes { OnErr result (nodes.new.items ≡ nodes.old.items) }
+    ensures err_lists { OnErr result (lists.new ≡ lists.old) }
+{
+    let before = nodes.len();
+    nodes.extend_from_slice(rest(loose, start))?;
+    match lists.push(nodes.len()) {
+        Ok(()) => Ok(()),
+        Err(error) => {
+            nodes.truncate(before);
+            Err(error)
+        }
     }
 }

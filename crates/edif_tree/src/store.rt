@@ -1,21 +1,23 @@
-//! A list of nodes, which only grows.
-ghost use Rattle.std.specs.Prelude.{◌≡◌, ◌<◌, ◌∷◌, ◌++◌, [], length, Some, IfOk, OnOk, OnErr, slice_get, option_map};
+//! A list of nodes, which only grows until it is whole.
+ghost use Rattle.std.specs.Prelude.{◌≡◌, ◌≤◌, ◌∷◌, ◌++◌, [], length, IfOk, OnOk, OnErr};
 ghost use Rattle.edif_tree.specs.Making.{IsLeaf, leaf_of};
-ghost use Rattle.edif_tree.specs.Keywords.{seen_keyword};
-ghost use Rattle.edif_tree.specs.Nodes.{FormOf, IntegerOf, StringOf, WordOf, seen};
+ghost use Rattle.edif_tree.specs.Nodes.{IntegerOf, StringOf, WordOf, with_form, with_loose};
 
-use crate::node_lists::NodeLists;
-use crate::stored::{NodeId, PackedKind, StoredKind, StoredNode, StoredShape};
+use crate::node_lists::{NodeLists, add_list};
+use crate::rows::Rows;
+use crate::stored::{NodeId, PackedKind, StoredKind, StoredNode};
 use crate::words::Words;
-use edif_keywords::Keyword;
 use edif_spelling_spec::TokenKind;
 use netlist_schema::{Ident, NoMemory, Text};
 use std::alloc::Global;
 use std::marker::Model;
 
-/// Nodes, each with its place and shape, as contracts see them. Each word stands once.
+/// Nodes, each with its place and shape, as contracts see them. Each word stands once. The arguments of a form stand side by side, since
+/// they are loose until it is closed.
 pub struct Store {
     nodes: Vec<StoredNode>,
+    /// The nodes that no closed form holds, in order.
+    loose: Vec<StoredNode>,
     arguments: NodeLists,
     words: Words,
     integers: Vec<i64>,
@@ -26,6 +28,7 @@ impl Drop for Store {
     fn drop(self) {
         let Store {
             nodes: _,
+            loose: _,
             arguments: _,
             words: _,
             integers: _,
@@ -35,14 +38,13 @@ impl Drop for Store {
 }
 
 impl Model for Store {
-    ghost use Rattle.std.specs.Prelude.{List, map};
-    ghost use Rattle.edif_tree.specs.Nodes.{NodeRow, row_of, AreWithin};
+    ghost use Rattle.edif_tree.specs.Nodes.{AreMade, Made, made_of};
 
-    ghost Value = { List NodeRow };
+    ghost Value = { Made };
 
-    ghost view = { λ a. map (row_of (record { arguments = a.arguments; words = a.words; integers = a.integers.items; strings = a.strings.items })) a.nodes.items };
+    ghost view = { λ a. made_of (record { arguments = a.arguments.lists; words = a.words; integers = a.integers.items; strings = a.strings.items }) a.nodes.items a.loose.items };
 
-    ghost invariant = { λ a. AreWithin (record { arguments = a.arguments; words = a.words; integers = a.integers.items; strings = a.strings.items }) a.nodes.items };
+    ghost invariant = { λ a. AreMade (record { arguments = a.arguments.lists; words = a.words; integers = a.integers.items; strings = a.strings.items }) a.arguments.end a.nodes.items a.loose.items };
 }
 
 /// A number as a node keeps it.
@@ -55,25 +57,31 @@ fn small(number: u64) -> Result<u32, NoMemory>
     }
 }
 
+/// A node as it is kept.
+fn stored(place: u64, kind: StoredKind) -> Result<StoredNode, NoMemory>
+    ensures { IfOk result (λ node. node ≡ record { place = place; kind = kind }) }
+{
+    let place = small(place)?;
+    let kind = PackedKind::of(kind)?;
+    Ok(StoredNode { place, kind })
+}
+
 /// Adds a node behind the others.
-fn add_node(nodes: &mut Vec<StoredNode>, place: u64, kind: StoredKind) -> Result<NodeId, NoMemory>
-    ensures id { IfOk result (λ id. id.0 ≡ length nodes.old.items) }
+fn add_node(nodes: &mut Vec<StoredNode>, place: u64, kind: StoredKind) -> Result<(), NoMemory>
     ensures ok { OnOk result (nodes.new.items ≡ nodes.old.items ++ record { place = place; kind = kind } ∷ []) }
     ensures err { OnErr result (nodes.new.items ≡ nodes.old.items) }
 {
-    let id = small(nodes.len() as u64)?;
-    let place = small(place)?;
-    let kind = PackedKind::of(kind)?;
-    nodes.push(StoredNode { place, kind })?;
-    Ok(NodeId(id))
+    nodes.push(stored(place, kind)?)?;
+    Ok(())
 }
 
 impl Store {
     pub fn new(alloc: Global) -> Store
-        ensures { result ≡ [] }
+        ensures { result ≡ record { rows = []; loose = [] } }
     {
         Store {
             nodes: Vec::new(alloc),
+            loose: Vec::new(alloc),
             arguments: NodeLists::new(alloc),
             words: Words::new(alloc),
             integers: Vec::new(alloc),
@@ -81,37 +89,51 @@ impl Store {
         }
     }
 
+    /// The number of loose nodes.
+    pub fn loose_len(&self) -> usize
+        ensures { result ≡ length self.now.loose }
+    {
+        self.loose.len()
+    }
+
+    /// The node that the first loose one will be, where no form is closed before.
+    pub fn next(&self) -> Result<NodeId, NoMemory>
+        ensures { IfOk result (λ id. id.0 ≡ length self.now.rows) }
+    {
+        Ok(NodeId(small(self.nodes.len() as u64)?))
+    }
+
     /// Adds the node of a word.
-    fn push_word(&mut self, place: u64, name: Ident) -> Result<NodeId, NoMemory>
-        ensures ok { IfOk result (λ id. (id.0 ≡ length self.old) × (self.new ≡ self.old ++ record { place = place; shape = WordOf name } ∷ [])) }
+    fn push_word(&mut self, place: u64, name: Ident) -> Result<(), NoMemory>
+        ensures ok { OnOk result (self.new ≡ with_loose self.old (record { place = place; shape = WordOf name })) }
     {
         let at = self.words.add(name)?;
         let at = small(at as u64)?;
-        add_node(&mut self.nodes, place, StoredKind::Word(at))
+        add_node(&mut self.loose, place, StoredKind::Word(at))
     }
 
     /// Adds the node of an integer.
-    fn push_integer(&mut self, place: u64, value: i64) -> Result<NodeId, NoMemory>
-        ensures ok { IfOk result (λ id. (id.0 ≡ length self.old) × (self.new ≡ self.old ++ record { place = place; shape = IntegerOf value } ∷ [])) }
+    fn push_integer(&mut self, place: u64, value: i64) -> Result<(), NoMemory>
+        ensures ok { OnOk result (self.new ≡ with_loose self.old (record { place = place; shape = IntegerOf value })) }
     {
         let at = small(self.integers.len() as u64)?;
         self.integers.push(value)?;
-        add_node(&mut self.nodes, place, StoredKind::Integer(at))
+        add_node(&mut self.loose, place, StoredKind::Integer(at))
     }
 
     /// Adds the node of a string.
-    fn push_string(&mut self, place: u64, text: Text) -> Result<NodeId, NoMemory>
-        ensures ok { IfOk result (λ id. (id.0 ≡ length self.old) × (self.new ≡ self.old ++ record { place = place; shape = StringOf text } ∷ [])) }
+    fn push_string(&mut self, place: u64, text: Text) -> Result<(), NoMemory>
+        ensures ok { OnOk result (self.new ≡ with_loose self.old (record { place = place; shape = StringOf text })) }
     {
         let at = small(self.strings.len() as u64)?;
         self.strings.push(text)?;
-        add_node(&mut self.nodes, place, StoredKind::String(at))
+        add_node(&mut self.loose, place, StoredKind::String(at))
     }
 
-    /// Adds the node of a word, an integer or a string.
-    pub fn push_leaf(&mut self, place: u64, kind: TokenKind) -> Result<NodeId, NoMemory>
+    /// Adds the node of a word, an integer or a string, which is loose.
+    pub fn push_leaf(&mut self, place: u64, kind: TokenKind) -> Result<(), NoMemory>
         requires { IsLeaf kind }
-        ensures ok { IfOk result (λ id. (id.0 ≡ length self.old) × (self.new ≡ self.old ++ record { place = place; shape = leaf_of kind } ∷ [])) }
+        ensures ok { OnOk result (self.new ≡ with_loose self.old (record { place = place; shape = leaf_of kind })) }
     {
         match kind {
             TokenKind::Word(name) => self.push_word(place, name),
@@ -121,44 +143,37 @@ impl Store {
         }
     }
 
-    /// Adds a form's node with these arguments.
-    pub fn push_form(&mut self, place: u64, ids: &[NodeId]) -> Result<NodeId, NoMemory>
-        ensures ok { IfOk result (λ id. (id.0 ≡ length self.old) × (self.new ≡ self.old ++ record { place = place; shape = FormOf ids.now } ∷ [])) }
+    /// Closes a form, whose arguments are the loose nodes from a place on. Its own node is loose.
+    pub fn push_form(&mut self, place: u64, start: usize) -> Result<(), NoMemory>
+        requires { start ≤ length self.old.loose }
+        ensures ok { OnOk result (self.new ≡ with_form self.old place start) }
     {
         let at = small(self.arguments.len() as u64)?;
-        self.arguments.push(ids)?;
-        add_node(&mut self.nodes, place, StoredKind::Form(at))
+        add_list(&mut self.nodes, &mut self.arguments, &self.loose, start)?;
+        self.loose.truncate(start);
+        add_node(&mut self.loose, place, StoredKind::Form(at))
     }
 
-    /// The place of a node.
-    pub fn place(&self, id: NodeId) -> u64
-        requires { id.0 < length self.now }
-        ensures { option_map (λ row. row.place) (slice_get self.now id.0) ≡ Some result }
+    /// All nodes, the loose ones last, to which no others come.
+    pub fn finish(self) -> Result<Rows, NoMemory>
+        ensures { IfOk result (λ rows. rows ≡ self.rows ++ self.loose) }
     {
-        u64::from(self.nodes[id.0 as usize].place)
-    }
-
-    /// What stands at a node.
-    pub fn shape(&self, id: NodeId) -> StoredShape<'_>
-        requires { id.0 < length self.now }
-        ensures { option_map (λ row. row.shape) (slice_get self.now id.0) ≡ Some (seen result) }
-    {
-        match self.nodes[id.0 as usize].kind.unpack() {
-            StoredKind::Form(at) => StoredShape::Form(self.arguments.get(at as usize)),
-            StoredKind::Word(at) => StoredShape::Word(self.words.name(at as usize)),
-            StoredKind::Integer(at) => StoredShape::Integer(self.integers[at as usize]),
-            StoredKind::String(at) => StoredShape::String(&self.strings[at as usize]),
-        }
-    }
-
-    /// The keyword that the word at a node spells, or `None` where it spells none, or no word stands there.
-    pub fn keyword(&self, id: NodeId) -> Option<Keyword>
-        requires { id.0 < length self.now }
-        ensures { option_map (λ row. seen_keyword row.shape) (slice_get self.now id.0) ≡ Some result }
-    {
-        match self.nodes[id.0 as usize].kind.unpack() {
-            StoredKind::Word(at) => self.words.keyword(at as usize),
-            _ => None,
-        }
+        let Store {
+            mut nodes,
+            loose,
+            arguments,
+            words,
+            integers,
+            strings,
+        } = self;
+        nodes.extend_from_slice(&loose)?;
+        let words = words.finish()?;
+        Ok(Rows {
+            nodes,
+            arguments,
+            words,
+            integers,
+            strings,
+        })
     }
 }

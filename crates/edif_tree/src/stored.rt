@@ -1,6 +1,7 @@
 //! One node as a tree keeps it.
-ghost use Rattle.std.specs.Prelude.{◌≡◌, ◌<◌, IfOk};
+ghost use Rattle.std.specs.Prelude.{◌≡◌, ◌<◌, ◌≤◌, ◌∷◌, [], IfNone, IfOk, IfSome, Some, drop, length, slice_get, take};
 ghost use Rattle.edif_tree.specs.Packed.{kind_of};
+ghost use Rattle.edif_tree.specs.Ranges.{ids_of};
 
 use netlist_schema::{Ident, NoMemory, Text};
 use std::marker::Model;
@@ -9,11 +10,69 @@ use std::marker::Model;
 #[derive(Clone, Copy)]
 pub struct NodeId(pub u32);
 
+/// Nodes that stand side by side in the list, from a place to before another.
+#[derive(Clone, Copy)]
+pub struct NodeRange {
+    pub first: u32,
+    pub end: u32,
+}
+
+impl NodeRange {
+    /// How many there are.
+    pub fn len(self) -> usize
+        ensures { result ≡ length (ids_of self) }
+    {
+        self.end.saturating_sub(self.first) as usize
+    }
+
+    /// The one at a place.
+    pub fn at(self, i: usize) -> NodeId
+        requires { i < length (ids_of self) }
+        ensures { slice_get (ids_of self) i ≡ Some result }
+    {
+        NodeId(self.first + i as u32)
+    }
+
+    /// The first and the others, where there is one.
+    #[inline(always)]
+    pub fn split_first(self) -> Option<(NodeId, NodeRange)>
+        ensures some { IfSome result (λ p. ids_of self ≡ p.0 ∷ ids_of p.1) }
+        ensures none { IfNone result (ids_of self ≡ []) }
+    {
+        if self.first >= self.end {
+            return None;
+        }
+        let others = NodeRange {
+            first: self.first + 1,
+            end: self.end,
+        };
+        Some((NodeId(self.first), others))
+    }
+
+    /// Those before a place, and those from there on.
+    pub fn split_at(self, mid: usize) -> (NodeRange, NodeRange)
+        requires { mid ≤ length (ids_of self) }
+        ensures front { ids_of result.0 ≡ take mid (ids_of self) }
+        ensures back { ids_of result.1 ≡ drop mid (ids_of self) }
+    {
+        let middle = self.first + mid as u32;
+        let front = NodeRange {
+            first: self.first,
+            end: middle,
+        };
+        let back = NodeRange {
+            first: middle,
+            end: self.end,
+        };
+        (front, back)
+    }
+}
+
 /// What stands at a node, as it is lent.
 #[derive(Clone, Copy)]
 pub enum StoredShape<'a> {
     /// A form, by the nodes of its arguments in order.
-    Form(&'a [NodeId]),
+    Form(NodeRange),
     /// A word, by its name.
     Word(&'a Ident),
     /// A number.

@@ -1,5 +1,5 @@
 //! A tree as a list of nodes.
-ghost use Rattle.std.specs.Prelude.{◌≡◌, ◌<◌, length, option_map, slice_get, Some, true};
+ghost use Rattle.std.specs.Prelude.{◌≡◌, ◌<◌, ◌++◌, IfOk, length, option_map, slice_get, Some, true};
 ghost use Rattle.edif_spelling_spec.specs.Tree.{Placed};
 ghost use Rattle.edif_tree.specs.Keywords.{seen_keyword};
 ghost use Rattle.edif_tree.specs.Nodes.{IsAt, seen};
@@ -7,14 +7,16 @@ ghost use Rattle.edif_tree.specs.Order.{is_node};
 ghost use Rattle.edif_tree.specs.Handles.{here};
 
 use crate::node::Node;
+use crate::rows::Rows;
 use crate::store::Store;
 use crate::stored::{NodeId, StoredShape};
 use edif_keywords::Keyword;
+use netlist_schema::NoMemory;
 use std::marker::Model;
 
 /// A tree, as contracts see it: the table of its nodes, and the node of the whole file. A tree of the file stands at that node.
 pub struct Tree {
-    nodes: Store,
+    nodes: Rows,
     root: NodeId,
 }
 
@@ -37,12 +39,13 @@ impl Model for Tree {
 }
 
 impl Tree {
-    /// The tree of these nodes. Takes no memory.
-    pub(crate) fn of(nodes: Store, root: NodeId) -> Tree
-        requires { is_node nodes root ≡ true }
-        ensures { result ≡ record { rows = nodes; root = root } }
+    /// The tree of these nodes.
+    pub(crate) fn of(nodes: Store, root: NodeId) -> Result<Tree, NoMemory>
+        requires { is_node (nodes.rows ++ nodes.loose) root ≡ true }
+        ensures { IfOk result (λ tree. tree ≡ record { rows = nodes.rows ++ nodes.loose; root = root }) }
     {
-        Tree { nodes, root }
+        let nodes = nodes.finish()?;
+        Ok(Tree { nodes, root })
     }
 
     /// The node of the whole file. Takes no memory.

@@ -1,9 +1,9 @@
 //! The words of a tree, each once.
-ghost use Rattle.std.specs.Prelude.{◌≡◌, ◌<◌, [], ℕ, List, IfOk, IfSome, OnErr, OnOk, Some, length, nat_eq, option_map, slice_get, true};
+ghost use Rattle.std.specs.Prelude.{◌≡◌, ◌<◌, [], ℕ, List, IfOk, IfSome, OnErr, OnOk, Some, nat_eq, slice_get, true};
 ghost use Rattle.std.specs.Cmp.Lexicographic.{pointwise};
-ghost use Rattle.edif_spec.specs.Keyword.{keyword};
 ghost use Rattle.indexmap.specs.IndexSet.{insert_key};
 
+use crate::word_list::WordList;
 use edif_keywords::{Keyword, keyword};
 use indexmap::IndexSet;
 use netlist_schema::{Ident, NoMemory};
@@ -15,6 +15,7 @@ const SLOTS: usize = 256;
 
 /// Words, no two equal, and beside each the keyword that it spells. Contracts see the words in order.
 pub struct Words {
+    alloc: Global,
     names: IndexSet<Ident>,
     keywords: Vec<Option<Keyword>>,
     /// By slot the place of the word that came last.
@@ -24,6 +25,7 @@ pub struct Words {
 impl Drop for Words {
     fn drop(self) {
         let Words {
+            alloc: _,
             names: _,
             keywords: _,
             lately: _,
@@ -48,6 +50,7 @@ impl Words {
         ensures { result ≡ [] }
     {
         Words {
+            alloc,
             names: IndexSet::new(alloc),
             keywords: Vec::new(alloc),
             lately: [0; SLOTS],
@@ -111,22 +114,17 @@ impl Words {
         Ok(at)
     }
 
-    /// The word at a place. Takes no memory.
-    #[inline(always)]
-    pub fn name(&self, at: usize) -> &Ident
-        requires { at < length self.now }
-        ensures { slice_get self.now at ≡ Some result.now }
+    /// The same words, to which no others come. What finds a word by its bytes goes.
+    pub fn finish(self) -> Result<WordList, NoMemory>
+        ensures { IfOk result (λ list. list ≡ self) }
     {
-        &self.names.as_slice()[at]
-    }
-
-    /// The keyword that the word at a place spells, or `None` where it spells none. Takes no memory.
-    #[inline(always)]
-    pub fn keyword(&self, at: usize) -> Option<Keyword>
-        requires { at < length self.now }
-        ensures { option_map keyword (slice_get self.now at) ≡ Some result }
-    {
-        self.keywords[at]
+        let Words {
+            alloc,
+            names,
+            keywords,
+            lately: _,
+        } = self;
+        WordList::of(alloc, names, keywords)
     }
 }
 

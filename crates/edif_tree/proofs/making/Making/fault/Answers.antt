@@ -1,5 +1,5 @@
 use Rattle.std.proofs.Common.{◌≡◌, ◌≤◌, ◌<◌, ◌∷◌, ◌++◌, ◌∙◌, sym, subst, length, arith}
-use Rattle.std.proofs.lemmas.Bool.{eqb-true, eqb-false}
+use Rattle.std.proofs.lemmas.Bool.{eqb-true}
 use Rattle.std.specs.Prelude.{vec_len}
 use Rattle.edif_spelling_spec.specs.TreeFaults.{token_at, fault_at, tree_fault}
 use Rattle.edif_spelling_spec.specs.declared.token.TokenKind.{TokenKind}
@@ -17,11 +17,9 @@ returns-in-LeftParen-clause-some c ts rest place end h =
 pub returns-in-LeftParen-2-clause-some : goal.returns-in-LeftParen-2-clause-some
 returns-in-LeftParen-2-clause-some c ts rest place end h =
     let forms = c.args.self.now.forms.ok.0 in
-    let loose = c.args.self.now.loose.ok.0 in
     let none = eqb-true (vec_len c.args.self.now.forms) 0 (sym c.if-is_empty.ensures) in
-    let some = eqb-false (vec_len c.args.self.now.loose) 0 (sym c.if-not-is_empty.ensures) in
     let empty : length c.args.self.now.forms.items ≡ 0 = omega arith in
-    let full : 0 < length c.args.self.now.loose.items = omega arith in
+    let full : 0 < length c.args.self.now.nodes.loose = omega arith in
     trailing_at c.args.self.now ts rest c.args.kind.now place end empty full (λ e. let both = sym c.in-LeftParen.is ∙ e in cc) h
 
 pub returns-in-RightParen : goal.returns-in-RightParen
@@ -39,11 +37,9 @@ pub returns-in_default-2 : goal.returns-in_default-2
 returns-in_default-2 c = record {
   some = λ ts rest place end h.
       (let forms = c.args.self.now.forms.ok.0 in
-      let loose = c.args.self.now.loose.ok.0 in
-      let none = eqb-true (vec_len c.args.self.now.forms) 0 (sym c.if-not-is_empty-2.ensures) in
-      let bare = eqb-true (vec_len c.args.self.now.loose) 0 (sym c.if-is_empty-3.ensures) in
+      let none = eqb-true (vec_len c.args.self.now.forms) 0 (sym c.if-not-is_empty.ensures) in
       let empty : length c.args.self.now.forms.items ≡ 0 = omega arith in
-      let nothing : length c.args.self.now.loose.items ≡ 0 = omega arith in
+      let nothing : length c.args.self.now.nodes.loose ≡ 0 = omega arith in
       form_at c.args.self.now ts rest c.args.kind.now place end empty nothing c.in_default.not-LeftParen c.in_default.not-RightParen h);
   none = tt;
 }
@@ -52,11 +48,9 @@ pub returns-in_default-3 : goal.returns-in_default-3
 returns-in_default-3 c = record {
   some = λ ts rest place end h.
       (let forms = c.args.self.now.forms.ok.0 in
-      let loose = c.args.self.now.loose.ok.0 in
-      let none = eqb-true (vec_len c.args.self.now.forms) 0 (sym c.if-not-is_empty-2.ensures) in
-      let some = eqb-false (vec_len c.args.self.now.loose) 0 (sym c.if-is_empty-3.ensures) in
+      let none = eqb-true (vec_len c.args.self.now.forms) 0 (sym c.if-not-is_empty.ensures) in
       let empty : length c.args.self.now.forms.items ≡ 0 = omega arith in
-      let full : 0 < length c.args.self.now.loose.items = omega arith in
+      let full : 0 < length c.args.self.now.nodes.loose = omega arith in
       trailing_at c.args.self.now ts rest c.args.kind.now place end empty full c.in_default.not-RightParen h);
   none = tt;
 }

@@ -5,6 +5,7 @@ use Rattle.std.proofs.lemmas.Int.{to_z-of_z}
 use Rattle.edif_spelling_spec.specs.Tree.{Integer'}
 use Rattle.edif_tree.specs.Nodes.{FormOf, WordOf, IntegerOf, StringOf, place_of}
 use Rattle.edif_tree.specs.Handles.{here}
+use Rattle.edif_tree.specs.Ranges.{ids_of}
 use Rattle.edif_tree.proofs.HereLemmas.{shown, within}
 use Rattle.edif_tree.proofs.node.Node.shape.Goals as goal
 
@@ -12,10 +13,10 @@ pub shape-requires : goal.shape-requires
 shape-requires c = within c.args.self.tree.now.rows c.args.self.id c.args.self.stands
 
 pub invariant_of-result : goal.invariant_of-result
-invariant_of-result c = record { stand = (shown c.args.self.tree.now.rows c.args.self.id (FormOf c.in-Form.ids.now) c.args.self.stands c.in-Form.ensures).0 }
+invariant_of-result c = record { stand = (shown c.args.self.tree.now.rows c.args.self.id (FormOf (ids_of c.in-Form.ids)) c.args.self.stands c.in-Form.ensures).0 }
 
 pub returns-in-Form : goal.returns-in-Form
-returns-in-Form c = (shown c.args.self.tree.now.rows c.args.self.id (FormOf c.in-Form.ids.now) c.args.self.stands c.in-Form.ensures).1
+returns-in-Form c = (shown c.args.self.tree.now.rows c.args.self.id (FormOf (ids_of c.in-Form.ids)) c.args.self.stands c.in-Form.ensures).1
 
 pub returns-in-Word : goal.returns-in-Word
 returns-in-Word c = shown c.args.self.tree.now.rows c.args.self.id (WordOf c.in-Word.name.now) c.args.self.stands c.in-Word.ensures

@@ -1,4 +1,3 @@
-use Rattle.std.proofs.Common.{nat_eq}
 use Rattle.std.specs.Cmp.Lexicographic.{nat_list_eq_equiv}
 use Rattle.edif_tree.proofs.WordLemmas.{word_found}
 use Rattle.edif_tree.proofs.words.Words.add.Goals as goal

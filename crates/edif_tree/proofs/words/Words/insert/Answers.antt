@@ -1,4 +1,4 @@
-use Rattle.std.proofs.Common.{◌≡◌, List, ℕ, get_or, ap, ◌∙◌}
+use Rattle.std.proofs.Common.{List, ℕ, get_or, ap, ◌∙◌}
 use Rattle.edif_spec.specs.Keyword.{keyword}
 use Rattle.edif_tree.proofs.WordLemmas.{keywords_grow, word_put, words_added}
 use Rattle.edif_tree.proofs.words.Words.insert.Goals as goal
