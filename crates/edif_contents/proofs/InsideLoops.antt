@@ -9,6 +9,7 @@ use Rattle.netlist_schema.proofs.Lists.{all_push, zip_length}
 use Rattle.edif_spelling_spec.specs.Tree.{Bare, Placed, bare}
 use Rattle.netlist_schema.specs.Names.{AreDistinct}
 use Rattle.netlist_schema.specs.Width.{IsWidth}
+use Rattle.netlist_bus_spec.specs.Members.{numbered}
 use Rattle.edif_spec.specs.Design as design
 use Rattle.edif_spec.specs.Faults.{AtTwo, Beyond, SameOfTwo, declared_width, place_of, repeated, those_of}
 use Rattle.edif_spec.specs.Means.{MeansEnd, MeansInst}
@@ -30,13 +31,13 @@ use Rattle.edif_parts.proofs.Steps.{fault_here, here_first, those_keep, those_sk
 use Rattle.edif_contents.specs.Inners as inners
 use Rattle.edif_contents.specs.Inners.{InstTakenFault, InstsFault, ReadInsts}
 use Rattle.edif_contents.specs.Joins.{RowEndsFault, bits, bits_of_row, row_of}
-use Rattle.edif_contents.specs.Nets.{AreJoinedIn, AreMeant, IsFine, MeansNetIn, NetsFaultIn, NetsSoFar, ReadNet, ReadNets, RowAdded, RowJoined, RowNameFault, ends_of, names_in, refs_in, row_names}
+use Rattle.edif_contents.specs.Nets.{AreJoinedIn, AreMeant, IsFine, MeansNetIn, NetsFaultIn, NetsSoFar, ReadNet, ReadNets, RowJoined, ends_of, named, names_in, refs_in, row_names}
 use Rattle.edif_contents.specs.declared.ends.Surroundings.{Surroundings}
 use Rattle.edif_contents.specs.declared.insts.InstAt.{InstAt}
 use Rattle.edif_contents.specs.declared.insts.Insts.{Insts}
 use Rattle.edif_contents.specs.declared.nets.NetAt.{NetAt}
 use Rattle.edif_contents.proofs.NetLemmas.{each_bare}
-use Rattle.edif_contents.proofs.NetRows.{all_fit, beyond_one, beyond_row, flat_here, flat_push, names_read, row_bits, wide_ends}
+use Rattle.edif_contents.proofs.NetRows.{all_fit, beyond_one, beyond_row, flat_here, flat_push, named_row_more, names_read, places_row_more, row_bits, wide_ends}
 
 -- as many forms as values
 forms_count : {A : Type 0} (M : Bare → A → Type 0) (V : A → Type 0) (g : A → List ℕ) (k : Keyword) (ts : List Placed) (xs : List A) (ns : List (List ℕ × ℕ)) → NamedForms M V g k ts xs ns → length (those_of k ts) ≡ length xs
@@ -112,8 +113,8 @@ nets_start s = record {
   mean = tt;
   fine = tt;
   nets = refl;
+  places = refl;
   names = refl;
-  distinct = none_distinct;
   count = omega arith;
   joins = record { mean = tt; ends = refl; distinct = none_distinct; count = omega arith };
 }
@@ -160,37 +161,37 @@ pub row_small : (array : Option ℕ) → IfSome array IsWidth → row_size array
 row_small None h = omega arith
 row_small (Some w) h = omega (arith, h.1)
 
-pub nets_push : (s : Surroundings) (ts : List Placed) (t : Placed) (xs ys : List design.Net) (r : NetAt) (ss : List Stretch) (size : ℕ) (ns ms : List (List ℕ × ℕ)) (js ks : List (design.End × ℕ))
-    → has_keyword keywords.Net (bare t) ≡ true → ReadNet s t r → ss ≡ r.form.joined → size ≡ row_size r.form.array → length xs + size ≤ 1048576 → RowAdded r.form r.place ns xs ms ys
-    → AreJoinedIn s (refs_in ts ++ row_of size (ends_in t)) (ends_of xs ++ bits_of_row size ss) ks → NetsSoFar s ts xs ns js → NetsSoFar s (ts ++ t ∷ []) ys ms ks
-nets_push s ts t xs ys r ss size ns ms js ks h a e d l b j f =
+pub nets_push : (s : Surroundings) (ts : List Placed) (t : Placed) (xs ys : List design.Net) (r : NetAt) (ss : List Stretch) (size : ℕ) (ps qs : List ℕ) (js ks : List (design.End × ℕ))
+    → has_keyword keywords.Net (bare t) ≡ true → ReadNet s t r → ss ≡ r.form.joined → size ≡ row_size r.form.array → length xs + size ≤ 1048576 → ys ≡ xs ++ nets_of r.form → qs ≡ ps ++ numbered (λ k. r.place) 0 (row_size r.form.array)
+    → AreJoinedIn s (refs_in ts ++ row_of size (ends_in t)) (ends_of xs ++ bits_of_row size ss) ks → NetsSoFar s ts xs ps js → NetsSoFar s (ts ++ t ∷ []) ys qs ks
+nets_push s ts t xs ys r ss size ps qs js ks h a e d l b q j f =
     let more : those_of keywords.Net (ts ++ t ∷ []) ≡ those_of keywords.Net ts ++ t ∷ [] = those_keep keywords.Net ts t h in
     let refs : refs_in (ts ++ t ∷ []) ≡ refs_in ts ++ row_of size (ends_in t) =
     ap (flat_map row_ends) more ∙ (flat_push row_ends (those_of keywords.Net ts) t ∙ ap (λ v. refs_in ts ++ v) (row_refs s t r.form size a.mean d)) in
     let ends : ends_of ys ≡ ends_of xs ++ bits_of_row size ss =
-    ap ends_of b.nets ∙ (flat_map-append (λ (n : design.Net). n.ends) xs (nets_of r.form) ∙ ap (λ v. ends_of xs ++ v) (row_ends_joined r.form ss size e d)) in
+    ap ends_of b ∙ (flat_map-append (λ (n : design.Net). n.ends) xs (nets_of r.form) ∙ ap (λ v. ends_of xs ++ v) (row_ends_joined r.form ss size e d)) in
     let names : names_in (ts ++ t ∷ []) ≡ names_in ts ++ row_names r.form r.place =
     ap (flat_map net_names_in) more ∙ (flat_push net_names_in (those_of keywords.Net ts) t
     ∙ ap (λ v. names_in ts ++ v) (names_read s.libs.now.libs s.ports.now s.insts.now t r.form r.place a.mean a.named)) in
     let M : List Placed → Type 0 = λ v. AreMeant s v (f.forms ++ r.form ∷ []) in
     let P : List (Placed × ℕ × ℕ) → Type 0 = λ v. AreJoinedIn s v (ends_of xs ++ bits_of_row size ss) ks in
     let Q : List design.End → Type 0 = λ v. AreJoinedIn s (refs_in (ts ++ t ∷ [])) v ks in
-    let c : length ys ≡ length xs + length (nets_of r.form) = ap length b.nets ∙ length-append xs (nets_of r.form) in
+    let c : length ys ≡ length xs + length (nets_of r.form) = ap length b ∙ length-append xs (nets_of r.form) in
     let k : length (nets_of r.form) ≡ row_size r.form.array = length_numbered (net_at r.form) 0 (row_size r.form.array) in
     record {
       forms = f.forms ++ r.form ∷ [];
       mean = subst M (sym more) (zip_append (λ u n. MeansNetIn s (bare u) n) (those_of keywords.Net ts) f.forms (t ∷ []) (r.form ∷ []) f.mean (a.mean, tt));
       fine = all_push FineForm f.forms r.form f.fine a.fine;
-      nets = b.nets ∙ (ap (λ v. v ++ nets_of r.form) f.nets ∙ sym (flat_push nets_of f.forms r.form));
-      names = b.names ∙ (ap (λ v. v ++ row_names r.form r.place) f.names ∙ sym names);
-      distinct = b.distinct;
+      nets = b ∙ (ap (λ v. v ++ nets_of r.form) f.nets ∙ sym (flat_push nets_of f.forms r.form));
+      places = ap length q ∙ (places_row_more r.form r.place xs ps f.places ∙ ap length (sym b));
+      names = ap (named ys) q ∙ (ap (λ v. named v (ps ++ numbered (λ k. r.place) 0 (row_size r.form.array))) b ∙ (named_row_more r.form r.place xs ps f.places ∙ (ap (λ v. v ++ row_names r.form r.place) f.names ∙ sym names)));
       count = omega (arith, c, k, d, l);
       joins = subst Q (sym ends) (subst P (sym refs) j);
     }
 
-pub nets_skip : (s : Surroundings) (ts : List Placed) (t : Placed) (xs : List design.Net) (ns : List (List ℕ × ℕ)) (js : List (design.End × ℕ))
-    → has_keyword keywords.Net (bare t) ≡ false → NetsSoFar s ts xs ns js → NetsSoFar s (ts ++ t ∷ []) xs ns js
-nets_skip s ts t xs ns js h f =
+pub nets_skip : (s : Surroundings) (ts : List Placed) (t : Placed) (xs : List design.Net) (ps : List ℕ) (js : List (design.End × ℕ))
+    → has_keyword keywords.Net (bare t) ≡ false → NetsSoFar s ts xs ps js → NetsSoFar s (ts ++ t ∷ []) xs ps js
+nets_skip s ts t xs ps js h f =
     let same : those_of keywords.Net (ts ++ t ∷ []) ≡ those_of keywords.Net ts = those_skip keywords.Net ts t h in
     let M : List Placed → Type 0 = λ v. AreMeant s v f.forms in
     let P : List (Placed × ℕ × ℕ) → Type 0 = λ v. AreJoinedIn s v (ends_of xs) js in
@@ -199,8 +200,8 @@ nets_skip s ts t xs ns js h f =
       mean = subst M (sym same) f.mean;
       fine = f.fine;
       nets = f.nets;
+      places = f.places;
       names = f.names ∙ ap (flat_map net_names_in) (sym same);
-      distinct = f.distinct;
       count = f.count;
       joins = subst P (ap (flat_map row_ends) (sym same)) f.joins;
     }
@@ -219,23 +220,10 @@ ends_fail s ts before rest t n size f h m d b =
     let Q : List Placed → Type 0 = λ v. Beyond 4194304 v f in
     elim (b (flat_map row_ends after) (flat_map counted_ends after)) [ inl x ↦ inr (inl (subst P (sym refs) x)) | inr o ↦ inr (inr (inr (inr (subst Q (sym counts) o)))) ]
 
--- a name of the next row that is there already
-pub names_fail : (s : Surroundings) (ts before rest : List Placed) (t : Placed) (r : NetAt) (ns : List (List ℕ × ℕ)) (f : MeaningFault) → those_of keywords.Net ts ≡ those_of keywords.Net before ++ t ∷ those_of keywords.Net rest → ReadNet s t r → ns ≡ names_in before
-    → RowNameFault r.form r.place ns f → NetsFaultIn s (those_of keywords.Net ts) f
-names_fail s ts before rest t r ns f h a e b =
-    let us : List Placed = those_of keywords.Net before in
-    let after : List Placed = those_of keywords.Net rest in
-    let row : net_names_in t ≡ row_names r.form r.place = names_read s.libs.now.libs s.ports.now s.insts.now t r.form r.place a.mean a.named in
-    let names : names_in ts ≡ (ns ++ row_names r.form r.place) ++ flat_map net_names_in after =
-    ap (flat_map net_names_in) h ∙ (flat_here net_names_in us after t
-    ∙ (ap (λ v. (names_in before ++ v) ++ flat_map net_names_in after) row ∙ ap (λ v. (v ++ row_names r.form r.place) ++ flat_map net_names_in after) (sym e))) in
-    let P : List (List ℕ × ℕ) → Type 0 = λ v. AtTwo (SameOfTwo f) v in
-    inr (inr (inl (subst P (sym names) (b (flat_map net_names_in after)))))
-
 -- a row beyond the limit
-pub nets_beyond : (s : Surroundings) (ts before rest : List Placed) (t : Placed) (xs : List design.Net) (n : NetForm) (size place : ℕ) (ns : List (List ℕ × ℕ)) (js : List (design.End × ℕ))
-    → those_of keywords.Net ts ≡ those_of keywords.Net before ++ t ∷ those_of keywords.Net rest → MeansNetIn s (bare t) n → size ≡ row_size n.array → place ≡ place_of t → 1048576 < length xs + size → NetsSoFar s before xs ns js → NetsFaultIn s (those_of keywords.Net ts) (OverLimit 1048576 place)
-nets_beyond s ts before rest t xs n size place ns js h m d p l f =
+pub nets_beyond : (s : Surroundings) (ts before rest : List Placed) (t : Placed) (xs : List design.Net) (n : NetForm) (size place : ℕ) (ps : List ℕ) (js : List (design.End × ℕ))
+    → those_of keywords.Net ts ≡ those_of keywords.Net before ++ t ∷ those_of keywords.Net rest → MeansNetIn s (bare t) n → size ≡ row_size n.array → place ≡ place_of t → 1048576 < length xs + size → NetsSoFar s before xs ps js → NetsFaultIn s (those_of keywords.Net ts) (OverLimit 1048576 place)
+nets_beyond s ts before rest t xs n size place ps js h m d p l f =
     let us : List Placed = those_of keywords.Net before in
     let after : List Placed = those_of keywords.Net rest in
     let counts : repeated declared_width (those_of keywords.Net ts) ≡ (repeated declared_width us ++ replicate (declared_width t) t) ++ repeated declared_width after =
@@ -255,8 +243,8 @@ names_are [] (x ∷ xs) h = absurd h
 names_are (n ∷ ns) [] h = absurd h
 names_are (n ∷ ns) (x ∷ xs) h = cc (h.0, names_are ns xs h.1)
 
-pub nets_end : (s : Surroundings) (ts : List Placed) (xs : List design.Net) (ns : List (List ℕ × ℕ)) (js : List (design.End × ℕ)) → NetsSoFar s ts xs ns js → ReadNets s ts xs
-nets_end s ts xs ns js g =
+pub nets_end : (s : Surroundings) (ts : List Placed) (xs : List design.Net) (ps : List ℕ) (js : List (design.End × ℕ)) → NetsSoFar s ts xs ps js → AreDistinct (ids (named xs ps)) → ReadNets s ts xs
+nets_end s ts xs ps js g d =
     let us : List Placed = those_of keywords.Net ts in
     let D : List design.End → Type 0 = AreDistinct in
     let N : List (List ℕ) → Type 0 = AreDistinct in
@@ -267,14 +255,18 @@ nets_end s ts xs ns js g =
     let n : length js ≤ 4194304 = g.joins.count in
     let z : AllZip GivesName (names_in ts) (flat_map nets_of g.forms) =
     zip_flat (λ u n. MeansNetIn s (bare u) n) GivesName net_names_in nets_of (λ u n h. net_names_are s.libs.now.libs s.ports.now s.insts.now u n h) us g.forms g.mean in
-    let named : ids ns ≡ map net_name xs = ap ids g.names ∙ (names_are (names_in ts) (flat_map nets_of g.forms) z ∙ ap (map net_name) (sym g.nets)) in
+    let alone : ids (named xs ps) ≡ map net_name xs = ap ids g.names ∙ (names_are (names_in ts) (flat_map nets_of g.forms) z ∙ ap (map net_name) (sym g.nets)) in
     record {
       rows = g.forms;
       mean = subst R (filter_bare (has_keyword keywords.Net) ts) (each_bare (MeansNetIn s) us g.forms g.mean);
       nets = g.nets;
       fine = All-from_recursion IsFine xs (subst F (sym g.nets) (rows_fine g.forms g.fine));
-      names = subst N named g.distinct;
+      names = subst N alone d;
       count = g.count;
       ends = omega (arith, l, m, n);
       joined_once = subst D g.joins.ends g.joins.distinct;
     }
+
+-- a name that stands twice is one of the forms of nets
+pub names_fail : (s : Surroundings) (ts : List Placed) (xs : List design.Net) (ps : List ℕ) (js : List (design.End × ℕ)) (f : MeaningFault) → NetsSoFar s ts xs ps js → AtTwo (SameOfTwo f) (named xs ps) → NetsFaultIn s (those_of keywords.Net ts) f
+names_fail s ts xs ps js f g b = let P : List (List ℕ × ℕ) → Type 0 = λ v. AtTwo (SameOfTwo f) v in inr (inr (inl (subst P g.names b)))

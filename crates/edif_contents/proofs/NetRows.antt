@@ -1,6 +1,7 @@
 -- The row of nets of one form: its nets one after another, their names, and their ends.
-use Rattle.std.proofs.Common.{◌≡◌, ℕ, zero, suc, ◌+◌, ◌<◌, ◌≤◌, List, [], ◌∷◌, ◌++◌, map, replicate, length, get_or, refl, sym, ap, ◌∙◌, subst, inl, inr, Option, Some, None, false, true≢false, add-one, arith, append-nil, append_assoc}
+use Rattle.std.proofs.Common.{◌≡◌, ℕ, zero, suc, ◌+◌, ◌<◌, ◌≤◌, List, [], ◌∷◌, ◌++◌, map, replicate, length, length-append, drop, get_or, refl, sym, ap, ◌∙◌, subst, inl, inr, Option, Some, None, false, true≢false, add-one, arith, append-nil, append_assoc}
 use Rattle.std.specs.Prelude.{◌^◌, is_some, pos, slice_get}
+use Rattle.std.proofs.lemmas.List.{drop_all}
 use Rattle.std.specs.List.{AllByRecursion, AllZip, Contains, flat_map}
 use Rattle.edif_spelling_spec.specs.Tree.{Placed, bare, integer}
 use Rattle.netlist_bus_spec.specs.Members.{numbered}
@@ -17,10 +18,12 @@ use Rattle.edif_spec.specs.declared.fault.MeaningFault.TheVariants.{Clash, OverL
 use Rattle.edif_spec.proofs.FaultForms.{part_there}
 use Rattle.edif_spec.proofs.FaultsApart.{keyword_of, no_array}
 use Rattle.edif_spec.proofs.NetFaultsApart.{net_declares, net_ends}
+use Rattle.edif_spec.proofs.RowForms.{length_numbered}
 use Rattle.netlist_schema.specs.Names.{AreDistinct}
 use Rattle.edif_parts.specs.Names.{DefinesName, IsAgain, ids}
 use Rattle.edif_parts.proofs.NameLists.{distinct_push, ids_push}
-use Rattle.edif_contents.specs.Nets.{NetAdded, RowAdded, RowNameFault, row_names}
+use Rattle.edif_contents.specs.Nets.{NetAdded, RowAdded, named, row_names}
+use Rattle.edif_contents.specs.declared.net_list.NetList.{NetList}
 
 -- Values by their numbers: with one more, and about one of them.
 pub numbered_push : {A : Type 0} (f : ℕ → A) (k count : ℕ) → numbered f k (suc count) ≡ numbered f k count ++ f (k + count) ∷ []
@@ -89,18 +92,58 @@ name_twice ns rest name earlier later c =
     let place : (get_or ns c.0 (name, earlier)).1 ≡ earlier = ap (λ (v : List ℕ × ℕ). v.1) c.2 in
     two_of (SameOfTwo (Clash Duplicate later earlier)) ns rest (name, later) (name, earlier) c.0 c.1 (same, ap (λ v. Clash Duplicate later v) (sym place))
 
--- a name of a row that is there already, or that an earlier net of the row has
-pub row_again : (n : NetForm) (place k : ℕ) (old now : List (List ℕ × ℕ)) (name : List ℕ) (f : MeaningFault) → k < row_size n.array → now ≡ old ++ numbered (λ i. ((name_at n.name n.array i).id, place)) 0 k → name ≡ (name_at n.name n.array k).id → IsAgain now name place f
-    → RowNameFault n place old f
-row_again n place k old now name f l e d b rest =
-    let named : ℕ → List ℕ × ℕ = λ i. ((name_at n.name n.array i).id, place) in
-    let r = numbered_around named 0 k (row_size n.array) l in
-    let whole : (old ++ numbered named 0 (row_size n.array)) ++ rest ≡ now ++ (name, place) ∷ (r.0 ++ rest) =
-    ap (λ v. (old ++ v) ++ rest) (r.1 ∙ ap (λ v. numbered named 0 k ++ named v ∷ r.0) (zero_first k)) ∙ (ap (λ v. v ++ rest) (sym (append_assoc old (numbered named 0 k) (named k ∷ r.0)))
-    ∙ (append_assoc (old ++ numbered named 0 k) (named k ∷ r.0) rest ∙ (ap (λ v. v ++ named k ∷ (r.0 ++ rest)) (sym e) ∙ ap (λ v. now ++ (v, place) ∷ (r.0 ++ rest)) (sym d)))) in
-    let P : List (List ℕ × ℕ) → Type 0 = λ v. AtTwo (SameOfTwo (Clash Duplicate place b.0)) v in
-    let Q : MeaningFault → Type 0 = λ v. AtTwo (SameOfTwo v) ((old ++ numbered named 0 (row_size n.array)) ++ rest) in
-    subst Q (sym b.2) (subst P (sym whole) (name_twice now (r.0 ++ rest) name b.0 place b.1))
+-- Names beside their places: of more nets, of the nets of a row, and of the next net with those behind it.
+named_append : (xs ys : List design.Net) (ps qs : List ℕ) → length ps ≡ length xs → named (xs ++ ys) (ps ++ qs) ≡ named xs ps ++ named ys qs
+named_append [] ys [] qs e = refl
+named_append [] ys (p ∷ ps) qs e = absurd (omega (arith, e))
+named_append (x ∷ xs) ys [] qs e = absurd (omega (arith, e))
+named_append (x ∷ xs) ys (p ∷ ps) qs e = ap (λ v. (x.name.id, p) ∷ v) (named_append xs ys ps qs (omega (arith, e)))
+
+row_named : (n : NetForm) (place k count : ℕ) → named (numbered (net_at n) k count) (numbered (λ i. place) k count) ≡ numbered (λ i. ((name_at n.name n.array i).id, place)) k count
+row_named n place k zero = refl
+row_named n place k (suc count) = ap (λ v. ((name_at n.name n.array k).id, place) ∷ v) (row_named n place (suc k) count)
+
+pub named_row_more : (n : NetForm) (place : ℕ) (xs : List design.Net) (ps : List ℕ) → length ps ≡ length xs
+    → named (xs ++ nets_of n) (ps ++ numbered (λ i. place) 0 (row_size n.array)) ≡ named xs ps ++ row_names n place
+named_row_more n place xs ps e = named_append xs (nets_of n) ps (numbered (λ i. place) 0 (row_size n.array)) e ∙ ap (λ v. named xs ps ++ v) (row_named n place 0 (row_size n.array))
+
+pub places_row_more : (n : NetForm) (place : ℕ) (xs : List design.Net) (ps : List ℕ) → length ps ≡ length xs
+    → length (ps ++ numbered (λ i. place) 0 (row_size n.array)) ≡ length (xs ++ nets_of n)
+places_row_more n place xs ps e =
+    let a = length-append ps (numbered (λ i. place) 0 (row_size n.array)) in
+    let b = length-append xs (nets_of n) in
+    let c = length_numbered (λ (i : ℕ). place) 0 (row_size n.array) in
+    let d = length_numbered (net_at n) 0 (row_size n.array) in
+    omega (arith, a, b, c, d, e)
+
+pub named_next : (xs : List design.Net) (ps : List ℕ) (i p : ℕ) (x d : design.Net) → i < length xs → length ps ≡ length xs → x ≡ get_or xs i d → p ≡ get_or ps i 0
+    → named (drop i xs) (drop i ps) ≡ (x.name.id, p) ∷ named (drop (suc i) xs) (drop (suc i) ps)
+named_next [] ps i p x d l m e q = absurd (omega (arith, l))
+named_next (y ∷ xs) [] i p x d l m e q = absurd (omega (arith, m))
+named_next (y ∷ xs) (w ∷ ps) zero p x d l m e q = ap (λ (v : design.Net). (v.name.id, w) ∷ named xs ps) (sym e) ∙ ap (λ v. (x.name.id, v) ∷ named xs ps) (sym q)
+named_next (y ∷ xs) (w ∷ ps) (suc i) p x d l m e q = named_next xs ps i p x d (omega (arith, l)) (omega (arith, m)) e q
+
+none_left : (xs : List design.Net) (ps : List ℕ) (i : ℕ) → length xs ≤ i → named (drop i xs) (drop i ps) ≡ []
+none_left xs ps i l = ap (λ v. named v (drop i ps)) (drop_all i xs l)
+
+-- One name more of those that are left, which differs from those before it; or one of those is the same.
+pub named_after : (all names more : List (List ℕ × ℕ)) (xs : List design.Net) (ps : List ℕ) (i p : ℕ) (x d : design.Net) → names ++ named (drop i xs) (drop i ps) ≡ all → i < length xs → length ps ≡ length xs → x ≡ get_or xs i d → p ≡ get_or ps i 0
+    → DefinesName names x.name.id p more None → more ++ named (drop (suc i) xs) (drop (suc i) ps) ≡ all
+named_after all names more xs ps i p x d h l m e q n =
+    let rest = named (drop (suc i) xs) (drop (suc i) ps) in
+    ap (λ v. v ++ rest) n.1 ∙ (append_assoc names ((x.name.id, p) ∷ []) rest ∙ (ap (λ v. names ++ v) (sym (named_next xs ps i p x d l m e q)) ∙ h))
+
+pub named_again : (all names : List (List ℕ × ℕ)) (xs : List design.Net) (ps : List ℕ) (i p : ℕ) (x d : design.Net) (f : MeaningFault) → names ++ named (drop i xs) (drop i ps) ≡ all → i < length xs → length ps ≡ length xs → x ≡ get_or xs i d → p ≡ get_or ps i 0
+    → IsAgain names x.name.id p f → AtTwo (SameOfTwo f) all
+named_again all names xs ps i p x d f h l m e q b =
+    let rest = named (drop (suc i) xs) (drop (suc i) ps) in
+    let P : List (List ℕ × ℕ) → Type 0 = λ v. AtTwo (SameOfTwo (Clash Duplicate p b.0)) v in
+    let Q : MeaningFault → Type 0 = λ v. AtTwo (SameOfTwo v) all in
+    let whole : names ++ (x.name.id, p) ∷ rest ≡ all = ap (λ v. names ++ v) (sym (named_next xs ps i p x d l m e q)) ∙ h in
+    subst Q (sym b.2) (subst P whole (name_twice names rest x.name.id b.0 p b.1))
+
+pub named_all : (all names : List (List ℕ × ℕ)) (xs : List design.Net) (ps : List ℕ) (i : ℕ) → names ++ named (drop i xs) (drop i ps) ≡ all → length xs ≤ i → names ≡ all
+named_all all names xs ps i h l = sym (append-nil names) ∙ (ap (λ v. names ++ v) (sym (none_left xs ps i l)) ∙ h)
 
 -- and of names that differ, with another
 pub names_differ : (ns ms : List (List ℕ × ℕ)) (name : List ℕ) (place : ℕ) → AreDistinct (ids ns) → DefinesName ns name place ms None → AreDistinct (ids ms)
@@ -114,21 +157,14 @@ pub without_array : (o : Option ℕ) → is_some o ≡ false → o ≡ None
 without_array None h = refl
 without_array (Some w) h = absurd (true≢false h)
 
-pub only_added : (n : NetForm) (place : ℕ) (x : design.Net) (names : List (List ℕ × ℕ)) (nets : List design.Net) (more_names : List (List ℕ × ℕ)) (more_nets : List design.Net) → n.array ≡ None → x ≡ net_at n 0 → AreDistinct (ids names)
-    → NetAdded x place names nets more_names more_nets → RowAdded n place names nets more_names more_nets
-only_added n place x names nets more_names more_nets a e d h =
+pub only_added : (n : NetForm) (place : ℕ) (x : design.Net) (old new : NetList) → n.array ≡ None → x ≡ net_at n 0 → NetAdded x place old new → RowAdded n place old new
+only_added n place x old new a e h =
     let one : nets_of n ≡ net_at n 0 ∷ [] = ap (λ v. numbered (net_at n) 0 (row_size v)) a in
-    let name : row_names n place ≡ ((name_at n.name n.array 0).id, place) ∷ [] = ap (λ v. numbered (λ k. ((name_at n.name n.array k).id, place)) 0 (row_size v)) a in
+    let there : numbered (λ k. place) 0 (row_size n.array) ≡ place ∷ [] = ap (λ v. numbered (λ k. place) 0 (row_size v)) a in
     record {
-      nets = h.nets ∙ (ap (λ v. nets ++ v ∷ []) e ∙ ap (λ v. nets ++ v) (sym one));
-      names = h.name.1 ∙ (ap (λ (v : design.Net). names ++ (v.name.id, place) ∷ []) e ∙ ap (λ v. names ++ v) (sym name));
-      distinct = names_differ names more_names x.name.id place d h.name;
+      nets = h.nets ∙ (ap (λ v. old.nets.items ++ v ∷ []) e ∙ ap (λ v. old.nets.items ++ v) (sym one));
+      places = h.places ∙ ap (λ v. old.places.items ++ v) (sym there);
     }
-
-pub only_again : (n : NetForm) (place : ℕ) (x : design.Net) (names : List (List ℕ × ℕ)) (f : MeaningFault) → n.array ≡ None → x ≡ net_at n 0 → IsAgain names x.name.id place f → RowNameFault n place names f
-only_again n place x names f a e b =
-    let z : row_size n.array ≡ 1 = ap row_size a in
-    row_again n place 0 names names x.name.id f (omega (arith, z)) (sym (append-nil names)) (ap (λ (v : design.Net). v.name.id) e) b
 
 -- more nets than allowed, at the form of the first one beyond
 get_copy : {A : Type 0} (count i : ℕ) (t : A) (ys : List A) → i < count → slice_get (replicate count t ++ ys) i ≡ Some t

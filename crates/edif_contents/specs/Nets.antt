@@ -17,9 +17,9 @@ use Rattle.edif_spec.specs.declared.keyword.Keyword.TheVariants as keywords
 use Rattle.edif_tree.specs.Handles.{all}
 use Rattle.edif_contents.specs.Ends.{ReadEnd, WidthFaultIn}
 use Rattle.edif_contents.specs.Joins.{AreJoined, bits_of_row, row_of}
-use Rattle.edif_parts.specs.Names.{DefinesName, ids}
 use Rattle.edif_contents.specs.declared.ends.EndAt.{EndAt}
 use Rattle.edif_contents.specs.declared.ends.Surroundings.{Surroundings}
+use Rattle.edif_contents.specs.declared.net_list.NetList.{NetList}
 use Rattle.edif_contents.specs.declared.nets.JoinedAt.{JoinedAt}
 use Rattle.edif_contents.specs.declared.nets.NetAt.{NetAt}
 use Rattle.edif_contents.specs.declared.nets.StretchesAt.{StretchesAt}
@@ -65,20 +65,21 @@ pub record ReadNet (s : Surroundings) (t : Placed) (n : NetAt) : Type 0 where
 abbrev pub row_names : NetForm → ℕ → List (List ℕ × ℕ)
 row_names n place = numbered (λ k. ((name_at n.name n.array k).id, place)) 0 (row_size n.array)
 
--- A net is added to those that are there, and its name, which is not there yet.
-pub record NetAdded (n : design.Net) (place : ℕ) (old_names : List (List ℕ × ℕ)) (old_nets : List design.Net) (new_names : List (List ℕ × ℕ)) (new_nets : List design.Net) : Type 0 where
-  pub nets : new_nets ≡ old_nets ++ n ∷ []
-  pub name : DefinesName old_names n.name.id place new_names None
+-- A net is added to those that are there, and the place of its name.
+pub record NetAdded (n : design.Net) (place : ℕ) (old new : NetList) : Type 0 where
+  pub nets : new.nets.items ≡ old.nets.items ++ n ∷ []
+  pub places : new.places.items ≡ old.places.items ++ place ∷ []
 
--- The nets of a form are added to those that are there, and their names, which differ from those and from each other.
-pub record RowAdded (n : NetForm) (place : ℕ) (old_names : List (List ℕ × ℕ)) (old_nets : List design.Net) (new_names : List (List ℕ × ℕ)) (new_nets : List design.Net) : Type 0 where
-  pub nets : new_nets ≡ old_nets ++ nets_of n
-  pub names : new_names ≡ old_names ++ row_names n place
-  pub distinct : AreDistinct (ids new_names)
+-- The nets of a form are added to those that are there, and the place of the form's name for each.
+pub record RowAdded (n : NetForm) (place : ℕ) (old new : NetList) : Type 0 where
+  pub nets : new.nets.items ≡ old.nets.items ++ nets_of n
+  pub places : new.places.items ≡ old.places.items ++ numbered (λ k. place) 0 (row_size n.array)
 
--- whatever follows, a name of a net of a form that stands twice
-abbrev pub RowNameFault : NetForm → ℕ → List (List ℕ × ℕ) → MeaningFault → Type 0
-RowNameFault n place old f = (rest : List (List ℕ × ℕ)) → AtTwo (SameOfTwo f) ((old ++ row_names n place) ++ rest)
+-- the names of nets, each with the place beside it
+abbrev pub named : List design.Net → List ℕ → List (List ℕ × ℕ)
+named [] ps = []
+named (n ∷ ns) [] = []
+named (n ∷ ns) (p ∷ ps) = (n.name.id, p) ∷ named ns ps
 
 -- The nets for which the forms of nets among these stand, within the limits, with names that differ and each bit joined once.
 pub record ReadNets (s : Surroundings) (ts : List Placed) (ns : List design.Net) : Type 0 where
@@ -114,16 +115,20 @@ AreJoinedIn s ts es js = AreJoined s.libs.now.libs s.ports.now s.insts.now ts es
 abbrev pub AreMeant : Surroundings → List Placed → List NetForm → Type 0
 AreMeant s ts ns = AllZip (λ u n. MeansNetIn s (bare u) n) ts ns
 
--- The forms of nets among these mean rows, whose nets are these, and join these ends; their names, with their places, differ.
-pub record NetsSoFar (s : Surroundings) (ts : List Placed) (xs : List design.Net) (ns : List (List ℕ × ℕ)) (js : List (design.End × ℕ)) : Type 0 where
+-- The forms of nets among these mean rows, whose nets are these, with names in these places, and join these ends.
+pub record NetsSoFar (s : Surroundings) (ts : List Placed) (xs : List design.Net) (ps : List ℕ) (js : List (design.End × ℕ)) : Type 0 where
   pub forms : List NetForm
   pub mean : AreMeant s (those_of keywords.Net ts) forms
   pub fine : AllByRecursion FineForm forms
   pub nets : xs ≡ flat_map nets_of forms
-  pub names : ns ≡ names_in ts
-  pub distinct : AreDistinct (ids ns)
+  pub places : length ps ≡ length xs
+  pub names : named xs ps ≡ names_in ts
   pub count : length xs ≤ MOST_NETS
   pub joins : AreJoinedIn s (refs_in ts) (ends_of xs) js
+
+-- the same of the nets of a list, whose ends are joined once each
+abbrev pub AreJoinedOnce : Surroundings → List Placed → NetList → Type 0
+AreJoinedOnce s ts l = (js : List (design.End × ℕ)) × NetsSoFar s ts l.nets.items l.places.items js
 
 -- The ends of a form of a net that comes next are joined, and there is room for its nets.
 pub record RowJoined (s : Surroundings) (before : List Placed) (old : List design.Net) (t : Placed) (n : NetForm) (js : List (design.End × ℕ)) : Type 0 where

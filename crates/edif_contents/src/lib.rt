@@ -7,6 +7,7 @@ mod insts;
 mod joins;
 mod known;
 mod limits;
+mod net_list;
 mod nets;
 mod references;
 

@@ -1,5 +1,5 @@
 //! Nets.
-ghost use Rattle.std.specs.Prelude.{◌≡◌, ◌+◌, ◌++◌, ◌∷◌, [], ◌^◌, ◌<◌, ◌≤◌, ℕ, IfOk, List, None, length, map, true};
+ghost use Rattle.std.specs.Prelude.{◌≡◌, ◌+◌, ◌++◌, ◌∷◌, [], ◌^◌, ◌<◌, ◌≤◌, ℕ, IfOk, List, None, OnOk, length, map, true};
 ghost use Rattle.std.specs.List.{All, AllByRecursion, AllZip};
 ghost use Rattle.edif_spelling_spec.specs.Tree.{Placed, bare};
 ghost use Rattle.edif_spec.specs.Design as design;
@@ -11,22 +11,21 @@ ghost use Rattle.edif_spec.specs.declared.fault.MeaningFault.TheVariants.{OverLi
 ghost use Rattle.edif_spec.specs.declared.keyword.Keyword.TheVariants.{Joined, Net as NetWord, PortRef, Property as PropertyWord};
 ghost use Rattle.edif_tree.specs.Handles.{here, all};
 ghost use Rattle.edif_contents.specs.Ends.{AreNamed, EndFaultIn, ReadEnd, WidthFaultIn};
-ghost use Rattle.netlist_schema.specs.Names.{AreDistinct, HasDistinctKeys};
+ghost use Rattle.netlist_schema.specs.Names.{HasDistinctKeys};
 ghost use Rattle.netlist_schema.specs.Typed.{IsTypedProperty};
 ghost use Rattle.netlist_schema.specs.declared.limits.TheConstants.{MOST_ENDS, MOST_NETS};
 ghost use Rattle.edif_spec.specs.Nets.{end_of, name_at, net_at, row_size};
 ghost use Rattle.edif_spec.specs.Stands.{width_kind};
-ghost use Rattle.edif_contents.specs.Nets.{NetAdded, NetFaultIn, NetsFaultIn, NetsSoFar, NextNetFault, ReadJoined, ReadNet, ReadNets, ReadStretches, RowAdded, RowJoined, RowNameFault, StretchesFaultIn};
-ghost use Rattle.edif_parts.specs.Names.{IsAgain, ids};
+ghost use Rattle.edif_contents.specs.Nets.{AreJoinedOnce, NetFaultIn, NetsFaultIn, NetsSoFar, NextNetFault, ReadJoined, ReadNet, ReadNets, ReadStretches, RowAdded, RowJoined, StretchesFaultIn};
 ghost use Rattle.edif_parts.specs.Reading.{Answers};
 
 use crate::ends::{EndAt, Surroundings, read_end};
 use crate::joins::{Joins, end_of, join_row};
+use crate::net_list::{NetList, check_names};
 use bus_members::member_name;
 use edif_grammar::is_form_of;
 use edif_parts::{
-    BusName, EdifError, OwnNames, fault_at, over_limit, read_bus_name, read_parts, read_properties,
-    room_for,
+    BusName, EdifError, fault_at, over_limit, read_bus_name, read_parts, read_properties,
 };
 use edif_spec::{Keyword, Kind, NetForm, Stretch};
 use edif_tree::{Node, Nodes};
@@ -256,58 +255,33 @@ fn only_net(alloc: Global, form: NetForm) -> Result<Net, NoMemory>
     })
 }
 
-/// Adds a net, whose name stands at this place and is not there yet; else the error says that it is.
-fn add_net(
-    alloc: Global,
-    net: Net,
-    place: u64,
-    names: &mut OwnNames,
-    nets: &mut Vec<Shared<Net>>,
-) -> Result<(), EdifError>
-    ensures { Answers (λ _. NetAdded net place names.old nets.old.items names.new nets.new.items) (IsAgain names.old net.name.id place) result }
-{
-    names.add(&net.name.id, place)?;
-    nets.push(Shared::of(alloc, net)?)?;
-    Ok(())
-}
-
 /// Adds the nets of the row of a form, as `add_row` does, each with a share of its properties.
 fn add_members(
     alloc: Global,
     form: &NetForm,
     place: u64,
-    names: &mut OwnNames,
-    nets: &mut Vec<Shared<Net>>,
-) -> Result<(), EdifError>
-    requires within { All (λ s. s.first + row_size form.now.array ≤ 2 ^ 32) form.now.joined }
-    requires distinct { AreDistinct (ids names.old) }
-    ensures { Answers (λ _. RowAdded form.now place names.old nets.old.items names.new nets.new.items) (RowNameFault form.now place names.old) result }
+    list: &mut NetList,
+) -> Result<(), NoMemory>
+    requires { All (λ s. s.first + row_size form.now.array ≤ 2 ^ 32) form.now.joined }
+    ensures { OnOk result (RowAdded form.now place list.old list.new) }
 {
     for k in 0..row_size(&form.array) {
         let net = net_at(alloc, form, k)?;
-        add_net(alloc, net, place, names, nets)?;
+        list.add(alloc, net, place)?;
     }
     Ok(())
 }
 
-/// Adds the nets of the row of a form, whose name stands at this place, and their names, which differ from those that are there; else
-/// the error names the first that does not.
-fn add_row(
-    alloc: Global,
-    form: NetForm,
-    place: u64,
-    names: &mut OwnNames,
-    nets: &mut Vec<Shared<Net>>,
-) -> Result<(), EdifError>
-    requires within { All (λ s. s.first + row_size form.array ≤ 2 ^ 32) form.joined }
-    requires distinct { AreDistinct (ids names.old) }
-    ensures { Answers (λ _. RowAdded form place names.old nets.old.items names.new nets.new.items) (RowNameFault form place names.old) result }
+/// Adds the nets of the row of a form, whose name stands at this place.
+fn add_row(alloc: Global, form: NetForm, place: u64, list: &mut NetList) -> Result<(), NoMemory>
+    requires { All (λ s. s.first + row_size form.array ≤ 2 ^ 32) form.joined }
+    ensures { OnOk result (RowAdded form place list.old list.new) }
 {
     if form.array.is_some() {
-        return add_members(alloc, &form, place, names, nets);
+        return add_members(alloc, &form, place, list);
     }
     let net = only_net(alloc, form)?;
-    add_net(alloc, net, place, names, nets)
+    list.add(alloc, net, place)
 }
 
 /// Whether there is room for so many nets behind those that are there; else the form of these is the first beyond the limit.
@@ -334,7 +308,7 @@ fn join_form(
     requires within { All (λ s. s.first + row_size read.now.form.array ≤ 2 ^ 32) read.now.form.joined }
     requires nets { count ≤ MOST_NETS }
     requires joined { length joins.old ≤ MOST_ENDS }
-    ensures { (s : Surroundings) (before : List Placed) (nets : List design.Net) (names : List (List ℕ × ℕ)) → ReadNet s (here node.entry) read.now → length nets ≡ count → NetsSoFar s before nets names joins.old
+    ensures { (s : Surroundings) (before : List Placed) (nets : List design.Net) (places : List ℕ) → ReadNet s (here node.entry) read.now → length nets ≡ count → NetsSoFar s before nets places joins.old
         → Answers (λ _. RowJoined s before nets (here node.entry) read.now.form joins.new) (NextNetFault s before (here node.entry)) result }
 {
     let size = row_size(&read.form.array);
@@ -342,54 +316,63 @@ fn join_form(
     join_row(read.ends, read.form.joined.as_slice(), size, joins)
 }
 
-/// Adds the nets for which the form of a net at a node stands to those that are there, with their names and the bits that they join;
-/// else the error names what is wrong with the form, whatever follows it.
+/// Adds the nets for which the form of a net at a node stands to those that are there, and the bits that they join; else the error
+/// names what is wrong with the form, whatever follows it.
 fn take_net(
     alloc: Global,
     node: Node<'_>,
     around: &Surroundings,
-    names: &mut OwnNames,
     joins: &mut Joins,
-    nets: &mut Vec<Shared<Net>>,
+    list: &mut NetList,
 ) -> Result<(), EdifError>
     requires keyword { has_keyword NetWord (bare (here node)) ≡ true }
     requires names { AreNamed around.now }
-    requires nets { length nets.old.items ≤ MOST_NETS }
+    requires nets { length list.old.nets.items ≤ MOST_NETS }
     requires joined { length joins.old ≤ MOST_ENDS }
-    requires distinct { AreDistinct (ids names.old) }
-    ensures { (before : List Placed) → NetsSoFar around.now before nets.old.items names.old joins.old
-        → Answers (λ _. NetsSoFar around.now (before ++ here node.entry ∷ []) nets.new.items names.new joins.new) (NextNetFault around.now before (here node.entry)) result }
+    ensures { (before : List Placed) → NetsSoFar around.now before list.old.nets.items list.old.places.items joins.old
+        → Answers (λ _. NetsSoFar around.now (before ++ here node.entry ∷ []) list.new.nets.items list.new.places.items joins.new) (NextNetFault around.now before (here node.entry)) result }
 {
     let read = read_net(alloc, node, around)?;
-    join_form(node, &read, nets.len(), joins)?;
-    add_row(alloc, read.form, read.place, names, nets)
+    join_form(node, &read, list.nets.len(), joins)?;
+    add_row(alloc, read.form, read.place, list)?;
+    Ok(())
 }
 
-/// The nets of the forms of nets among these followers of a form, as `read_nets` reads them, with their names and the bits that they
-/// join, where none is yet.
+/// The nets of the forms of nets among these followers of a form, in order, with the bits that they join, where none is yet.
 fn take_nets(
     alloc: Global,
     inner: Nodes<'_>,
     around: &Surroundings,
-    names: &mut OwnNames,
     joins: &mut Joins,
-) -> Result<Row<Shared<Net>>, EdifError>
+) -> Result<NetList, EdifError>
     requires named { AreNamed around.now }
-    requires names { names.old ≡ [] }
     requires joins { joins.old ≡ [] }
-    ensures { Answers (ReadNets around.now (all inner.entry)) (NetsFaultIn around.now (those_of NetWord (all inner.entry))) result }
+    ensures { Answers (AreJoinedOnce around.now (all inner.entry)) (NetsFaultIn around.now (those_of NetWord (all inner.entry))) result }
 {
-    let mut nets = room_for(alloc, inner, Keyword::Net)?;
+    let mut list = NetList::for_forms(alloc, inner)?;
     for node in inner.iter() {
         if is_form_of(node, Keyword::Net) {
-            take_net(alloc, node, around, names, joins, &mut nets)?;
+            take_net(alloc, node, around, joins, &mut list)?;
         }
     }
-    Ok(Row::of(nets))
+    Ok(list)
+}
+
+/// The nets for which the forms of nets among these followers of a form stand, in order, with each bit joined once.
+fn joined_nets(
+    alloc: Global,
+    inner: Nodes<'_>,
+    around: &Surroundings,
+) -> Result<NetList, EdifError>
+    requires { AreNamed around.now }
+    ensures { Answers (AreJoinedOnce around.now (all inner.entry)) (NetsFaultIn around.now (those_of NetWord (all inner.entry))) result }
+{
+    let mut joins = Joins::new(alloc);
+    take_nets(alloc, inner, around, &mut joins)
 }
 
 /// The nets for which the forms of nets among these followers of a form stand, in order, with names that differ and each bit joined
-/// once.
+/// once. The names are looked at once all bits have been, so that the two tables are never there at one time.
 pub(crate) fn read_nets(
     alloc: Global,
     inner: Nodes<'_>,
@@ -398,7 +381,7 @@ pub(crate) fn read_nets(
     requires { AreNamed around.now }
     ensures { Answers (ReadNets around.now (all inner.entry)) (NetsFaultIn around.now (those_of NetWord (all inner.entry))) result }
 {
-    let mut names = OwnNames::new(alloc);
-    let mut joins = Joins::new(alloc);
-    take_nets(alloc, inner, around, &mut names, &mut joins)
+    let list = joined_nets(alloc, inner, around)?;
+    check_names(alloc, &list)?;
+    Ok(list.into_nets())
 }

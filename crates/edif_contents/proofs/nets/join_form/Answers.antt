@@ -14,7 +14,7 @@ use Rattle.edif_contents.proofs.InsideLoops.{RowEndsFaultIn, counted_in, ends_fa
 use Rattle.edif_contents.proofs.nets.join_form.Goals as goal
 
 pub returns-in_err-nets_room : goal.returns-in_err-nets_room
-returns-in_err-nets_room c = λ s before nets names r e g.
+returns-in_err-nets_room c = λ s before nets places r e g.
     let t = here c.args.node in
     let size = c.row_size-size.result in
     let F : MeaningFault → Type 0 = λ f. (1048576 < c.args.count + size) × (f ≡ OverLimit 1048576 c.place.result) in
@@ -24,7 +24,7 @@ returns-in_err-nets_room c = λ s before nets names r e g.
     let P : MeaningFault → Type 0 = λ v. NetsFaultIn s (those_of Net ts) v in
     let first = here_first Net ts before (t ∷ rest) rest t refl refl c.requires.keyword in
     let l : 1048576 < length nets + size = omega (arith, h.0, e) in
-    subst P (sym h.1) (nets_beyond s ts before rest t nets c.args.read.now.form size c.place.result names c.args.joins.now first r.mean c.row_size-size.ensures (c.place.ensures ∙ place_is t) l g))
+    subst P (sym h.1) (nets_beyond s ts before rest t nets c.args.read.now.form size c.place.result places c.args.joins.now first r.mean c.row_size-size.ensures (c.place.ensures ∙ place_is t) l g))
     c.in_err-nets_room.ensures
 
 pub join_row-requires-clause-count : goal.join_row-requires-clause-count
@@ -34,7 +34,7 @@ pub join_row-requires-clause-within : goal.join_row-requires-clause-within
 join_row-requires-clause-within c = rw (c.as_slice.ensures, c.row_size-size.ensures) c.requires.within
 
 pub returns : goal.returns
-returns c = λ s before nets names r e g.
+returns c = λ s before nets places r e g.
     let t = here c.args.node in
     let n = c.args.read.now in
     let size = c.row_size-size.result in
