@@ -66,11 +66,7 @@ fn add_name(net: &Shared<Net>, place: u32, names: &mut OwnNames) -> Result<(), E
 }
 
 /// Adds the names of nets, which stand in these places and differ; else the error is that one is defined again. None is there before.
-fn add_names(
-    nets: &[Shared<Net>],
-    places: &[u32],
-    names: &mut OwnNames,
-) -> Result<(), EdifError>
+fn add_names(nets: &[Shared<Net>], places: &[u32], names: &mut OwnNames) -> Result<(), EdifError>
     requires places { length places.now ≡ length nets.now }
     requires names { names.old ≡ [] }
     ensures { Answers (λ _. AreDistinct (ids (named nets.now places.now))) (λ f. AtTwo (SameOfTwo f) (named nets.now places.now)) result }

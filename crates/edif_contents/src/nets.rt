@@ -359,11 +359,7 @@ fn take_nets(
 }
 
 /// The nets for which the forms of nets among these followers of a form stand, in order, with each bit joined once.
-fn joined_nets(
-    alloc: Global,
-    inner: Nodes<'_>,
-    around: &Surroundings,
-) -> Result<NetList, EdifError>
+fn joined_nets(alloc: Global, inner: Nodes<'_>, around: &Surroundings) -> Result<NetList, EdifError>
     requires { AreNamed around.now }
     ensures { Answers (AreJoinedOnce around.now (all inner.entry)) (NetsFaultIn around.now (those_of NetWord (all inner.entry))) result }
 {
