@@ -19,6 +19,14 @@ use netlist_schema::{CellId, NoMemory, Property, Shown};
 use path_texts::PathTexts;
 use std::alloc::Global;
 
+/// The design, lent for as long as the texts are.
+#[inline(always)]
+fn design_of<'t, S: Shown>(texts: &'t PathTexts<'_, S>) -> &'t S
+    ensures { S.design result.now ≡ texts.now }
+{
+    texts.design()
+}
+
 /// Appends the line of an item, where the texts of its paths are kept: whether they are. After `NoMemory` some bytes may stand behind those
 /// before.
 #[inline(always)]
@@ -66,7 +74,7 @@ fn whole_enter<S: Shown>(
     let Some(at) = texts.find(path) else {
         return Ok(false);
     };
-    let design = texts.design();
+    let design = design_of(texts);
     let words: &[&[u8]] = &[b"inst", at.text, lib_name(design, cell)];
     push_ended(alloc, words, cell_name(design, cell), unchanged, out)?;
     Ok(true)
@@ -137,7 +145,7 @@ fn whole_net<S: Shown>(
     let Some(to) = texts.find(first.path) else {
         return Ok(false);
     };
-    let design = texts.design();
+    let design = design_of(texts);
     push_spaced(
         &[
             b"net",
@@ -167,7 +175,7 @@ fn whole_pin<S: Shown>(
     let Some(at) = texts.find(path) else {
         return Ok(false);
     };
-    let design = texts.design();
+    let design = design_of(texts);
     let name = port_name(design, Some(at.cell), port);
     let mut buffer = Buffer::new();
     let digits = buffer.format(bit).as_bytes();

@@ -1,10 +1,10 @@
-use Rattle.std.proofs.Common.{◌≡◌, ◌∙◌, [], ◌∷◌, ◌++◌, ap}
+use Rattle.std.proofs.Common.{◌≡◌, ◌∙◌, [], ◌∷◌, ◌++◌, Option, ap}
 use Rattle.std.specs.Prelude.{codes}
 use Rattle.std.specs.Fmt.{decimal}
 use Rattle.std.specs.Option.{option_map, option_map_or}
 use Rattle.std.proofs.lemmas.Result.{on_ok_weaker}
 use Rattle.netlist_schema.specs.Design.{Design}
-use Rattle.netlist_schema.specs.Types.{Port}
+use Rattle.netlist_schema.specs.Types.{CellId, Port}
 use Rattle.flat_spec.specs.Paths.{port_of_cell}
 use Rattle.flat_lines_spec.specs.Lines.{net_words, path_text, port_text}
 use Rattle.flat_report.specs.Parts.{behind_blanks}
@@ -24,7 +24,7 @@ returns-clause-ok g c =
     let port = port_text d c.args.path.now c.args.port in
     let bit = decimal c.args.bit in
     let joined = option_map_or (net_words d) (option_map net_of c.args.first) (codes "-" ∷ []) in
-    let named_in = λ (of : Design) cell. option_map_or (λ (p : Port). p.name.id) (port_of_cell of cell c.args.port) [] in
+    let named_in = λ (of : Design) (cell : Option CellId). option_map_or (λ (p : Port). p.name.id) (port_of_cell of cell c.args.port) [] in
     let is = c.port_name.ensures ∙ (ap (λ of. named_in of c.in_ok-cell.cell) c.design.ensures ∙ ap (λ cell. named_in d cell) c.in_ok-cell.ensures.cell) in
     let place = more_words old begun placed (codes "pin") [] (path ∷ []) c.in_ok-extend_from_slice.ensures.items (c.in_ok-cell.ensures.text ∙ ap (λ text. begun ++ text) (one_word path)) in
     let names = more_words old placed named (codes "pin") (path ∷ []) (port ∷ bit ∷ []) place (c.in_ok-push_bit.ensures.ok ∙ ap (λ name. placed ++ behind_blanks (name ∷ bit ∷ [])) is) in
