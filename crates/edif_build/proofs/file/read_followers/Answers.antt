@@ -1,11 +1,15 @@
-use Rattle.std.proofs.Common.{◌≡◌, ◌<◌, ℕ, List, [], ◌++◌, length, take, sym, ◌∙◌, subst, Option, Some, true, inl, arith}
+use Rattle.std.proofs.Common.{◌≡◌, ◌-◌, ◌<◌, ℕ, List, [], ◌++◌, length, take, sym, ◌∙◌, subst, Option, Some, true, inl, arith}
 use Rattle.std.specs.Prelude.{slice_get}
+use Rattle.std.proofs.lemmas.List.{length-map}
 use Rattle.std.proofs.lemmas.Option.{slice_get_within}
 use Rattle.edif_spelling_spec.specs.Tree.{Placed, bare}
 use Rattle.edif_spec.specs.Rows.{has_keyword}
 use Rattle.edif_spec.specs.Stands.{DesignFault, libraries}
 use Rattle.edif_spec.specs.declared.keyword.Keyword.TheVariants.{Design}
 use Rattle.edif_tree.specs.Handles.{here, all}
+use Rattle.edif_tree.specs.Here.{tree_at}
+use Rattle.edif_tree.specs.Ranges.{ids_of}
+use Rattle.edif_tree.proofs.RangeLemmas.{length_ids}
 use Rattle.edif_contents.specs.Known.{KnownLibs}
 use Rattle.edif_build.specs.Files.{DesignAt, FollowersFail, ReadFollowers}
 use Rattle.edif_build.specs.Libraries.{FailsIn, LibsAre, LibsFail}
@@ -45,6 +49,12 @@ split_at-requires c = let l = below (all c.args.inner) c.args.design c.in-Some.a
 
 pub split_at-requires-2 : goal.split_at-requires-2
 split_at-requires-2 c = let l = below (all c.args.inner) c.args.design c.in-Some.at c.in-Some.is c.requires.design in omega (arith, l)
+
+-- the followers stand side by side, at numbers of 32 bits
+pub overflow_add-at : goal.overflow_add-at
+overflow_add-at c =
+    let range = c.args.inner.ids in
+    omega (arith, below (all c.args.inner) c.args.design c.in-Some.at c.in-Some.is c.requires.design, length-map (ids_of range) (tree_at c.args.inner.tree.now.rows), length_ids range.first (range.end - range.first))
 
 pub at-requires : goal.at-requires
 at-requires c = below (all c.args.inner) c.args.design c.in-Some.at c.in-Some.is c.requires.design
