@@ -1,10 +1,9 @@
 -- The loops over the instances and the nets of contents.
-use Rattle.std.proofs.Common.{◌≡◌, ℕ, ◌+◌, ◌<◌, ◌≤◌, List, [], ◌∷◌, ◌++◌, map, length, replicate, refl, sym, ap, ◌∙◌, subst, inl, inr, true, false, Option, None, Some, arith, length-append}
+use Rattle.std.proofs.Common.{◌≡◌, ℕ, ◌+◌, ◌*◌, ◌<◌, ◌≤◌, List, [], ◌∷◌, ◌++◌, map, length, replicate, refl, sym, ap, ◌∙◌, subst, inl, inr, true, false, Option, None, Some, arith, length-append}
 use Rattle.std.specs.Prelude.{◌^◌, IfSome}
-use Rattle.std.specs.List.{All, AllByRecursion, AllZip, flat_map}
+use Rattle.std.specs.List.{All, AllByRecursion, AllZip, flat_map, zip}
 use Rattle.std.proofs.lemmas.List.Elements.{All-from_recursion, recursion_from_All}
-use Rattle.std.proofs.lemmas.Grind.{flat_map-append}
-use Rattle.std.proofs.lemmas.List.{length-map}
+use Rattle.std.proofs.lemmas.List.{length-map, map-append}
 use Rattle.netlist_schema.proofs.Lists.{all_push, zip_length}
 use Rattle.edif_spelling_spec.specs.Tree.{Bare, Placed, bare}
 use Rattle.netlist_schema.specs.Names.{AreDistinct}
@@ -15,29 +14,30 @@ use Rattle.edif_spec.specs.Faults.{AtTwo, Beyond, SameOfTwo, declared_width, pla
 use Rattle.edif_spec.specs.Means.{MeansEnd, MeansInst}
 use Rattle.edif_spec.specs.Nets.{FineForm, NetForm, Stretch, net_at, nets_of, row_size}
 use Rattle.edif_spec.specs.Rows.{Each, has_keyword}
-use Rattle.edif_spec.specs.Stands.{InstFault, SameEnd, counted_ends, ends_in, net_names_in, row_ends}
+use Rattle.edif_spec.specs.Stands.{InstFault, MeansRowEnd, counted_ends, ends_in, net_names_in, row_ends}
 use Rattle.edif_spec.specs.declared.keyword.Keyword.{Keyword}
 use Rattle.edif_spec.specs.declared.keyword.Keyword.TheVariants as keywords
 use Rattle.edif_spec.specs.declared.fault.MeaningFault.{MeaningFault}
 use Rattle.edif_spec.specs.declared.fault.MeaningFault.TheVariants.{OverLimit}
 use Rattle.edif_spec.proofs.FaultForms.{filter_bare}
 use Rattle.edif_spec.proofs.NetFaultsApart.{net_declares, zip_append, zip_flat}
-use Rattle.edif_spec.proofs.RowForms.{GivesName, length_numbered, net_names_are, nets_counted, rows_fine}
+use Rattle.edif_spec.proofs.RowForms.{GivesName, ends_counted, length_numbered, net_names_are, nets_counted, row_ends_of, rows_fine}
 use Rattle.edif_tree.specs.Handles.{all}
 use Rattle.edif_parts.specs.Names.{DefinesName, ids}
 use Rattle.edif_parts.proofs.NamedForms.{NamedForms, forms_again, forms_distinct, forms_each, forms_push, forms_skip, forms_start, forms_valid}
-use Rattle.edif_parts.proofs.NameLists.{none_distinct}
 use Rattle.edif_parts.proofs.Steps.{fault_here, here_first, those_keep, those_skip}
 use Rattle.edif_contents.specs.Inners as inners
 use Rattle.edif_contents.specs.Inners.{InstTakenFault, InstsFault, ReadInsts}
-use Rattle.edif_contents.specs.Joins.{RowEndsFault, bits, bits_of_row, row_of}
-use Rattle.edif_contents.specs.Nets.{AreJoinedIn, AreMeant, IsFine, MeansNetIn, NetsFaultIn, NetsSoFar, ReadNet, ReadNets, RowJoined, ends_of, named, names_in, refs_in, row_names}
+use Rattle.edif_contents.specs.Joins.{SameBit, ends_of, places_of, row_of}
+use Rattle.edif_contents.specs.Nets.{AreMeant, AreNamedAlike, AreNamedApart, IsFine, JoinOnce, JoinTwice, MeansNetIn, NetsFaultIn, NetsSoFar, ReadNet, ReadNets, RowFits, named, names_in, refs_in, row_names}
 use Rattle.edif_contents.specs.declared.ends.Surroundings.{Surroundings}
 use Rattle.edif_contents.specs.declared.insts.InstAt.{InstAt}
 use Rattle.edif_contents.specs.declared.insts.Insts.{Insts}
+use Rattle.edif_contents.specs.declared.net_list.NetList.{NetList}
 use Rattle.edif_contents.specs.declared.nets.NetAt.{NetAt}
+use Rattle.edif_contents.proofs.JoinLemmas.{row_count, two_same}
 use Rattle.edif_contents.proofs.NetLemmas.{each_bare}
-use Rattle.edif_contents.proofs.NetRows.{all_fit, beyond_one, beyond_row, flat_here, flat_push, named_row_more, names_read, places_row_more, row_bits, wide_ends}
+use Rattle.edif_contents.proofs.NetRows.{all_fit, beyond_one, beyond_row, flat_here, flat_push, named_row_more, names_read, places_row_more, wide_ends}
 
 -- as many forms as values
 forms_count : {A : Type 0} (M : Bare → A → Type 0) (V : A → Type 0) (g : A → List ℕ) (k : Keyword) (ts : List Placed) (xs : List A) (ns : List (List ℕ × ℕ)) → NamedForms M V g k ts xs ns → length (those_of k ts) ≡ length xs
@@ -101,35 +101,25 @@ net_name n = n.name.id
 abbrev pub counted_in : List Placed → List Placed
 counted_in ts = flat_map counted_ends (those_of keywords.Net ts)
 
-abbrev pub RowEndsFaultIn : Surroundings → List (Placed × ℕ × ℕ) → List Placed → MeaningFault → Type 0
-RowEndsFaultIn s ts counted f = RowEndsFault s.libs.now.libs s.ports.now s.insts.now ts counted f
-
 abbrev pub MeansEndsIn : Surroundings → ℕ → List Placed → List Stretch → Type 0
 MeansEndsIn s size us ss = AllZip (λ u x. MeansEnd s.libs.now.libs s.ports.now s.insts.now (bare u) x × (x.width ≡ size)) us ss
 
-pub nets_start : (s : Surroundings) → NetsSoFar s [] [] [] []
-nets_start s = record {
+pub nets_start : (s : Surroundings) (l : NetList) → l.nets.items ≡ [] → l.places.items ≡ [] → l.ends.items ≡ [] → NetsSoFar s [] l
+nets_start s l a b e = record {
   forms = [];
   mean = tt;
   fine = tt;
-  nets = refl;
-  places = refl;
-  names = refl;
-  count = omega arith;
-  joins = record { mean = tt; ends = refl; distinct = none_distinct; count = omega arith };
+  nets = a;
+  places = ap length b ∙ sym (ap length a);
+  names = ap (λ v. named v l.places.items) a;
+  count = omega (arith, ap length a);
+  ends = e;
+  ends_count = omega (arith, ap length e);
 }
 
 -- the ends of a net that is read
 net_ends_are : (s : Surroundings) (t : Placed) (n : NetAt) (ss : List Stretch) (size : ℕ) → ss ≡ n.form.joined → size ≡ row_size n.form.array → ReadNet s t n → MeansEndsIn s size (ends_in t) ss
 net_ends_are s t n ss size e d r = wide_ends s.libs.now.libs s.ports.now s.insts.now t n.form ss size d e r.mean
-
-pub net_ends_mean : (s : Surroundings) (t : Placed) (n : NetAt) (ss : List Stretch) (size : ℕ) → ss ≡ n.form.joined → size ≡ row_size n.form.array → ReadNet s t n → MeansEndsIn s size (all n.ends) ss
-net_ends_mean s t n ss size e d r = subst (λ v. MeansEndsIn s size v ss) (sym r.nodes) (net_ends_are s t n ss size e d r)
-
-pub net_ends_count : (s : Surroundings) (t : Placed) (n : NetAt) (ss : List Stretch) (size : ℕ) → ss ≡ n.form.joined → size ≡ row_size n.form.array → ReadNet s t n → length (all n.ends) ≡ length ss
-net_ends_count s t n ss size e d r =
-    ap length r.nodes
-    ∙ zip_length (λ u x. MeansEnd s.libs.now.libs s.ports.now s.insts.now (bare u) x × (x.width ≡ size)) (ends_in t) ss (net_ends_are s t n ss size e d r)
 
 pub net_ends_fit : (s : Surroundings) (t : Placed) (n : NetAt) (ss : List Stretch) (size : ℕ) → ss ≡ n.form.joined → size ≡ row_size n.form.array → size < 2 ^ 32 → ReadNet s t n → All (λ x. x.first + size ≤ 2 ^ 32) ss
 net_ends_fit s t n ss size e d l r =
@@ -144,57 +134,47 @@ row_refs s t n size h d = ap (λ v. row_of v (ends_in t)) (net_declares s.libs.n
 row_counts : (s : Surroundings) (t : Placed) (n : NetForm) (size : ℕ) → MeansNetIn s (bare t) n → size ≡ row_size n.array → counted_ends t ≡ repeated (λ u. size) (ends_in t)
 row_counts s t n size h d = ap (λ v. repeated (λ u. v) (ends_in t)) (net_declares s.libs.now.libs s.ports.now s.insts.now t n h ∙ sym d)
 
-row_ends_joined : (n : NetForm) (ss : List Stretch) (size : ℕ) → ss ≡ n.joined → size ≡ row_size n.array → ends_of (nets_of n) ≡ bits_of_row size ss
-row_ends_joined n ss size e d = row_bits n 0 (row_size n.array) ∙ (ap (λ v. bits_of_row v n.joined) (sym d) ∙ ap (bits_of_row size) (sym e))
-
--- the ends of a row that is read are joined
-pub row_joined : (s : Surroundings) (before : List Placed) (nets : List design.Net) (t : Placed) (n : NetAt) (ss : List Stretch) (size : ℕ) (js : List (design.End × ℕ)) → ss ≡ n.form.joined → size ≡ row_size n.form.array → all n.ends ≡ ends_in t → length nets + size ≤ 1048576
-    → AreJoinedIn s (refs_in before ++ row_of size (all n.ends)) (ends_of nets ++ bits_of_row size ss) js → RowJoined s before nets t n.form js
-row_joined s before nets t n ss size js e d m l j =
-    let P : List Placed → Type 0 = λ v. AreJoinedIn s (refs_in before ++ row_of size v) (ends_of nets ++ bits_of_row size ss) js in
-    let Q : List Stretch → Type 0 = λ v. AreJoinedIn s (refs_in before ++ row_of size (ends_in t)) (ends_of nets ++ bits_of_row size v) js in
-    let R : ℕ → Type 0 = λ v. AreJoinedIn s (refs_in before ++ row_of v (ends_in t)) (ends_of nets ++ bits_of_row v n.form.joined) js in
-    record { room = omega (arith, d, l); joins = subst R d (subst Q e (subst P m j)) }
-
 -- the width of a row that is read
 pub row_small : (array : Option ℕ) → IfSome array IsWidth → row_size array < 2 ^ 32
 row_small None h = omega arith
 row_small (Some w) h = omega (arith, h.1)
 
-pub nets_push : (s : Surroundings) (ts : List Placed) (t : Placed) (xs ys : List design.Net) (r : NetAt) (ss : List Stretch) (size : ℕ) (ps qs : List ℕ) (js ks : List (design.End × ℕ))
-    → has_keyword keywords.Net (bare t) ≡ true → ReadNet s t r → ss ≡ r.form.joined → size ≡ row_size r.form.array → length xs + size ≤ 1048576 → ys ≡ xs ++ nets_of r.form → qs ≡ ps ++ numbered (λ k. r.place) 0 (row_size r.form.array)
-    → AreJoinedIn s (refs_in ts ++ row_of size (ends_in t)) (ends_of xs ++ bits_of_row size ss) ks → NetsSoFar s ts xs ps js → NetsSoFar s (ts ++ t ∷ []) ys qs ks
-nets_push s ts t xs ys r ss size ps qs js ks h a e d l b q j f =
+pub nets_push : (s : Surroundings) (ts : List Placed) (t : Placed) (old new : NetList) (r : NetAt) → has_keyword keywords.Net (bare t) ≡ true → ReadNet s t r → RowFits old t r.form → new.nets.items ≡ old.nets.items ++ nets_of r.form
+    → new.places.items ≡ old.places.items ++ numbered (λ k. r.place) 0 (row_size r.form.array) → new.ends.items ≡ old.ends.items ++ places_of (row_of (row_size r.form.array) (all r.ends)) → NetsSoFar s ts old → NetsSoFar s (ts ++ t ∷ []) new
+nets_push s ts t old new r h a w b q e f =
+    let size : ℕ = row_size r.form.array in
+    let xs = old.nets.items in
+    let ps = old.places.items in
     let more : those_of keywords.Net (ts ++ t ∷ []) ≡ those_of keywords.Net ts ++ t ∷ [] = those_keep keywords.Net ts t h in
     let refs : refs_in (ts ++ t ∷ []) ≡ refs_in ts ++ row_of size (ends_in t) =
-    ap (flat_map row_ends) more ∙ (flat_push row_ends (those_of keywords.Net ts) t ∙ ap (λ v. refs_in ts ++ v) (row_refs s t r.form size a.mean d)) in
-    let ends : ends_of ys ≡ ends_of xs ++ bits_of_row size ss =
-    ap ends_of b ∙ (flat_map-append (λ (n : design.Net). n.ends) xs (nets_of r.form) ∙ ap (λ v. ends_of xs ++ v) (row_ends_joined r.form ss size e d)) in
+    ap (flat_map row_ends) more ∙ (flat_push row_ends (those_of keywords.Net ts) t ∙ ap (λ v. refs_in ts ++ v) (row_refs s t r.form size a.mean refl)) in
+    let places : places_of (refs_in (ts ++ t ∷ [])) ≡ places_of (refs_in ts) ++ places_of (row_of size (ends_in t)) =
+    ap places_of refs ∙ map-append (λ (u : Placed × ℕ × ℕ). place_of u.0) (refs_in ts) (row_of size (ends_in t)) in
     let names : names_in (ts ++ t ∷ []) ≡ names_in ts ++ row_names r.form r.place =
     ap (flat_map net_names_in) more ∙ (flat_push net_names_in (those_of keywords.Net ts) t
     ∙ ap (λ v. names_in ts ++ v) (names_read s.libs.now.libs s.ports.now s.insts.now t r.form r.place a.mean a.named)) in
     let M : List Placed → Type 0 = λ v. AreMeant s v (f.forms ++ r.form ∷ []) in
-    let P : List (Placed × ℕ × ℕ) → Type 0 = λ v. AreJoinedIn s v (ends_of xs ++ bits_of_row size ss) ks in
-    let Q : List design.End → Type 0 = λ v. AreJoinedIn s (refs_in (ts ++ t ∷ [])) v ks in
-    let c : length ys ≡ length xs + length (nets_of r.form) = ap length b ∙ length-append xs (nets_of r.form) in
+    let c : length new.nets.items ≡ length xs + length (nets_of r.form) = ap length b ∙ length-append xs (nets_of r.form) in
     let k : length (nets_of r.form) ≡ row_size r.form.array = length_numbered (net_at r.form) 0 (row_size r.form.array) in
+    let ends : new.ends.items ≡ old.ends.items ++ places_of (row_of size (ends_in t)) = e ∙ ap (λ v. old.ends.items ++ places_of (row_of size v)) a.nodes in
+    let g : length new.ends.items ≡ length old.ends.items + length (places_of (row_of size (ends_in t))) = ap length ends ∙ length-append old.ends.items (places_of (row_of size (ends_in t))) in
+    let m : length (places_of (row_of size (ends_in t))) ≡ length (ends_in t) * row_size r.form.array = length-map (row_of size (ends_in t)) (λ (u : Placed × ℕ × ℕ). place_of u.0) ∙ row_count size (ends_in t) in
     record {
       forms = f.forms ++ r.form ∷ [];
       mean = subst M (sym more) (zip_append (λ u n. MeansNetIn s (bare u) n) (those_of keywords.Net ts) f.forms (t ∷ []) (r.form ∷ []) f.mean (a.mean, tt));
       fine = all_push FineForm f.forms r.form f.fine a.fine;
       nets = b ∙ (ap (λ v. v ++ nets_of r.form) f.nets ∙ sym (flat_push nets_of f.forms r.form));
       places = ap length q ∙ (places_row_more r.form r.place xs ps f.places ∙ ap length (sym b));
-      names = ap (named ys) q ∙ (ap (λ v. named v (ps ++ numbered (λ k. r.place) 0 (row_size r.form.array))) b ∙ (named_row_more r.form r.place xs ps f.places ∙ (ap (λ v. v ++ row_names r.form r.place) f.names ∙ sym names)));
-      count = omega (arith, c, k, d, l);
-      joins = subst Q (sym ends) (subst P (sym refs) j);
+      names = ap (named new.nets.items) q ∙ (ap (λ v. named v (ps ++ numbered (λ k. r.place) 0 size)) b ∙ (named_row_more r.form r.place xs ps f.places ∙ (ap (λ v. v ++ row_names r.form r.place) f.names ∙ sym names)));
+      count = let l = w.0 in omega (arith, c, k, l);
+      ends = ends ∙ (ap (λ v. v ++ places_of (row_of size (ends_in t))) f.ends ∙ sym places);
+      ends_count = let l = w.1 in omega (arith, g, m, l);
     }
 
-pub nets_skip : (s : Surroundings) (ts : List Placed) (t : Placed) (xs : List design.Net) (ps : List ℕ) (js : List (design.End × ℕ))
-    → has_keyword keywords.Net (bare t) ≡ false → NetsSoFar s ts xs ps js → NetsSoFar s (ts ++ t ∷ []) xs ps js
-nets_skip s ts t xs ps js h f =
+pub nets_skip : (s : Surroundings) (ts : List Placed) (t : Placed) (l : NetList) → has_keyword keywords.Net (bare t) ≡ false → NetsSoFar s ts l → NetsSoFar s (ts ++ t ∷ []) l
+nets_skip s ts t l h f =
     let same : those_of keywords.Net (ts ++ t ∷ []) ≡ those_of keywords.Net ts = those_skip keywords.Net ts t h in
     let M : List Placed → Type 0 = λ v. AreMeant s v f.forms in
-    let P : List (Placed × ℕ × ℕ) → Type 0 = λ v. AreJoinedIn s v (ends_of xs) js in
     record {
       forms = f.forms;
       mean = subst M (sym same) f.mean;
@@ -203,33 +183,35 @@ nets_skip s ts t xs ps js h f =
       places = f.places;
       names = f.names ∙ ap (flat_map net_names_in) (sym same);
       count = f.count;
-      joins = subst P (ap (flat_map row_ends) (sym same)) f.joins;
+      ends = f.ends ∙ ap (λ v. places_of (flat_map row_ends v)) (sym same);
+      ends_count = f.ends_count;
     }
 
--- what is wrong with the ends of the next row
-pub ends_fail : (s : Surroundings) (ts before rest : List Placed) (t : Placed) (n : NetForm) (size : ℕ) (f : MeaningFault) → those_of keywords.Net ts ≡ those_of keywords.Net before ++ t ∷ those_of keywords.Net rest → MeansNetIn s (bare t) n → size ≡ row_size n.array
-    → RowEndsFaultIn s (refs_in before ++ row_of size (ends_in t)) (counted_in before ++ repeated (λ u. size) (ends_in t)) f → NetsFaultIn s (those_of keywords.Net ts) f
-ends_fail s ts before rest t n size f h m d b =
+-- the ends of the next row beyond the limit
+pub ends_beyond : (s : Surroundings) (ts before rest : List Placed) (t : Placed) (n : NetForm) (f : MeaningFault) → those_of keywords.Net ts ≡ those_of keywords.Net before ++ t ∷ those_of keywords.Net rest → MeansNetIn s (bare t) n
+    → Beyond 4194304 ((counted_in before ++ repeated (λ u. row_size n.array) (ends_in t)) ++ flat_map counted_ends (those_of keywords.Net rest)) f → NetsFaultIn s (those_of keywords.Net ts) f
+ends_beyond s ts before rest t n f h m b =
     let us : List Placed = those_of keywords.Net before in
     let after : List Placed = those_of keywords.Net rest in
-    let refs : refs_in ts ≡ (refs_in before ++ row_of size (ends_in t)) ++ flat_map row_ends after =
-    ap (flat_map row_ends) h ∙ (flat_here row_ends us after t ∙ ap (λ v. (refs_in before ++ v) ++ flat_map row_ends after) (row_refs s t n size m d)) in
-    let counts : counted_in ts ≡ (counted_in before ++ repeated (λ u. size) (ends_in t)) ++ flat_map counted_ends after =
-    ap (flat_map counted_ends) h ∙ (flat_here counted_ends us after t ∙ ap (λ v. (counted_in before ++ v) ++ flat_map counted_ends after) (row_counts s t n size m d)) in
-    let P : List (Placed × ℕ × ℕ) → Type 0 = λ v. AtTwo (SameEnd s.libs.now.libs s.ports.now s.insts.now f) v in
+    let counts : counted_in ts ≡ (counted_in before ++ repeated (λ u. row_size n.array) (ends_in t)) ++ flat_map counted_ends after =
+    ap (flat_map counted_ends) h ∙ (flat_here counted_ends us after t ∙ ap (λ v. (counted_in before ++ v) ++ flat_map counted_ends after) (row_counts s t n (row_size n.array) m refl)) in
     let Q : List Placed → Type 0 = λ v. Beyond 4194304 v f in
-    elim (b (flat_map row_ends after) (flat_map counted_ends after)) [ inl x ↦ inr (inl (subst P (sym refs) x)) | inr o ↦ inr (inr (inr (inr (subst Q (sym counts) o)))) ]
+    inr (inr (inr (inr (subst Q (sym counts) b))))
+
+-- as many ends are counted as have places
+pub counted_so_far : (s : Surroundings) (ts : List Placed) (l : NetList) → NetsSoFar s ts l → length (counted_in ts) ≡ length l.ends.items
+counted_so_far s ts l f = sym (ap length f.ends ∙ (length-map (refs_in ts) (λ (u : Placed × ℕ × ℕ). place_of u.0) ∙ ends_counted (those_of keywords.Net ts)))
 
 -- a row beyond the limit
-pub nets_beyond : (s : Surroundings) (ts before rest : List Placed) (t : Placed) (xs : List design.Net) (n : NetForm) (size place : ℕ) (ps : List ℕ) (js : List (design.End × ℕ))
-    → those_of keywords.Net ts ≡ those_of keywords.Net before ++ t ∷ those_of keywords.Net rest → MeansNetIn s (bare t) n → size ≡ row_size n.array → place ≡ place_of t → 1048576 < length xs + size → NetsSoFar s before xs ps js → NetsFaultIn s (those_of keywords.Net ts) (OverLimit 1048576 place)
-nets_beyond s ts before rest t xs n size place ps js h m d p l f =
+pub nets_beyond : (s : Surroundings) (ts before rest : List Placed) (t : Placed) (l : NetList) (n : NetForm) (size place : ℕ)
+    → those_of keywords.Net ts ≡ those_of keywords.Net before ++ t ∷ those_of keywords.Net rest → MeansNetIn s (bare t) n → size ≡ row_size n.array → place ≡ place_of t → 1048576 < length l.nets.items + size → NetsSoFar s before l → NetsFaultIn s (those_of keywords.Net ts) (OverLimit 1048576 place)
+nets_beyond s ts before rest t list n size place h m d p l f =
     let us : List Placed = those_of keywords.Net before in
     let after : List Placed = those_of keywords.Net rest in
     let counts : repeated declared_width (those_of keywords.Net ts) ≡ (repeated declared_width us ++ replicate (declared_width t) t) ++ repeated declared_width after =
     ap (repeated declared_width) h ∙ flat_here (λ u. replicate (declared_width u) u) us after t in
     let c : length (repeated declared_width us) ≡ length (flat_map nets_of f.forms) = nets_counted s.libs.now.libs s.ports.now s.insts.now us f.forms f.mean in
-    let k : length xs ≡ length (flat_map nets_of f.forms) = ap length f.nets in
+    let k : length list.nets.items ≡ length (flat_map nets_of f.forms) = ap length f.nets in
     let w : declared_width t ≡ row_size n.array = net_declares s.libs.now.libs s.ports.now s.insts.now t n m in
     let a : length (repeated declared_width us) ≤ 1048576 = let g = f.count in omega (arith, c, k, g) in
     let b : 1048576 < length (repeated declared_width us) + declared_width t = omega (arith, c, k, w, d, l) in
@@ -243,19 +225,27 @@ names_are [] (x ∷ xs) h = absurd h
 names_are (n ∷ ns) [] h = absurd h
 names_are (n ∷ ns) (x ∷ xs) h = cc (h.0, names_are ns xs h.1)
 
-pub nets_end : (s : Surroundings) (ts : List Placed) (xs : List design.Net) (ps : List ℕ) (js : List (design.End × ℕ)) → NetsSoFar s ts xs ps js → AreDistinct (ids (named xs ps)) → ReadNets s ts xs
-nets_end s ts xs ps js g d =
+-- each end is what its form means
+ends_mean : (s : Surroundings) (ts : List Placed) (l : NetList) → NetsSoFar s ts l → AllZip (MeansRowEnd s.libs.now.libs s.ports.now s.insts.now) (refs_in ts) (ends_of l.nets.items)
+ends_mean s ts l f =
+    let P : List design.Net → Type 0 = λ v. AllZip (MeansRowEnd s.libs.now.libs s.ports.now s.insts.now) (refs_in ts) (ends_of v) in
+    subst P (sym f.nets) (row_ends_of s.libs.now.libs s.ports.now s.insts.now (those_of keywords.Net ts) f.forms f.mean)
+
+pub ends_placed : (s : Surroundings) (ts : List Placed) (l : NetList) → NetsSoFar s ts l → length l.ends.items ≡ length (ends_of l.nets.items)
+ends_placed s ts l f = ap length f.ends ∙ (length-map (refs_in ts) (λ (u : Placed × ℕ × ℕ). place_of u.0) ∙ zip_length (MeansRowEnd s.libs.now.libs s.ports.now s.insts.now) (refs_in ts) (ends_of l.nets.items) (ends_mean s ts l f))
+
+pub nets_end : (s : Surroundings) (ts : List Placed) (l : NetList) → NetsSoFar s ts l → JoinOnce l → AreNamedApart l → ReadNets s ts l.nets.items
+nets_end s ts l g o d =
+    let xs = l.nets.items in
     let us : List Placed = those_of keywords.Net ts in
-    let D : List design.End → Type 0 = AreDistinct in
     let N : List (List ℕ) → Type 0 = AreDistinct in
     let R : List Bare → Type 0 = λ v. Each (MeansNetIn s) v g.forms in
     let F : List design.Net → Type 0 = λ v. AllByRecursion IsFine v in
-    let l : length (bits js) ≡ length js = length-map js (λ (j : design.End × ℕ). j.0) in
-    let m : length (bits js) ≡ length (ends_of xs) = ap length g.joins.ends in
-    let n : length js ≤ 4194304 = g.joins.count in
+    let m : length l.ends.items ≡ length (ends_of xs) = ends_placed s ts l g in
+    let n : length l.ends.items ≤ 4194304 = g.ends_count in
     let z : AllZip GivesName (names_in ts) (flat_map nets_of g.forms) =
     zip_flat (λ u n. MeansNetIn s (bare u) n) GivesName net_names_in nets_of (λ u n h. net_names_are s.libs.now.libs s.ports.now s.insts.now u n h) us g.forms g.mean in
-    let alone : ids (named xs ps) ≡ map net_name xs = ap ids g.names ∙ (names_are (names_in ts) (flat_map nets_of g.forms) z ∙ ap (map net_name) (sym g.nets)) in
+    let alone : ids (named xs l.places.items) ≡ map net_name xs = ap ids g.names ∙ (names_are (names_in ts) (flat_map nets_of g.forms) z ∙ ap (map net_name) (sym g.nets)) in
     record {
       rows = g.forms;
       mean = subst R (filter_bare (has_keyword keywords.Net) ts) (each_bare (MeansNetIn s) us g.forms g.mean);
@@ -263,10 +253,15 @@ nets_end s ts xs ps js g d =
       fine = All-from_recursion IsFine xs (subst F (sym g.nets) (rows_fine g.forms g.fine));
       names = subst N alone d;
       count = g.count;
-      ends = omega (arith, l, m, n);
-      joined_once = subst D g.joins.ends g.joins.distinct;
+      ends = omega (arith, m, n);
+      joined_once = o;
     }
 
--- a name that stands twice is one of the forms of nets
-pub names_fail : (s : Surroundings) (ts : List Placed) (xs : List design.Net) (ps : List ℕ) (js : List (design.End × ℕ)) (f : MeaningFault) → NetsSoFar s ts xs ps js → AtTwo (SameOfTwo f) (named xs ps) → NetsFaultIn s (those_of keywords.Net ts) f
-names_fail s ts xs ps js f g b = let P : List (List ℕ × ℕ) → Type 0 = λ v. AtTwo (SameOfTwo f) v in inr (inr (inl (subst P g.names b)))
+-- a name that stands twice, or a bit that is joined twice, is one of the forms of nets
+pub names_fail : (s : Surroundings) (ts : List Placed) (l : NetList) (f : MeaningFault) → NetsSoFar s ts l → AreNamedAlike l f → NetsFaultIn s (those_of keywords.Net ts) f
+names_fail s ts l f g b = let P : List (List ℕ × ℕ) → Type 0 = λ v. AtTwo (SameOfTwo f) v in inr (inr (inl (subst P g.names b)))
+
+pub ends_fail : (s : Surroundings) (ts : List Placed) (l : NetList) (f : MeaningFault) → NetsSoFar s ts l → JoinTwice l f → NetsFaultIn s (those_of keywords.Net ts) f
+ends_fail s ts l f g b =
+    let P : List ℕ → Type 0 = λ v. AtTwo (SameBit f) (zip (ends_of l.nets.items) v) in
+    inr (inl (two_same s.libs.now.libs s.ports.now s.insts.now f (refs_in ts) (ends_of l.nets.items) (ends_mean s ts l g) (subst P g.ends b)))

@@ -1,136 +1,28 @@
--- The ends of a row of nets, as they are joined one after another.
-use Rattle.std.proofs.Common.{◌≡◌, ℕ, zero, suc, ◌+◌, ◌*◌, ◌-◌, ◌<◌, ◌≤◌, List, [], ◌∷◌, ◌++◌, map, length, take, drop, get_or, replicate, refl, sym, ap, ◌∙◌, subst, inl, inr, Some, arith, append-nil, append_assoc, length-append}
+-- Ends: where those of a row of nets stand, whether there is room for them, and those that join one bit.
+use Rattle.std.proofs.Common.{◌≡◌, ℕ, zero, suc, ◌+◌, ◌*◌, ◌-◌, ◌<◌, ◌≤◌, List, [], ◌∷◌, ◌++◌, map, length, drop, get_or, replicate, refl, sym, ap, ◌∙◌, subst, inl, inr, Some, arith, append-nil, append_assoc, length-append}
 use Rattle.std.specs.Prelude.{slice_get}
-use Rattle.std.specs.List.{All, AllZip, Contains, flat_map}
+use Rattle.std.specs.List.{AllZip, flat_map, zip}
 use Rattle.std.proofs.lemmas.Grind.{flat_map-append}
-use Rattle.std.proofs.lemmas.List.{length-map, length-replicate, map-append}
-use Rattle.std.proofs.lemmas.List.Elements.{All-weaker}
-use Rattle.std.proofs.Math.Nat.{add-mul, mul_comm, suc-mul}
-use Rattle.netlist_schema.proofs.Lists.{get_behind, zip_length}
-use Rattle.edif_spelling_spec.specs.Tree.{Placed, bare}
+use Rattle.std.proofs.lemmas.List.{drop_all, length-map, length-replicate, map-append}
+use Rattle.std.proofs.Math.Nat.{mul_comm, suc-mul}
+use Rattle.netlist_schema.proofs.Lists.{get_behind}
 use Rattle.netlist_schema.specs.Names.{AreDistinct}
+use Rattle.edif_spelling_spec.specs.Tree.{Placed}
 use Rattle.netlist_bus_spec.specs.Members.{numbered}
 use Rattle.edif_spec.specs.Design as design
 use Rattle.edif_spec.specs.Faults.{AtOne, AtTwo, Beyond, place_of, repeated}
-use Rattle.edif_spec.specs.Means.{MeansEnd}
-use Rattle.edif_spec.specs.Nets.{Stretch, end_of}
 use Rattle.edif_spec.specs.Stands.{MeansRowEnd, SameEnd}
 use Rattle.edif_spec.specs.declared.fault.ClashKind.TheVariants.{EndTwice}
 use Rattle.edif_spec.specs.declared.fault.MeaningFault.{MeaningFault}
 use Rattle.edif_spec.specs.declared.fault.MeaningFault.TheVariants.{Clash, OverLimit}
-use Rattle.edif_parts.proofs.NamedForms.{each_push}
-use Rattle.edif_contents.specs.Joins.{bits, row_of, Joined, IsTwice, AreJoined}
-use Rattle.edif_parts.proofs.NameLists.{none_distinct, distinct_push}
+use Rattle.edif_spec.proofs.RowForms.{flat_length, length_numbered}
+use Rattle.edif_contents.specs.Joins.{IsTwice, Joined, SameBit, bits, places_of, row_of}
+use Rattle.edif_parts.proofs.NameLists.{distinct_push}
+use Rattle.edif_contents.proofs.NetRows.{two_of}
 
 -- the ends at these forms in the net of one number, of a row of so many
 abbrev pub net_row : ℕ → ℕ → List Placed → List (Placed × ℕ × ℕ)
 net_row k size us = map (λ u. (u, k, size)) us
-
--- what these forms mean in a row of so many nets
-abbrev pub MeanRow : List design.Lib → List design.Port → List design.Inst → ℕ → List Placed → List Stretch → Type 0
-MeanRow libs ports insts size us ss = AllZip (λ u s. MeansEnd libs ports insts (bare u) s × (s.width ≡ size)) us ss
-
--- the end at the next node, with what it means
-pub record EndStep (libs : List design.Lib) (ports : List design.Port) (insts : List design.Inst) (k size : ℕ) (us : List Placed) (ss : List Stretch) (i : ℕ) (t : Placed) (s : Stretch) : Type 0 where
-  pub mean : MeansRowEnd libs ports insts (t, k, size) (end_of k s)
-  pub taken : take (suc i) (net_row k size us) ≡ take i (net_row k size us) ++ (t, k, size) ∷ []
-  pub whole : net_row k size us ≡ take i (net_row k size us) ++ (t, k, size) ∷ drop (suc i) (net_row k size us)
-  pub ends_taken : take (suc i) (map (end_of k) ss) ≡ take i (map (end_of k) ss) ++ end_of k s ∷ []
-
-pub end_step : (libs : List design.Lib) (ports : List design.Port) (insts : List design.Inst) (k size : ℕ) (us : List Placed) (ss : List Stretch) (i : ℕ) (t : Placed) (z : Stretch) → MeanRow libs ports insts size us ss → slice_get us i ≡ Some t → EndStep libs ports insts k size us ss i t (get_or ss i z)
-end_step libs ports insts k size [] ss i t z m e = absurd (cc e)
-end_step libs ports insts k size (u ∷ us) [] i t z m e = absurd m
-end_step libs ports insts k size (u ∷ us) (s ∷ ss) zero t z m e = let w : u ≡ t = cc e in subst (λ v. EndStep libs ports insts k size (u ∷ us) (s ∷ ss) zero v s) w (record { mean = (s, m.0.0, m.0.1, refl); taken = refl; whole = refl; ends_taken = refl })
-end_step libs ports insts k size (u ∷ us) (s ∷ ss) (suc i) t z m e =
-    let r = end_step libs ports insts k size us ss i t z m.1 e in
-    record { mean = r.mean; taken = ap (λ v. (u, k, size) ∷ v) r.taken; whole = ap (λ v. (u, k, size) ∷ v) r.whole; ends_taken = ap (λ v. end_of k s ∷ v) r.ends_taken }
-
-pub take_whole : {A : Type 0} (xs : List A) → take (length xs) xs ≡ xs
-take_whole [] = refl
-take_whole (x ∷ xs) = ap (λ v. x ∷ v) (take_whole xs)
-
--- one of the list, and then this one
-two_here : {A : Type 0} (R : A → A → Type 0) (xs ys : List A) (y : A) → AtOne (λ x. R x y) xs → AtTwo R (xs ++ y ∷ ys)
-two_here R [] ys y h = absurd h
-two_here R (x ∷ xs) ys y (inl h) = inl (last xs h)
-  where
-    last : (xs : List _) → R x y → AtOne (R x) (xs ++ y ∷ ys)
-    last [] r = inl r
-    last (w ∷ xs) r = inr (last xs r)
-two_here R (x ∷ xs) ys y (inr h) = inr (two_here R xs ys y h)
-
--- the form beside what is contained
-zip_contains : {A B : Type 0} (R : A → B → Type 0) (P : A → Type 0) (xs : List A) (ys : List B) (y : B) → ((x : A) → R x y → P x) → AllZip R xs ys → Contains ys y → AtOne P xs
-zip_contains {A} {B} R P xs ys y f h c = go xs ys c.0 h c.1 c.2
-  where
-    go : (xs : List A) (ys : List B) (i : ℕ) → AllZip R xs ys → i < length ys → get_or ys i y ≡ y → AtOne P xs
-    go xs [] i h l e = absurd (omega arith)
-    go [] (w ∷ ys) i h l e = absurd h
-    go (v ∷ xs) (w ∷ ys) zero h l e = let Q : B → Type 0 = λ z. R v z in inl (f v (subst Q e h.0))
-    go (v ∷ xs) (w ∷ ys) (suc i) h l e = inr (go xs ys i h.1 (omega arith) e)
-
--- Joined ends.
-abbrev pub StandsFor : List design.Lib → List design.Port → List design.Inst → Placed × ℕ × ℕ → design.End × ℕ → Type 0
-StandsFor libs ports insts u j = MeansRowEnd libs ports insts u j.0 × (j.1 ≡ place_of u.0)
-
-pub joined_start : (libs : List design.Lib) (ports : List design.Port) (insts : List design.Inst) → AreJoined libs ports insts [] [] []
-joined_start libs ports insts = record { mean = tt; ends = refl; distinct = none_distinct; count = omega arith }
-
-pub joined_length : (libs : List design.Lib) (ports : List design.Port) (insts : List design.Inst) (ts : List (Placed × ℕ × ℕ)) (es : List design.End) (js : List (design.End × ℕ)) → AreJoined libs ports insts ts es js → length ts ≡ length js
-joined_length libs ports insts ts es js h = zip_length (StandsFor libs ports insts) ts js h.mean
-
-joined_push : (libs : List design.Lib) (ports : List design.Port) (insts : List design.Inst) (ts : List (Placed × ℕ × ℕ)) (es : List design.End) (js new : List (design.End × ℕ)) (t : Placed × ℕ × ℕ) (e : design.End) (place : ℕ)
-    → AreJoined libs ports insts ts es js → MeansRowEnd libs ports insts t e → place ≡ place_of t.0 → Joined js e place new → length js < 4194304 → AreJoined libs ports insts (ts ++ t ∷ []) (es ++ e ∷ []) new
-joined_push libs ports insts ts es js new t e place h m p n l =
-    let P : List (design.End × ℕ) → Type 0 = λ v. AreJoined libs ports insts (ts ++ t ∷ []) (es ++ e ∷ []) v in
-    let more : bits (js ++ (e, place) ∷ []) ≡ bits js ++ e ∷ [] = map-append (λ (j : design.End × ℕ). j.0) js ((e, place) ∷ []) in
-    let D : List design.End → Type 0 = AreDistinct in
-    subst P (sym n.1) (record {
-      mean = each_push (StandsFor libs ports insts) ts js t (e, place) h.mean (m, p);
-      ends = more ∙ ap (λ v. v ++ e ∷ []) h.ends;
-      distinct = subst D (sym more) (distinct_push (bits js) e h.distinct n.0);
-      count = let c = length-append js ((e, place) ∷ []) in omega (arith, c, l);
-    })
-
--- one more of the ends of a net
-pub joined_step : (libs : List design.Lib) (ports : List design.Port) (insts : List design.Inst) (k size : ℕ) (ts : List (Placed × ℕ × ℕ)) (us : List Placed) (es : List design.End) (ss : List Stretch) (js new : List (design.End × ℕ)) (i place : ℕ) (t : Placed) (s : Stretch)
-    → EndStep libs ports insts k size us ss i t s → AreJoined libs ports insts (ts ++ take i (net_row k size us)) (es ++ take i (map (end_of k) ss)) js → place ≡ place_of t → Joined js (end_of k s) place new → length js < 4194304
-    → AreJoined libs ports insts (ts ++ take (suc i) (net_row k size us)) (es ++ take (suc i) (map (end_of k) ss)) new
-joined_step libs ports insts k size ts us es ss js new i place t s w h p n l =
-    let e = end_of k s in
-    let a : (ts ++ take i (net_row k size us)) ++ (t, k, size) ∷ [] ≡ ts ++ take (suc i) (net_row k size us) = append_assoc ts (take i (net_row k size us)) ((t, k, size) ∷ []) ∙ ap (λ v. ts ++ v) (sym w.taken) in
-    let b : (es ++ take i (map (end_of k) ss)) ++ e ∷ [] ≡ es ++ take (suc i) (map (end_of k) ss) = append_assoc es (take i (map (end_of k) ss)) (e ∷ []) ∙ ap (λ v. es ++ v) (sym w.ends_taken) in
-    let P : List (Placed × ℕ × ℕ) → Type 0 = λ v. AreJoined libs ports insts v ((es ++ take i (map (end_of k) ss)) ++ e ∷ []) new in
-    let Q : List design.End → Type 0 = λ v. AreJoined libs ports insts (ts ++ take (suc i) (net_row k size us)) v new in
-    subst Q b (subst P a (joined_push libs ports insts (ts ++ take i (net_row k size us)) (es ++ take i (map (end_of k) ss)) js new (t, k, size) e place h w.mean p n l))
-
--- the whole list about the next of the ends
-around_here : {A : Type 0} (ts us rest : List A) (i : ℕ) (t : A) → us ≡ take i us ++ t ∷ drop (suc i) us → (ts ++ us) ++ rest ≡ (ts ++ take i us) ++ t ∷ (drop (suc i) us ++ rest)
-around_here ts us rest i t e =
-    ap (λ v. (ts ++ v) ++ rest) e ∙ (ap (λ v. v ++ rest) (sym (append_assoc ts (take i us) (t ∷ drop (suc i) us))) ∙ append_assoc (ts ++ take i us) (t ∷ drop (suc i) us) rest)
-
--- an end of a net that is joined already
-pub joined_twice : (libs : List design.Lib) (ports : List design.Port) (insts : List design.Inst) (k size : ℕ) (ts rest : List (Placed × ℕ × ℕ)) (us : List Placed) (es : List design.End) (ss : List Stretch) (js : List (design.End × ℕ)) (i place : ℕ) (t : Placed) (s : Stretch) (f : MeaningFault)
-    → EndStep libs ports insts k size us ss i t s → AreJoined libs ports insts (ts ++ take i (net_row k size us)) (es ++ take i (map (end_of k) ss)) js → place ≡ place_of t → IsTwice js (end_of k s) place f
-    → AtTwo (SameEnd libs ports insts f) ((ts ++ net_row k size us) ++ rest)
-joined_twice libs ports insts k size ts rest us es ss js i place t s f x h p w =
-    let e = end_of k s in
-    let here : Placed × ℕ × ℕ = (t, k, size) in
-    let S : Placed × ℕ × ℕ → Placed × ℕ × ℕ → Type 0 = SameEnd libs ports insts f in
-    let one : AtOne (λ u. S u here) (ts ++ take i (net_row k size us)) =
-    zip_contains (StandsFor libs ports insts) (λ u. S u here) (ts ++ take i (net_row k size us)) js (e, w.0) (λ u r. (e, r.0, x.mean, w.2 ∙ (ap (λ v. Clash EndTwice v w.0) p ∙ ap (λ v. Clash EndTwice (place_of t) v) r.1))) h.mean w.1 in
-    let P : List (Placed × ℕ × ℕ) → Type 0 = λ v. AtTwo S v in
-    subst P (sym (around_here ts (net_row k size us) rest i here x.whole)) (two_here S (ts ++ take i (net_row k size us)) (drop (suc i) (net_row k size us) ++ rest) here one)
-
--- at the end of a net
-pub joined_all : (libs : List design.Lib) (ports : List design.Port) (insts : List design.Inst) (k size : ℕ) (ts : List (Placed × ℕ × ℕ)) (us : List Placed) (es : List design.End) (ss : List Stretch) (js : List (design.End × ℕ)) (i : ℕ) → MeanRow libs ports insts size us ss → i ≡ length ss
-    → AreJoined libs ports insts (ts ++ take i (net_row k size us)) (es ++ take i (map (end_of k) ss)) js → AreJoined libs ports insts (ts ++ net_row k size us) (es ++ map (end_of k) ss) js
-joined_all libs ports insts k size ts us es ss js i m e h =
-    let n : i ≡ length (net_row k size us) = e ∙ (sym (zip_length (λ u s. MeansEnd libs ports insts (bare u) s × (s.width ≡ size)) us ss m) ∙ sym (length-map us (λ u. (u, k, size)))) in
-    let o : i ≡ length (map (end_of k) ss) = e ∙ sym (length-map ss (end_of k)) in
-    let P : List (Placed × ℕ × ℕ) → Type 0 = λ v. AreJoined libs ports insts (ts ++ v) (es ++ take i (map (end_of k) ss)) js in
-    let Q : List design.End → Type 0 = λ v. AreJoined libs ports insts (ts ++ net_row k size us) (es ++ v) js in
-    subst Q (ap (λ v. take v (map (end_of k) ss)) o ∙ take_whole (map (end_of k) ss)) (subst P (ap (λ v. take v (net_row k size us)) n ∙ take_whole (net_row k size us)) h)
 
 -- The nets of a row, one after another: those of so many numbers.
 abbrev pub rows_below : {A : Type 0} → (ℕ → List A) → ℕ → List A
@@ -147,52 +39,86 @@ rows_more f k =
     let e : 0 + k ≡ k = omega arith in
     ap (flat_map f) (numbers_push 0 k) ∙ (flat_map-append f (numbered (λ k. k) 0 k) ((0 + k) ∷ []) ∙ (ap (λ v. rows_below f k ++ v) (append-nil (f (0 + k))) ∙ ap (λ v. rows_below f k ++ f v) e))
 
-rows_front : {A : Type 0} (f : ℕ → List A) (k n : ℕ) → (later : List A) × (rows_below f (k + n) ≡ rows_below f k ++ later)
-rows_front f k zero = let e : k + zero ≡ k = omega arith in ([], ap (rows_below f) e ∙ sym (append-nil (rows_below f k)))
-rows_front f k (suc n) =
-    let r = rows_front f k n in
-    let e : k + suc n ≡ suc (k + n) = omega arith in
-    (r.0 ++ f (k + n), ap (rows_below f) e ∙ (rows_more f (k + n) ∙ (ap (λ v. v ++ f (k + n)) r.1 ∙ append_assoc (rows_below f k) r.0 (f (k + n)))))
+-- a list that grows by what stands for one more
+pub map_push : {A B : Type 0} (f : A → B) (old now new : List B) (xs : List A) (x : A) (y : B) → now ≡ old ++ map f xs → y ≡ f x → new ≡ now ++ y ∷ [] → new ≡ old ++ map f (xs ++ x ∷ [])
+map_push f old now new xs x y e d n =
+    n ∙ (ap (λ v. v ++ y ∷ []) e ∙ (append_assoc old (map f xs) (y ∷ []) ∙ (ap (λ v. old ++ (map f xs ++ v ∷ [])) d ∙ ap (λ v. old ++ v) (sym (map-append f xs (x ∷ []))))))
 
--- a row is its first nets, the net of this number, and later ones
-pub row_around : {A : Type 0} (f : ℕ → List A) (k size : ℕ) → k < size → (later : List A) × (rows_below f size ≡ (rows_below f k ++ f k) ++ later)
-row_around f k size l =
-    let r = rows_front f (suc k) (size - suc k) in
-    let e : size ≡ suc k + (size - suc k) = omega (arith, l) in
-    (r.0, ap (rows_below f) e ∙ (r.1 ∙ ap (λ v. v ++ r.0) (rows_more f k)))
+-- where the ends of a row stand, net by net
+places_net : (k size : ℕ) (us : List Placed) → places_of (net_row k size us) ≡ map place_of us
+places_net k size [] = refl
+places_net k size (u ∷ us) = ap (λ v. place_of u ∷ v) (places_net k size us)
 
--- one more net of a row
-pub row_step : (libs : List design.Lib) (ports : List design.Port) (insts : List design.Inst) (k size : ℕ) (ts : List (Placed × ℕ × ℕ)) (us : List Placed) (es : List design.End) (ss : List Stretch) (js : List (design.End × ℕ))
-    → AreJoined libs ports insts ((ts ++ rows_below (λ k. net_row k size us) k) ++ net_row k size us) ((es ++ rows_below (λ k. map (end_of k) ss) k) ++ map (end_of k) ss) js
-    → AreJoined libs ports insts (ts ++ rows_below (λ k. net_row k size us) (suc k)) (es ++ rows_below (λ k. map (end_of k) ss) (suc k)) js
-row_step libs ports insts k size ts us es ss js h =
+pub places_more : (k size : ℕ) (us : List Placed) (old now new : List ℕ) → now ≡ old ++ places_of (rows_below (λ k. net_row k size us) k) → new ≡ now ++ map place_of us → new ≡ old ++ places_of (rows_below (λ k. net_row k size us) (suc k))
+places_more k size us old now new e n =
     let F : ℕ → List (Placed × ℕ × ℕ) = λ k. net_row k size us in
-    let G : ℕ → List design.End = λ k. map (end_of k) ss in
-    let P : List (Placed × ℕ × ℕ) → Type 0 = λ v. AreJoined libs ports insts v ((es ++ rows_below G k) ++ G k) js in
-    let Q : List design.End → Type 0 = λ v. AreJoined libs ports insts (ts ++ rows_below F (suc k)) v js in
-    subst Q (append_assoc es (rows_below G k) (G k) ∙ ap (λ v. es ++ v) (sym (rows_more G k))) (subst P (append_assoc ts (rows_below F k) (F k) ∙ ap (λ v. ts ++ v) (sym (rows_more F k))) h)
+    let more : places_of (rows_below F (suc k)) ≡ places_of (rows_below F k) ++ map place_of us =
+    ap places_of (rows_more F k) ∙ (map-append (λ (u : Placed × ℕ × ℕ). place_of u.0) (rows_below F k) (F k) ∙ ap (λ v. places_of (rows_below F k) ++ v) (places_net k size us)) in
+    n ∙ (ap (λ v. v ++ map place_of us) e ∙ (append_assoc old (places_of (rows_below F k)) (map place_of us) ∙ ap (λ v. old ++ v) (sym more)))
 
--- an end of one net of a row that is joined already
-pub row_twice : (libs : List design.Lib) (ports : List design.Port) (insts : List design.Inst) (k size : ℕ) (ts rest : List (Placed × ℕ × ℕ)) (us : List Placed) (f : MeaningFault) → k < size
-    → ((more : List (Placed × ℕ × ℕ)) → AtTwo (SameEnd libs ports insts f) (((ts ++ rows_below (λ k. net_row k size us) k) ++ net_row k size us) ++ more)) → AtTwo (SameEnd libs ports insts f) ((ts ++ row_of size us) ++ rest)
-row_twice libs ports insts k size ts rest us f l h =
-    let F : ℕ → List (Placed × ℕ × ℕ) = λ k. net_row k size us in
-    let r = row_around F k size l in
-    let e : (ts ++ row_of size us) ++ rest ≡ ((ts ++ rows_below F k) ++ F k) ++ (r.0 ++ rest) =
-    ap (λ v. (ts ++ v) ++ rest) r.1 ∙ (ap (λ v. v ++ rest) (sym (append_assoc ts (rows_below F k ++ F k) r.0)) ∙ (append_assoc (ts ++ (rows_below F k ++ F k)) r.0 rest ∙ ap (λ v. v ++ (r.0 ++ rest)) (sym (append_assoc ts (rows_below F k) (F k))))) in
-    let P : List (Placed × ℕ × ℕ) → Type 0 = λ v. AtTwo (SameEnd libs ports insts f) v in
-    subst P (sym e) (h (r.0 ++ rest))
+pub row_count : (size : ℕ) (us : List Placed) → length (row_of size us) ≡ length us * size
+row_count size us =
+    flat_length (λ k. net_row k size us) (length us) (numbered (λ k. k) 0 size) (λ k. length-map us (λ u. (u, k, size)))
+    ∙ (ap (λ v. v * length us) (length_numbered (λ (k : ℕ). k) 0 size) ∙ mul_comm size (length us))
 
--- Room for the ends of a row.
-pub room_next : (joined n size k : ℕ) → joined + n * size ≤ 4194304 → k < size → (joined + k * n) + n ≤ 4194304
-room_next joined n size k h l =
-    let d : size ≡ suc k + (size - suc k) = omega (arith, l) in
-    let e : n * size ≡ suc k * n + (size - suc k) * n = mul_comm n size ∙ (ap (λ v. v * n) d ∙ add-mul (suc k) (size - suc k) n) in
-    let m = suc-mul k n in
-    omega (arith, h, e, m)
+-- two ends of one bit are two forms of one end
+one_same : (libs : List design.Lib) (ports : List design.Port) (insts : List design.Inst) (f : MeaningFault) (t : Placed × ℕ × ℕ) (e : design.End) (ts : List (Placed × ℕ × ℕ)) (es : List design.End) → MeansRowEnd libs ports insts t e → AllZip (MeansRowEnd libs ports insts) ts es
+    → AtOne (SameBit f (e, place_of t.0)) (zip es (places_of ts)) → AtOne (SameEnd libs ports insts f t) ts
+one_same libs ports insts f t e [] [] m z h = absurd h
+one_same libs ports insts f t e [] (d ∷ es) m z h = absurd z
+one_same libs ports insts f t e (u ∷ ts) [] m z h = absurd z
+one_same libs ports insts f t e (u ∷ ts) (d ∷ es) m z (inl h) = inl (e, m, subst (λ v. MeansRowEnd libs ports insts u v) (sym h.0) z.0, h.1)
+one_same libs ports insts f t e (u ∷ ts) (d ∷ es) m z (inr h) = inr (one_same libs ports insts f t e ts es m z.1 h)
 
-pub within_next : (ss : List Stretch) (k size : ℕ) → k < size → All (λ s. s.first + size ≤ 4294967296) ss → All (λ s. k + s.first < 4294967296) ss
-within_next ss k size l h = All-weaker (λ (s : Stretch). s.first + size ≤ 4294967296) (λ (s : Stretch). k + s.first < 4294967296) (λ s w. omega (arith, l, w)) ss h
+pub two_same : (libs : List design.Lib) (ports : List design.Port) (insts : List design.Inst) (f : MeaningFault) (ts : List (Placed × ℕ × ℕ)) (es : List design.End) → AllZip (MeansRowEnd libs ports insts) ts es → AtTwo (SameBit f) (zip es (places_of ts)) → AtTwo (SameEnd libs ports insts f) ts
+two_same libs ports insts f [] [] z h = absurd h
+two_same libs ports insts f [] (e ∷ es) z h = absurd z
+two_same libs ports insts f (t ∷ ts) [] z h = absurd z
+two_same libs ports insts f (t ∷ ts) (e ∷ es) z (inl h) = inl (one_same libs ports insts f t e ts es z.0 z.1 h)
+two_same libs ports insts f (t ∷ ts) (e ∷ es) z (inr h) = inr (two_same libs ports insts f ts es z.1 h)
+
+-- The ends that are left beside their places: the next of them, and none.
+zip_next : {A : Type 0} (xs : List A) (ps : List ℕ) (i p : ℕ) (x d : A) → i < length xs → length ps ≡ length xs → x ≡ get_or xs i d → p ≡ get_or ps i 0 → zip (drop i xs) (drop i ps) ≡ (x, p) ∷ zip (drop (suc i) xs) (drop (suc i) ps)
+zip_next [] ps i p x d l m e q = absurd (omega (arith, l))
+zip_next (y ∷ xs) [] i p x d l m e q = absurd (omega (arith, m))
+zip_next (y ∷ xs) (w ∷ ps) zero p x d l m e q = ap (λ v. (v, w) ∷ zip xs ps) (sym e) ∙ ap (λ v. (x, v) ∷ zip xs ps) (sym q)
+zip_next (y ∷ xs) (w ∷ ps) (suc i) p x d l m e q = zip_next xs ps i p x d (omega (arith, l)) (omega (arith, m)) e q
+
+-- One end more of those that are left, which joins another bit than those before it; or one of those joins the same.
+pub joined_after : (all js new : List (design.End × ℕ)) (es : List design.End) (ps : List ℕ) (i p : ℕ) (e d : design.End) → js ++ zip (drop i es) (drop i ps) ≡ all → i < length es → length ps ≡ length es → e ≡ get_or es i d → p ≡ get_or ps i 0
+    → Joined js e p new → new ++ zip (drop (suc i) es) (drop (suc i) ps) ≡ all
+joined_after all js new es ps i p e d h l m g q n =
+    let rest = zip (drop (suc i) es) (drop (suc i) ps) in
+    ap (λ v. v ++ rest) n.1 ∙ (append_assoc js ((e, p) ∷ []) rest ∙ (ap (λ v. js ++ v) (sym (zip_next es ps i p e d l m g q)) ∙ h))
+
+pub joined_apart : (js new : List (design.End × ℕ)) (e : design.End) (p : ℕ) → AreDistinct (bits js) → Joined js e p new → AreDistinct (bits new)
+joined_apart js new e p h n =
+    let S : List (design.End × ℕ) → Type 0 = λ v. AreDistinct (bits v) in
+    let D : List design.End → Type 0 = AreDistinct in
+    subst S (sym n.1) (subst D (sym (map-append (λ (j : design.End × ℕ). j.0) js ((e, p) ∷ []))) (distinct_push (bits js) e h n.0))
+
+pub joined_twice : (all js : List (design.End × ℕ)) (es : List design.End) (ps : List ℕ) (i p : ℕ) (e d : design.End) (f : MeaningFault) → js ++ zip (drop i es) (drop i ps) ≡ all → i < length es → length ps ≡ length es → e ≡ get_or es i d → p ≡ get_or ps i 0
+    → IsTwice js e p f → AtTwo (SameBit f) all
+joined_twice all js es ps i p e d f h l m g q b =
+    let rest = zip (drop (suc i) es) (drop (suc i) ps) in
+    let there = b.1 in
+    let whole : js ++ (e, p) ∷ rest ≡ all = ap (λ v. js ++ v) (sym (zip_next es ps i p e d l m g q)) ∙ h in
+    let same : (get_or js there.0 (e, b.0)).0 ≡ e = ap (λ (v : design.End × ℕ). v.0) there.2 in
+    let place : (get_or js there.0 (e, b.0)).1 ≡ b.0 = ap (λ (v : design.End × ℕ). v.1) there.2 in
+    let P : List (design.End × ℕ) → Type 0 = λ v. AtTwo (SameBit f) v in
+    subst P whole (two_of (SameBit f) js rest (e, p) (e, b.0) there.0 there.1 (same, b.2 ∙ ap (λ v. Clash EndTwice p v) (sym place)))
+
+bits_zip : (es : List design.End) (ps : List ℕ) → length ps ≡ length es → bits (zip es ps) ≡ es
+bits_zip [] ps m = refl
+bits_zip (e ∷ es) [] m = absurd (omega (arith, m))
+bits_zip (e ∷ es) (p ∷ ps) m = ap (λ v. e ∷ v) (bits_zip es ps (omega (arith, m)))
+
+pub joined_all : (js : List (design.End × ℕ)) (es : List design.End) (ps : List ℕ) (i : ℕ) → js ++ zip (drop i es) (drop i ps) ≡ zip es ps → length es ≤ i → length ps ≡ length es → AreDistinct (bits js) → AreDistinct es
+joined_all js es ps i h l m d =
+    let D : List design.End → Type 0 = AreDistinct in
+    let none : zip (drop i es) (drop i ps) ≡ [] = ap (λ v. zip v (drop i ps)) (drop_all i es l) in
+    let all : js ≡ zip es ps = sym (append-nil js) ∙ (ap (λ v. js ++ v) (sym none) ∙ h) in
+    subst D (ap bits all ∙ bits_zip es ps m) d
 
 get_repeated : {A : Type 0} (x : A) (size n : ℕ) (ys : List A) → n < size → slice_get (replicate size x ++ ys) n ≡ Some x
 get_repeated x zero n ys l = absurd (omega (arith, l))

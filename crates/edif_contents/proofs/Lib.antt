@@ -9,4 +9,5 @@ pub mod JoinLemmas
 pub mod KnownLemmas
 pub mod NetLemmas
 pub mod NetRows
+pub mod Numbers
 pub mod RefLemmas

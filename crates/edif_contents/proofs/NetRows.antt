@@ -8,7 +8,7 @@ use Rattle.netlist_bus_spec.specs.Members.{numbered}
 use Rattle.edif_spec.specs.Design as design
 use Rattle.edif_spec.specs.Faults.{AtOne, AtTwo, Beyond, SameOfTwo, declared_width, defined, place_of}
 use Rattle.edif_spec.specs.Means.{MeansBusName, MeansEnd, MeansNet}
-use Rattle.edif_spec.specs.Nets.{NetForm, Stretch, end_of, name_at, net_at, nets_of, row_size}
+use Rattle.edif_spec.specs.Nets.{NetForm, Stretch, name_at, net_at, nets_of, row_size}
 use Rattle.edif_spec.specs.Rows.{has_keyword}
 use Rattle.edif_spec.specs.Stands.{ends_in, is_arrayed, member_at, names_from, net_names_in}
 use Rattle.edif_spec.specs.declared.keyword.Keyword.TheVariants as keywords
@@ -22,6 +22,7 @@ use Rattle.edif_spec.proofs.RowForms.{length_numbered}
 use Rattle.netlist_schema.specs.Names.{AreDistinct}
 use Rattle.edif_parts.specs.Names.{DefinesName, IsAgain, ids}
 use Rattle.edif_parts.proofs.NameLists.{distinct_push, ids_push}
+use Rattle.edif_contents.specs.Keys.{name_key}
 use Rattle.edif_contents.specs.Nets.{NetAdded, RowAdded, named, row_names}
 use Rattle.edif_contents.specs.declared.net_list.NetList.{NetList}
 
@@ -57,11 +58,6 @@ pub flat_here : {A B : Type 0} (f : A → List B) (xs ys : List A) (x : A) → f
 flat_here f [] ys x = refl
 flat_here f (y ∷ xs) ys x = ap (λ v. f y ++ v) (flat_here f xs ys x) ∙ (sym (append_assoc (f y) (flat_map f xs ++ f x) (flat_map f ys)) ∙ ap (λ v. v ++ flat_map f ys) (sym (append_assoc (f y) (flat_map f xs) (f x))))
 
--- the bits that the nets of a row join, net by net
-pub row_bits : (n : NetForm) (k count : ℕ) → flat_map (λ (x : design.Net). x.ends) (numbered (net_at n) k count) ≡ flat_map (λ i. map (end_of i) n.joined) (numbered (λ i. i) k count)
-row_bits n k zero = refl
-row_bits n k (suc count) = ap (λ v. map (end_of k) n.joined ++ v) (row_bits n (suc k) count)
-
 -- the names that a form of a net defines are those of the nets of its row
 named_row : (u : Placed) (n : NetForm) (o : Option ℕ) (p size : ℕ) → MeansBusName (bare u) n.name o → size ≡ row_size o → names_from (is_arrayed (Some u)) size (Some (n.name.id, p)) ≡ numbered (λ k. ((name_at n.name o k).id, p)) 0 (row_size o)
 named_row u n None p size h e = ap (λ b. names_from b size (Some (n.name.id, p))) (no_array u n.name (has_keyword keywords.Array (bare u)) refl h)
@@ -76,12 +72,12 @@ names_read libs ports insts t n place h d =
     let m = subst (λ v. MeansBusName v n.name n.array) (sym u.2) h.name in
     ap (λ v. names_from (is_arrayed v) (declared_width t) (defined t)) u.1 ∙ (ap (λ v. names_from (is_arrayed (Some u.0)) (declared_width t) v) d ∙ named_row u.0 n n.array place (declared_width t) m e)
 
--- a name that is there, and then again
+-- one that is there, and then again
 at_later : {A : Type 0} (P : A → Type 0) (xs ys : List A) (y : A) → P y → AtOne P (xs ++ y ∷ ys)
 at_later P [] ys y p = inl p
 at_later P (x ∷ xs) ys y p = inr (at_later P xs ys y p)
 
-two_of : {A : Type 0} (R : A → A → Type 0) (xs ys : List A) (y d : A) (i : ℕ) → i < length xs → R (get_or xs i d) y → AtTwo R (xs ++ y ∷ ys)
+pub two_of : {A : Type 0} (R : A → A → Type 0) (xs ys : List A) (y d : A) (i : ℕ) → i < length xs → R (get_or xs i d) y → AtTwo R (xs ++ y ∷ ys)
 two_of R [] ys y d i l r = absurd (omega arith)
 two_of R (x ∷ xs) ys y d zero l r = inl (at_later (R x) xs ys y r)
 two_of R (x ∷ xs) ys y d (suc i) l r = inr (two_of R xs ys y d i (omega arith) r)
@@ -152,6 +148,19 @@ names_differ ns ms name place h d =
     let Z : List (List ℕ) → Type 0 = AreDistinct in
     subst S (sym d.1) (subst Z (sym (ids_push ns name place)) (distinct_push (ids ns) name h d.0))
 
+-- names that differ, also beside their places, and their numbers
+names_alone : (xs : List design.Net) (ps : List ℕ) → length ps ≡ length xs → ids (named xs ps) ≡ map (λ (n : design.Net). n.name.id) xs
+names_alone [] ps e = refl
+names_alone (x ∷ xs) [] e = absurd (omega (arith, e))
+names_alone (x ∷ xs) (p ∷ ps) e = ap (λ v. x.name.id ∷ v) (names_alone xs ps (omega (arith, e)))
+
+pub keys_alone : (xs : List design.Net) → map (λ (n : design.Net). name_key 0 n.name.id) xs ≡ map (name_key 0) (map (λ (n : design.Net). n.name.id) xs)
+keys_alone [] = refl
+keys_alone (x ∷ xs) = ap (λ v. name_key 0 x.name.id ∷ v) (keys_alone xs)
+
+pub named_apart : (xs : List design.Net) (ps : List ℕ) → length ps ≡ length xs → AreDistinct (map (λ (n : design.Net). n.name.id) xs) → AreDistinct (ids (named xs ps))
+named_apart xs ps e h = let N : List (List ℕ) → Type 0 = AreDistinct in subst N (sym (names_alone xs ps e)) h
+
 -- the one net of a form without an array
 pub without_array : (o : Option ℕ) → is_some o ≡ false → o ≡ None
 without_array None h = refl
@@ -164,6 +173,7 @@ only_added n place x old new a e h =
     record {
       nets = h.nets ∙ (ap (λ v. old.nets.items ++ v ∷ []) e ∙ ap (λ v. old.nets.items ++ v) (sym one));
       places = h.places ∙ ap (λ v. old.places.items ++ v) (sym there);
+      ends = h.ends;
     }
 
 -- more nets than allowed, at the form of the first one beyond

@@ -1,6 +1,6 @@
 -- What is read of nets.
-use Rattle.std.specs.Prelude.{◌≡◌, ◌^◌, ◌<◌, ◌≤◌, ◌⊎◌, ◌+◌, ◌++◌, ℕ, List, [], ◌∷◌, Option, None, Some, map, length}
-use Rattle.std.specs.List.{All, AllByRecursion, AllZip, flat_map}
+use Rattle.std.specs.Prelude.{◌≡◌, ◌^◌, ◌<◌, ◌≤◌, ◌⊎◌, ◌+◌, ◌*◌, ◌++◌, ℕ, List, [], ◌∷◌, Option, Some, map, length}
+use Rattle.std.specs.List.{All, AllByRecursion, AllZip, flat_map, zip}
 use Rattle.edif_spelling_spec.specs.Tree.{Bare, Placed, bare}
 use Rattle.netlist_schema.specs.Names.{AreDistinct, HasDistinctKeys}
 use Rattle.netlist_schema.specs.Typed.{IsTypedNet}
@@ -15,8 +15,9 @@ use Rattle.edif_spec.specs.Stands.{JoinedFault, NetFault, SameEnd, counted_ends,
 use Rattle.edif_spec.specs.declared.fault.MeaningFault.{MeaningFault}
 use Rattle.edif_spec.specs.declared.keyword.Keyword.TheVariants as keywords
 use Rattle.edif_tree.specs.Handles.{all}
+use Rattle.edif_parts.specs.Names.{ids}
 use Rattle.edif_contents.specs.Ends.{ReadEnd, WidthFaultIn}
-use Rattle.edif_contents.specs.Joins.{AreJoined, bits_of_row, row_of}
+use Rattle.edif_contents.specs.Joins.{SameBit, ends_of, places_of}
 use Rattle.edif_contents.specs.declared.ends.EndAt.{EndAt}
 use Rattle.edif_contents.specs.declared.ends.Surroundings.{Surroundings}
 use Rattle.edif_contents.specs.declared.net_list.NetList.{NetList}
@@ -69,11 +70,13 @@ row_names n place = numbered (λ k. ((name_at n.name n.array k).id, place)) 0 (r
 pub record NetAdded (n : design.Net) (place : ℕ) (old new : NetList) : Type 0 where
   pub nets : new.nets.items ≡ old.nets.items ++ n ∷ []
   pub places : new.places.items ≡ old.places.items ++ place ∷ []
+  pub ends : new.ends.items ≡ old.ends.items
 
 -- The nets of a form are added to those that are there, and the place of the form's name for each.
 pub record RowAdded (n : NetForm) (place : ℕ) (old new : NetList) : Type 0 where
   pub nets : new.nets.items ≡ old.nets.items ++ nets_of n
   pub places : new.places.items ≡ old.places.items ++ numbered (λ k. place) 0 (row_size n.array)
+  pub ends : new.ends.items ≡ old.ends.items
 
 -- the names of nets, each with the place beside it
 abbrev pub named : List design.Net → List ℕ → List (List ℕ × ℕ)
@@ -97,43 +100,46 @@ abbrev pub NetsFaultIn : Surroundings → List Placed → MeaningFault → Type 
 NetsFaultIn s ts f = Among (NetFaultIn s) ts f ⊎ (AtTwo (SameEnd s.libs.now.libs s.ports.now s.insts.now f) (flat_map row_ends ts)
     ⊎ (AtTwo (SameOfTwo f) (flat_map net_names_in ts) ⊎ (Beyond MOST_NETS (repeated declared_width ts) f ⊎ Beyond MOST_ENDS (flat_map counted_ends ts) f)))
 
--- the ends of nets, and the forms of ends and the names of the forms of nets among these
-abbrev pub ends_of : List design.Net → List design.End
-ends_of ns = flat_map (λ (n : design.Net). n.ends) ns
-
+-- the forms of ends and the names of the forms of nets among these
 abbrev pub refs_in : List Placed → List (Placed × ℕ × ℕ)
 refs_in ts = flat_map row_ends (those_of keywords.Net ts)
 
 abbrev pub names_in : List Placed → List (List ℕ × ℕ)
 names_in ts = flat_map net_names_in (those_of keywords.Net ts)
 
--- these ends are joined there
-abbrev pub AreJoinedIn : Surroundings → List (Placed × ℕ × ℕ) → List design.End → List (design.End × ℕ) → Type 0
-AreJoinedIn s ts es js = AreJoined s.libs.now.libs s.ports.now s.insts.now ts es js
-
 -- each form means the row in its place
 abbrev pub AreMeant : Surroundings → List Placed → List NetForm → Type 0
 AreMeant s ts ns = AllZip (λ u n. MeansNetIn s (bare u) n) ts ns
 
--- The forms of nets among these mean rows, whose nets are these, with names in these places, and join these ends.
-pub record NetsSoFar (s : Surroundings) (ts : List Placed) (xs : List design.Net) (ps : List ℕ) (js : List (design.End × ℕ)) : Type 0 where
+-- The forms of nets among these mean rows, whose nets are those of this list, within the limits; their names and ends stand in its places.
+pub record NetsSoFar (s : Surroundings) (ts : List Placed) (l : NetList) : Type 0 where
   pub forms : List NetForm
   pub mean : AreMeant s (those_of keywords.Net ts) forms
   pub fine : AllByRecursion FineForm forms
-  pub nets : xs ≡ flat_map nets_of forms
-  pub places : length ps ≡ length xs
-  pub names : named xs ps ≡ names_in ts
-  pub count : length xs ≤ MOST_NETS
-  pub joins : AreJoinedIn s (refs_in ts) (ends_of xs) js
+  pub nets : l.nets.items ≡ flat_map nets_of forms
+  pub places : length l.places.items ≡ length l.nets.items
+  pub names : named l.nets.items l.places.items ≡ names_in ts
+  pub count : length l.nets.items ≤ MOST_NETS
+  pub ends : l.ends.items ≡ places_of (refs_in ts)
+  pub ends_count : length l.ends.items ≤ MOST_ENDS
 
--- the same of the nets of a list, whose ends are joined once each
-abbrev pub AreJoinedOnce : Surroundings → List Placed → NetList → Type 0
-AreJoinedOnce s ts l = (js : List (design.End × ℕ)) × NetsSoFar s ts l.nets.items l.places.items js
+-- there is room for the nets of a form behind those of a list, and for their ends
+abbrev pub RowFits : NetList → Placed → NetForm → Type 0
+RowFits l t n = (length l.nets.items + row_size n.array ≤ MOST_NETS) × (length l.ends.items + length (ends_in t) * row_size n.array ≤ MOST_ENDS)
 
--- The ends of a form of a net that comes next are joined, and there is room for its nets.
-pub record RowJoined (s : Surroundings) (before : List Placed) (old : List design.Net) (t : Placed) (n : NetForm) (js : List (design.End × ℕ)) : Type 0 where
-  pub room : length old + row_size n.array ≤ MOST_NETS
-  pub joins : AreJoinedIn s (refs_in before ++ row_of (row_size n.array) (ends_in t)) (ends_of old ++ bits_of_row (row_size n.array) n.joined) js
+-- each bit is joined once by the nets of a list, and one that is not
+abbrev pub JoinOnce : NetList → Type 0
+JoinOnce l = AreDistinct (ends_of l.nets.items)
+
+abbrev pub JoinTwice : NetList → MeaningFault → Type 0
+JoinTwice l f = AtTwo (SameBit f) (zip (ends_of l.nets.items) l.ends.items)
+
+-- the names of the nets of a list differ, and two that do not
+abbrev pub AreNamedApart : NetList → Type 0
+AreNamedApart l = AreDistinct (ids (named l.nets.items l.places.items))
+
+abbrev pub AreNamedAlike : NetList → MeaningFault → Type 0
+AreNamedAlike l f = AtTwo (SameOfTwo f) (named l.nets.items l.places.items)
 
 -- what is wrong with nets where this form comes next, whatever follows it
 abbrev pub NextNetFault : Surroundings → List Placed → Placed → MeaningFault → Type 0

@@ -1,22 +1,25 @@
 //! The bits that the nets of contents join, each at most once.
-ghost use Rattle.std.specs.Prelude.{◌≡◌, ◌++◌, ◌+◌, ◌*◌, ◌^◌, ◌<◌, ◌≤◌, [], ℕ, List, IfErr, OnOk, length, map};
-ghost use Rattle.std.specs.List.{All, AllZip};
-ghost use Rattle.edif_spelling_spec.specs.Tree.{Placed, bare};
+ghost use Rattle.std.specs.Prelude.{◌≡◌, ◌++◌, ◌+◌, ◌*◌, ◌^◌, ◌<◌, ◌≤◌, [], List, IfErr, IfOk, IsTrue, OnOk, length, map};
+ghost use Rattle.std.specs.List.{zip};
+ghost use Rattle.edif_spelling_spec.specs.Tree.{Placed};
 ghost use Rattle.netlist_schema.specs.declared.limits.TheConstants.{MOST_ENDS};
-ghost use Rattle.edif_spec.specs.Design as design;
-ghost use Rattle.edif_spec.specs.Faults.{AtTwo, Beyond, repeated};
-ghost use Rattle.edif_spec.specs.Means.{MeansEnd};
+ghost use Rattle.edif_spec.specs.Faults.{AtTwo, Beyond, place_of, repeated};
 ghost use Rattle.edif_spec.specs.Nets.{end_of};
-ghost use Rattle.edif_spec.specs.Stands.{SameEnd};
 ghost use Rattle.edif_tree.specs.Handles.{all};
-ghost use Rattle.edif_contents.specs.Joins.{AreJoined, IsTwice, Joined, RowEndsFault, bits_of_row, row_of};
+ghost use Rattle.edif_contents.specs.Joins.{IsTwice, Joined, SameBit, ends_of, places_of, row_of};
+ghost use Rattle.edif_contents.specs.Keys.{end_key};
+ghost use Rattle.edif_contents.specs.Nets.{JoinOnce, JoinTwice};
 ghost use Rattle.edif_parts.specs.Reading.{Answers, Names as FailsBy};
+ghost use Rattle.netlist_schema.specs.Names.{AreDistinct};
 
+use crate::differ::{differ, end_key};
+use crate::limits::small;
+use crate::net_list::NetList;
 use edif_parts::{EdifError, clash, over_limit};
 use edif_spec::{ClashKind, Stretch};
 use edif_tree::Nodes;
 use indexmap::IndexMap;
-use netlist_schema::{End, MOST_ENDS};
+use netlist_schema::{End, MOST_ENDS, Net, NoMemory, Shared};
 use std::alloc::Global;
 use std::marker::Model;
 
@@ -58,13 +61,6 @@ impl Joins {
         }
     }
 
-    /// The number of bits.
-    fn len(&self) -> usize
-        ensures { result ≡ length self.now }
-    {
-        self.places.len()
-    }
-
     /// Joins a bit at an end in this place. Where it is joined already, the error says so, with the place of the earlier end.
     fn add(&mut self, end: End, place: u64) -> Result<(), EdifError>
         ensures ok { OnOk result (Joined self.old end place self.new) }
@@ -94,36 +90,12 @@ pub(crate) fn end_of(k: u32, stretch: &Stretch) -> End
     }
 }
 
-/// Joins the ends of the net of number `k` of a row of this size, at these nodes. The error is the first that is joined already.
-fn join_net(
-    nodes: Nodes<'_>,
-    stretches: &[Stretch],
-    size: u32,
-    k: u32,
-    joins: &mut Joins,
-) -> Result<(), EdifError>
-    requires count { length (all nodes) ≡ length stretches.now }
-    requires within { All (λ s. k + s.first < 2 ^ 32) stretches.now }
-    requires room { length joins.old + length stretches.now ≤ MOST_ENDS }
-    ensures length { OnOk result (length joins.new ≡ length joins.old + length stretches.now) }
-    ensures joined { let us = all nodes.entry in (libs : List design.Lib) (ports : List design.Port) (insts : List design.Inst) (ts : List (Placed × ℕ × ℕ)) (es : List design.End)
-        → AllZip (λ u s. MeansEnd libs ports insts (bare u) s × (s.width ≡ size)) us stretches.now → AreJoined libs ports insts ts es joins.old
-        → Answers (λ _. AreJoined libs ports insts (ts ++ map (λ u. (u, k, size)) us) (es ++ map (end_of k) stretches.now) joins.new)
-        (λ f. (rest : List (Placed × ℕ × ℕ)) → AtTwo (SameEnd libs ports insts f) ((ts ++ map (λ u. (u, k, size)) us) ++ rest)) result }
-{
-    for (index, stretch) in stretches.iter().enumerate() {
-        joins.add(end_of(k, stretch), nodes.at(index).place())?;
-    }
-    Ok(())
-}
-
 /// Whether there is room for so many ends at each of these nodes, behind those that are joined; else the first node beyond the limit
 /// is named.
-fn ends_room(nodes: Nodes<'_>, size: u32, joined: usize) -> Result<(), EdifError>
+pub(crate) fn ends_room(nodes: Nodes<'_>, size: u32, joined: usize) -> Result<(), EdifError>
     requires joined { joined ≤ MOST_ENDS }
-    ensures ok { OnOk result (joined + length (all nodes.entry) * size ≤ MOST_ENDS) }
-    ensures err { IfErr result (λ e. (before : List Placed) → length before ≡ joined
-        → FailsBy (λ f. (more : List Placed) → Beyond MOST_ENDS ((before ++ repeated (λ u. size) (all nodes.entry)) ++ more) f) e) }
+    ensures { (before : List Placed) → length before ≡ joined
+        → Answers (λ _. joined + length (all nodes.entry) * size ≤ MOST_ENDS) (λ f. (more : List Placed) → Beyond MOST_ENDS ((before ++ repeated (λ u. size) (all nodes.entry)) ++ more) f) result }
 {
     let mut count = joined as u64;
     for node in nodes.iter() {
@@ -135,26 +107,106 @@ fn ends_room(nodes: Nodes<'_>, size: u32, joined: usize) -> Result<(), EdifError
     Ok(())
 }
 
-/// Joins the ends of a row of so many nets, net by net, at these nodes. The error is the first that is joined already, or the first
-/// form beyond the limit.
-pub(crate) fn join_row(
-    nodes: Nodes<'_>,
-    stretches: &[Stretch],
-    size: u32,
-    joins: &mut Joins,
-) -> Result<(), EdifError>
-    requires count { length (all nodes) ≡ length stretches.now }
-    requires within { All (λ s. s.first + size ≤ 2 ^ 32) stretches.now }
-    requires joined { length joins.old ≤ MOST_ENDS }
-    ensures { let us = all nodes.entry in (libs : List design.Lib) (ports : List design.Port) (insts : List design.Inst) (ts : List (Placed × ℕ × ℕ)) (before : List Placed) (es : List design.End)
-        → AllZip (λ u s. MeansEnd libs ports insts (bare u) s × (s.width ≡ size)) us stretches.now
-        → AreJoined libs ports insts ts es joins.old → length before ≡ length ts
-        → Answers (λ _. AreJoined libs ports insts (ts ++ row_of size us) (es ++ bits_of_row size stretches.now) joins.new)
-        (RowEndsFault libs ports insts (ts ++ row_of size us) (before ++ repeated (λ u. size) us)) result }
+/// Adds the places of these nodes.
+fn net_places(nodes: Nodes<'_>, places: &mut Vec<u32>) -> Result<(), NoMemory>
+    ensures { OnOk result (places.new.items ≡ places.old.items ++ map place_of (all nodes.entry)) }
 {
-    ends_room(nodes, size, joins.len())?;
-    for k in 0..size {
-        join_net(nodes, stretches, size, k, joins)?;
+    for node in nodes.iter() {
+        let place = small(node.place())?;
+        places.push(place)?;
     }
     Ok(())
+}
+
+/// Adds the places of the ends at these nodes in a row of so many nets, net by net.
+pub(crate) fn row_places(nodes: Nodes<'_>, size: u32, places: &mut Vec<u32>) -> Result<(), NoMemory>
+    ensures { OnOk result (places.new.items ≡ places.old.items ++ places_of (row_of size (all nodes.entry))) }
+{
+    for _ in 0..size {
+        net_places(nodes, places)?;
+    }
+    Ok(())
+}
+
+/// The ends of nets, which are so many, in order.
+fn all_ends(alloc: Global, nets: &[Shared<Net>], count: usize) -> Result<Vec<End>, NoMemory>
+    ensures { IfOk result (λ ends. ends.items ≡ ends_of nets.now) }
+{
+    let mut ends = Vec::with_capacity(alloc, count)?;
+    for net in nets {
+        ends.extend_from_slice(net.ends.as_slice())?;
+    }
+    Ok(ends)
+}
+
+/// Joins the bit of an end in this place. Where it is joined already, the error says so.
+fn join_end(end: End, place: u32, joins: &mut Joins) -> Result<(), EdifError>
+    ensures { Answers (λ _. Joined joins.old end place joins.new) (IsTwice joins.old end place) result }
+{
+    joins.add(end, u64::from(place))?;
+    Ok(())
+}
+
+/// Joins these ends, which stand in these places, where none is yet. The error is the first that is joined already.
+fn join_ends(ends: &[End], places: &[u32], joins: &mut Joins) -> Result<(), EdifError>
+    requires places { length places.now ≡ length ends.now }
+    requires joins { joins.old ≡ [] }
+    ensures { Answers (λ _. AreDistinct ends.now) (λ f. AtTwo (SameBit f) (zip ends.now places.now)) result }
+{
+    for (index, end) in ends.iter().enumerate() {
+        join_end(*end, places[index], joins)?;
+    }
+    Ok(())
+}
+
+/// Joins the ends of nets in a table, as `check_ends` answers.
+fn find_twice(alloc: Global, list: &NetList) -> Result<(), EdifError>
+    requires { length list.now.ends.items ≡ length (ends_of list.now.nets.items) }
+    ensures { Answers (λ _. JoinOnce list.now) (JoinTwice list.now) result }
+{
+    let ends = all_ends(alloc, list.nets.as_slice(), list.ends.len())?;
+    let mut joins = Joins::new(alloc);
+    join_ends(ends.as_slice(), list.ends.as_slice(), &mut joins)
+}
+
+/// Adds the numbers of the bits that these ends join.
+fn net_keys(ends: &[End], keys: &mut Vec<u64>) -> Result<(), NoMemory>
+    ensures { OnOk result (keys.new.items ≡ keys.old.items ++ map end_key ends.now) }
+{
+    for end in ends {
+        keys.push(end_key(*end))?;
+    }
+    Ok(())
+}
+
+/// The numbers of the bits that the ends of nets join, which are so many, in order.
+fn end_keys(alloc: Global, nets: &[Shared<Net>], count: usize) -> Result<Vec<u64>, NoMemory>
+    ensures { IfOk result (λ keys. keys.items ≡ map end_key (ends_of nets.now)) }
+{
+    let mut keys = Vec::with_capacity(alloc, count)?;
+    for net in nets {
+        net_keys(net.ends.as_slice(), &mut keys)?;
+    }
+    Ok(keys)
+}
+
+/// Whether no two of the ends of nets, which are so many, have bits of one number.
+fn ends_apart(alloc: Global, nets: &[Shared<Net>], count: usize) -> Result<bool, NoMemory>
+    ensures { IfOk result (λ apart. IsTrue apart → AreDistinct (ends_of nets.now)) }
+{
+    let mut keys = end_keys(alloc, nets, count)?;
+    Ok(differ(&mut keys))
+}
+
+/// Whether the ends of nets join each bit once; else the error is that an end joins one again. Their numbers take far less memory than a
+/// table of them, which is made only where two numbers are equal.
+pub(crate) fn check_ends(alloc: Global, list: &NetList) -> Result<(), EdifError>
+    requires { length list.now.ends.items ≡ length (ends_of list.now.nets.items) }
+    ensures { Answers (λ _. JoinOnce list.now) (JoinTwice list.now) result }
+{
+    let apart = ends_apart(alloc, list.nets.as_slice(), list.ends.len())?;
+    if apart {
+        return Ok(());
+    }
+    find_twice(alloc, list)
 }

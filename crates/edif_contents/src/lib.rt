@@ -2,6 +2,7 @@
 #![tactic(auto)]
 
 mod contents;
+mod differ;
 mod ends;
 mod insts;
 mod joins;

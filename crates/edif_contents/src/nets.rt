@@ -1,8 +1,7 @@
 //! Nets.
-ghost use Rattle.std.specs.Prelude.{◌≡◌, ◌+◌, ◌++◌, ◌∷◌, [], ◌^◌, ◌<◌, ◌≤◌, ℕ, IfOk, List, None, OnOk, length, map, true};
+ghost use Rattle.std.specs.Prelude.{◌≡◌, ◌+◌, ◌++◌, ◌∷◌, [], ◌^◌, ◌<◌, ◌≤◌, IfOk, List, None, OnOk, length, map, true};
 ghost use Rattle.std.specs.List.{All, AllByRecursion, AllZip};
 ghost use Rattle.edif_spelling_spec.specs.Tree.{Placed, bare};
-ghost use Rattle.edif_spec.specs.Design as design;
 ghost use Rattle.edif_spec.specs.Faults.{Among, those_of};
 ghost use Rattle.edif_spec.specs.Rows.{has_keyword};
 ghost use Rattle.edif_spec.specs.Means.{MeansProperties};
@@ -16,11 +15,11 @@ ghost use Rattle.netlist_schema.specs.Typed.{IsTypedProperty};
 ghost use Rattle.netlist_schema.specs.declared.limits.TheConstants.{MOST_ENDS, MOST_NETS};
 ghost use Rattle.edif_spec.specs.Nets.{end_of, name_at, net_at, row_size};
 ghost use Rattle.edif_spec.specs.Stands.{width_kind};
-ghost use Rattle.edif_contents.specs.Nets.{AreJoinedOnce, NetFaultIn, NetsFaultIn, NetsSoFar, NextNetFault, ReadJoined, ReadNet, ReadNets, ReadStretches, RowAdded, RowJoined, StretchesFaultIn};
+ghost use Rattle.edif_contents.specs.Nets.{NetFaultIn, NetsFaultIn, NetsSoFar, NextNetFault, ReadJoined, ReadNet, ReadNets, ReadStretches, RowAdded, RowFits, StretchesFaultIn};
 ghost use Rattle.edif_parts.specs.Reading.{Answers};
 
 use crate::ends::{EndAt, Surroundings, read_end};
-use crate::joins::{Joins, end_of, join_row};
+use crate::joins::{check_ends, end_of, ends_room, row_places};
 use crate::net_list::{NetList, check_names};
 use bus_members::member_name;
 use edif_grammar::is_form_of;
@@ -295,80 +294,58 @@ fn nets_room(count: usize, size: u32, place: u64) -> Result<(), EdifError>
     Ok(())
 }
 
-/// Joins the ends of the net of the form at a node, which is read so, where there is room for its row behind so many nets. The error
-/// is the first end that is joined already, or the first form beyond a limit.
-fn join_form(
-    node: Node<'_>,
-    read: &NetAt<'_>,
-    count: usize,
-    joins: &mut Joins,
-) -> Result<(), EdifError>
+/// Whether there is room for the nets of the form at a node, which is read so, behind those of a list, and for their ends; else the
+/// error is the first form beyond a limit.
+fn form_room(node: Node<'_>, read: &NetAt<'_>, list: &NetList) -> Result<(), EdifError>
     requires keyword { has_keyword NetWord (bare (here node)) ≡ true }
-    requires ends { length (all read.now.ends) ≡ length read.now.form.joined }
-    requires within { All (λ s. s.first + row_size read.now.form.array ≤ 2 ^ 32) read.now.form.joined }
-    requires nets { count ≤ MOST_NETS }
-    requires joined { length joins.old ≤ MOST_ENDS }
-    ensures { (s : Surroundings) (before : List Placed) (nets : List design.Net) (places : List ℕ) → ReadNet s (here node.entry) read.now → length nets ≡ count → NetsSoFar s before nets places joins.old
-        → Answers (λ _. RowJoined s before nets (here node.entry) read.now.form joins.new) (NextNetFault s before (here node.entry)) result }
+    requires nets { length list.now.nets.items ≤ MOST_NETS }
+    requires ends { length list.now.ends.items ≤ MOST_ENDS }
+    ensures { (s : Surroundings) (before : List Placed) → ReadNet s (here node.entry) read.now → NetsSoFar s before list.now
+        → Answers (λ _. RowFits list.now (here node.entry) read.now.form) (NextNetFault s before (here node.entry)) result }
 {
     let size = row_size(&read.form.array);
-    nets_room(count, size, node.place())?;
-    join_row(read.ends, read.form.joined.as_slice(), size, joins)
+    nets_room(list.nets.len(), size, node.place())?;
+    ends_room(read.ends, size, list.ends.len())
 }
 
-/// Adds the nets for which the form of a net at a node stands to those that are there, and the bits that they join; else the error
-/// names what is wrong with the form, whatever follows it.
+/// Adds the nets for which the form of a net at a node stands to those that are there; else the error names what is wrong with the form,
+/// whatever follows it.
 fn take_net(
     alloc: Global,
     node: Node<'_>,
     around: &Surroundings,
-    joins: &mut Joins,
     list: &mut NetList,
 ) -> Result<(), EdifError>
     requires keyword { has_keyword NetWord (bare (here node)) ≡ true }
     requires names { AreNamed around.now }
     requires nets { length list.old.nets.items ≤ MOST_NETS }
-    requires joined { length joins.old ≤ MOST_ENDS }
-    ensures { (before : List Placed) → NetsSoFar around.now before list.old.nets.items list.old.places.items joins.old
-        → Answers (λ _. NetsSoFar around.now (before ++ here node.entry ∷ []) list.new.nets.items list.new.places.items joins.new) (NextNetFault around.now before (here node.entry)) result }
+    requires ends { length list.old.ends.items ≤ MOST_ENDS }
+    ensures { (before : List Placed) → NetsSoFar around.now before list.old
+        → Answers (λ _. NetsSoFar around.now (before ++ here node.entry ∷ []) list.new) (NextNetFault around.now before (here node.entry)) result }
 {
     let read = read_net(alloc, node, around)?;
-    join_form(node, &read, list.nets.len(), joins)?;
+    form_room(node, &read, list)?;
+    row_places(read.ends, row_size(&read.form.array), &mut list.ends)?;
     add_row(alloc, read.form, read.place, list)?;
     Ok(())
 }
 
-/// The nets of the forms of nets among these followers of a form, in order, with the bits that they join, where none is yet.
-fn take_nets(
-    alloc: Global,
-    inner: Nodes<'_>,
-    around: &Surroundings,
-    joins: &mut Joins,
-) -> Result<NetList, EdifError>
-    requires named { AreNamed around.now }
-    requires joins { joins.old ≡ [] }
-    ensures { Answers (AreJoinedOnce around.now (all inner.entry)) (NetsFaultIn around.now (those_of NetWord (all inner.entry))) result }
+/// The nets of the forms of nets among these followers of a form, in order, whatever their names and ends are.
+fn take_nets(alloc: Global, inner: Nodes<'_>, around: &Surroundings) -> Result<NetList, EdifError>
+    requires { AreNamed around.now }
+    ensures { Answers (NetsSoFar around.now (all inner.entry)) (NetsFaultIn around.now (those_of NetWord (all inner.entry))) result }
 {
     let mut list = NetList::for_forms(alloc, inner)?;
     for node in inner.iter() {
         if is_form_of(node, Keyword::Net) {
-            take_net(alloc, node, around, joins, &mut list)?;
+            take_net(alloc, node, around, &mut list)?;
         }
     }
     Ok(list)
 }
 
-/// The nets for which the forms of nets among these followers of a form stand, in order, with each bit joined once.
-fn joined_nets(alloc: Global, inner: Nodes<'_>, around: &Surroundings) -> Result<NetList, EdifError>
-    requires { AreNamed around.now }
-    ensures { Answers (AreJoinedOnce around.now (all inner.entry)) (NetsFaultIn around.now (those_of NetWord (all inner.entry))) result }
-{
-    let mut joins = Joins::new(alloc);
-    take_nets(alloc, inner, around, &mut joins)
-}
-
 /// The nets for which the forms of nets among these followers of a form stand, in order, with names that differ and each bit joined
-/// once. The names are looked at once all bits have been, so that the two tables are never there at one time.
+/// once.
 pub(crate) fn read_nets(
     alloc: Global,
     inner: Nodes<'_>,
@@ -377,7 +354,8 @@ pub(crate) fn read_nets(
     requires { AreNamed around.now }
     ensures { Answers (ReadNets around.now (all inner.entry)) (NetsFaultIn around.now (those_of NetWord (all inner.entry))) result }
 {
-    let list = joined_nets(alloc, inner, around)?;
+    let list = take_nets(alloc, inner, around)?;
+    check_ends(alloc, &list)?;
     check_names(alloc, &list)?;
     Ok(list.into_nets())
 }

@@ -18,8 +18,8 @@ loop-node-init c = record {
 pub overflow_add-count : goal.overflow_add-count
 overflow_add-count c = omega (arith, c.loop-node.invariant.few)
 
-pub returns-then-count-clause-err : goal.returns-then-count-clause-err
-returns-then-count-clause-err c = λ before e.
+pub returns-then-count : goal.returns-then-count
+returns-then-count c = λ before e.
     let t = here c.in-Some.node in
     let b = c.loop-node.invariant.count in
     let few = c.loop-node.invariant.few in
@@ -38,8 +38,8 @@ loop-node-preserved c =
       few = omega arith;
     }
 
-pub returns-clause-ok : goal.returns-clause-ok
-returns-clause-ok c =
+pub returns : goal.returns
+returns c = λ before e.
     let b = c.loop-node.invariant.count in
     let few = c.loop-node.invariant.few in
     let P : List Placed → Type 0 = λ v. c.args.joined + length v * c.args.size ≤ 4194304 in

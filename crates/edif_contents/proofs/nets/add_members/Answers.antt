@@ -1,4 +1,4 @@
-use Rattle.std.proofs.Common.{refl}
+use Rattle.std.proofs.Common.{refl, ◌∙◌}
 use Rattle.edif_spec.specs.Nets.{net_at}
 use Rattle.edif_contents.proofs.NetRows.{row_more}
 use Rattle.edif_contents.proofs.nets.add_members.Goals as goal
@@ -13,4 +13,5 @@ loop-k-preserved c =
     record {
       nets = row_more (net_at c.args.form.now) c.loop-k.k old.nets.items now.nets.items new.nets.items c.in_ok-net.net v.nets c.in_ok-net.ensures a.nets;
       places = row_more (λ k. c.args.place) c.loop-k.k old.places.items now.places.items new.places.items c.args.place v.places refl a.places;
+      ends = a.ends ∙ v.ends;
     }

@@ -8,4 +8,5 @@ abbrev pub invariant-loop-k : goal.invariant-loop-k
 invariant-loop-k l = record {
   nets : l.list.nets.items ≡ l.fn.list.nets.items ++ numbered (net_at l.form) 0 l.k;
   places : l.list.places.items ≡ l.fn.list.places.items ++ numbered (λ k. l.fn.place) 0 l.k;
+  ends : l.list.ends.items ≡ l.fn.list.ends.items;
 }

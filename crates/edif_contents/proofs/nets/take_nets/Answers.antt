@@ -14,7 +14,7 @@ pub loop-node-init : goal.loop-node-init
 loop-node-init c = record {
   can_next = tt;
   is_finite = tt;
-  nets = ([], sym (ap left c.into_iter-node-iterator.ensures.into_iter_gives ∙ c.iter-node-items.ensures), rw (c.in_ok-list.ensures.0, c.in_ok-list.ensures.1, c.requires.joins) (nets_start c.args.around.now));
+  nets = ([], sym (ap left c.into_iter-node-iterator.ensures.into_iter_gives ∙ c.iter-node-items.ensures), nets_start c.args.around.now c.in_ok-list.list c.in_ok-list.ensures.0 c.in_ok-list.ensures.1 c.in_ok-list.ensures.2);
 }
 
 pub take_net-requires-clause-keyword : goal.take_net-requires-clause-keyword
@@ -23,8 +23,8 @@ take_net-requires-clause-keyword c = sym c.if-is_form_of.ensures
 pub take_net-requires-clause-nets : goal.take_net-requires-clause-nets
 take_net-requires-clause-nets c = c.loop-node.invariant.nets.2.count
 
-pub take_net-requires-clause-joined : goal.take_net-requires-clause-joined
-take_net-requires-clause-joined c = c.loop-node.invariant.nets.2.joins.count
+pub take_net-requires-clause-ends : goal.take_net-requires-clause-ends
+take_net-requires-clause-ends c = c.loop-node.invariant.nets.2.ends_count
 
 pub returns-in_err-take_net : goal.returns-in_err-take_net
 returns-in_err-take_net c =
@@ -51,7 +51,7 @@ pub loop-node-preserved : goal.loop-node-preserved
 loop-node-preserved c =
     let t = here c.in-Some.node in
     let b = c.loop-node.invariant.nets in
-    let g = nets_skip c.args.around.now b.0 t c.loop-node.list.nets.items c.loop-node.list.places.items c.loop-node.joins (sym c.if-is_form_of.ensures) b.2 in
+    let g = nets_skip c.args.around.now b.0 t c.loop-node.list (sym c.if-is_form_of.ensures) b.2 in
     record {
       can_next = tt;
       is_finite = tt;
@@ -63,5 +63,5 @@ returns c =
     let ts = all c.args.inner in
     let s = c.args.around.now in
     let b = c.loop-node.invariant.nets in
-    let N : List Placed → Type 0 = λ v. NetsSoFar s v c.loop-node.list.nets.items c.loop-node.list.places.items c.loop-node.joins in
-    (c.loop-node.joins, subst N (ended ts b.0 (left c.loop-node.node-iterator) b.1 c.in-None.ensures.steps.0) b.2)
+    let N : List Placed → Type 0 = λ v. NetsSoFar s v c.loop-node.list in
+    subst N (ended ts b.0 (left c.loop-node.node-iterator) b.1 c.in-None.ensures.steps.0) b.2

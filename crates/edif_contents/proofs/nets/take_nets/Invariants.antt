@@ -10,5 +10,5 @@ abbrev pub invariant-loop-node : goal.invariant-loop-node
 invariant-loop-node l = record {
   can_next : (goal.iterator-loop-node).can_next l.node-iterator;
   is_finite : (goal.iterator-loop-node).is_finite l.node-iterator;
-  nets : (before : List Placed) × (all l.fn.inner ≡ before ++ left l.node-iterator) × NetsSoFar l.around before l.list.nets.items l.list.places.items l.joins;
+  nets : (before : List Placed) × (all l.fn.inner ≡ before ++ left l.node-iterator) × NetsSoFar l.around before l.list;
 }
