@@ -11,5 +11,5 @@ mod written;
 
 pub use pins::put_item;
 pub use places::{net_name, path_bytes, port_name};
-pub use rows::{header, lent_row, pin_row};
+pub use rows::{header, pin_row};
 pub use sink::RowSink;

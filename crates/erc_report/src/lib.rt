@@ -5,5 +5,4 @@ mod lines;
 mod words;
 mod write;
 
-pub use lines::finding_text;
 pub use write::write_findings;

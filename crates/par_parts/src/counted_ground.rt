@@ -8,7 +8,8 @@ ghost use Rattle.flat_items.specs.Left.{is_over};
 ghost use Rattle.flat_items.specs.Stand.{MayStand, stand_of, top_of};
 ghost use Rattle.par_parts.specs.Skip.{HasPassedInst, IsFitting};
 
-use crate::{ItemCounts, count_items, count_top};
+use crate::count::count_top;
+use crate::{ItemCounts, count_items};
 use flat_items::{Ground, ItemRef, Place, Stage};
 use flat_lookup::inst_at;
 use flat_spec::Item;

@@ -8,7 +8,6 @@ mod counts;
 mod passing;
 mod tables;
 
-pub use count::count_top;
 pub use counted_ground::CountedGround;
 pub use counts::count_items;
 pub use passing::{skip_many, start_at};
