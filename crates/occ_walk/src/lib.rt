@@ -2,8 +2,10 @@
 #![tactic(auto)]
 
 mod frames;
-pub mod start;
-pub mod steps;
+mod starts;
+mod steps;
 mod walk;
 
+pub use starts::start;
+pub use steps::{advance, current, next_item, skip};
 pub use walk::{Walk, WalkError};

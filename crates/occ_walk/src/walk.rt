@@ -7,7 +7,7 @@ ghost use Rattle.occ_walk.specs.At.{items_below};
 ghost use Rattle.occ_walk.specs.Walk.{GivesNext, IsLent, IsSettled};
 ghost use Rattle.flat_items.specs.Stand.{top_of};
 
-use crate::start::{go_along, start};
+use crate::starts::{go_along, start};
 use crate::steps::{advance, current, next_item, skip};
 use flat_items::{Ground, ItemRef, Place};
 use flat_spec::{Item, Path};

@@ -14,9 +14,7 @@ use flat_items::{Ground, ItemRef, Place, Stage};
 use flat_lookup::inst_at;
 use flat_spec::Item;
 use netlist_schema::{CellId, NoMemory, Shown};
-use occ_walk::WalkError;
-use occ_walk::start::start;
-use occ_walk::steps::{advance, current, next_item, skip};
+use occ_walk::{WalkError, advance, current, next_item, skip, start};
 use std::alloc::Global;
 use std::marker::Model;
 

@@ -61,7 +61,7 @@ fn first_nets(
 /// from within.
 ///
 /// It takes time in proportion to the nets and their ends, times a logarithm of the number of the instance's bits that are joined.
-pub fn group_nets(
+pub(crate) fn group_nets(
     alloc: Global,
     around: &Contents,
     place: u32,

@@ -17,6 +17,6 @@ mod notes;
 mod plan;
 mod taken;
 
-pub use groups::{Grouped, group_nets};
+pub use groups::Grouped;
 pub use plan::{Ungrouped, plan_ungroup};
 pub use taken::Taken;

@@ -15,5 +15,5 @@ pub use below::read_below;
 pub use kids::block_kids;
 pub use paths::unique_path;
 pub use plan::{SplitPlan, plan_of, put_plan};
-pub use read::{read_block, read_cell};
+pub use read::read_cell;
 pub use step::step_at;

@@ -40,7 +40,7 @@ fn read_directory<C: Cells>(cells: &mut C, lib: LibId) -> Result<(), NoMemory>
 }
 
 /// Reads a cell, inside and out, and the directory of its library where it is a block; whether it is one.
-pub fn read_block<C: Cells>(cells: &mut C, id: CellId) -> Result<bool, NoMemory>
+pub(crate) fn read_block<C: Cells>(cells: &mut C, id: CellId) -> Result<bool, NoMemory>
     ensures block { IfOk result (λ block. block ≡ is_block (C.state cells.old).design id) }
     ensures reads { MatchResult result (λ _. HasRead (C.state cells.old) (C.state cells.new) (IsForBlock (C.state cells.old).design id)) (λ _. HasReadSome (C.state cells.old) (C.state cells.new)) }
 {

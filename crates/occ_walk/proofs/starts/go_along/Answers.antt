@@ -3,7 +3,7 @@ use Rattle.std.proofs.lemmas.List.{take_all, take_more}
 use Rattle.occ_walk.specs.Starts.{IsAtStart}
 use Rattle.flat_items.specs.Stand.{stand_of}
 use Rattle.occ_walk.proofs.StartLemmas.{step_there}
-use Rattle.occ_walk.proofs.start.go_along.Goals as goal
+use Rattle.occ_walk.proofs.starts.go_along.Goals as goal
 
 pub go_down-requires-clause-there : goal.go_down-requires-clause-there
 go_down-requires-clause-there g c =

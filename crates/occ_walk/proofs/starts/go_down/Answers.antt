@@ -1,6 +1,6 @@
 use Rattle.flat_items.specs.Stand.{stand_of}
 use Rattle.occ_walk.proofs.StartLemmas.{down_at, none_down}
-use Rattle.occ_walk.proofs.start.go_down.Goals as goal
+use Rattle.occ_walk.proofs.starts.go_down.Goals as goal
 
 pub returns-in_default : goal.returns-in_default
 returns-in_default g c =

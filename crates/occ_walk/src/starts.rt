@@ -49,7 +49,7 @@ fn go_down<S: Shown + Drop>(
 }
 
 /// Goes from before the first item of all to before that of the occurrence at a path.
-pub fn go_along<S: Shown + Drop>(
+pub(crate) fn go_along<S: Shown + Drop>(
     ground: &Ground<S>,
     place: &mut Place,
     path: &[u32],
