@@ -1,3 +1,4 @@
+mod CrewLemmas
 mod DeskLemmas
 mod LineLemmas
 mod PartLemmas

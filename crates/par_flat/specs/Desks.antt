@@ -1,5 +1,6 @@
 -- Workers at their desks.
-use Rattle.std.specs.Prelude.{◌≡◌, ◌<◌, ◌+◌, ◌*◌, ◌^◌, ℕ, List, IfOk, drop, length, get_or}
+use Rattle.std.specs.Prelude.{◌≡◌, ◌<◌, ◌+◌, ◌*◌, ◌^◌, ◌≤◌, ℕ, List, IfOk, drop, length, get_or, take}
+use Rattle.std.specs.List.{flat_map}
 use Rattle.std.specs.Option.{ForSome}
 use Rattle.netlist_schema.specs.Design.{Design}
 use Rattle.flat_spec.specs.Flattening.{flattening}
@@ -7,7 +8,9 @@ use Rattle.flat_spec.specs.Types.{Item}
 use Rattle.occ_walk.specs.Left.{left}
 use Rattle.flat_items.specs.Stand.{MayStand, stand_of}
 use Rattle.par_flat.specs.Lines.{IsPart}
+use Rattle.par_flat.specs.declared.crew.Crew.{Crew}
 use Rattle.par_flat.specs.declared.desks.Desk.{Desk}
+use Rattle.par_flat.specs.declared.desks.Lines.{Lines}
 use Rattle.par_flat.specs.declared.desks.Most.{Most}
 use Rattle.par_flat.specs.declared.desks.Seat.{Seat}
 use Rattle.par_flat.specs.declared.rounds.Round.{Round}
@@ -30,10 +33,30 @@ AreDesks d desks = (worker : ℕ) (desk : Desk) → worker < length desks → Is
 abbrev pub IsReady : Design → Round → Desk → Type 0
 IsReady d round desk = (desk.worker < round.workers) × (round.first + round.workers * round.most.items < 2 ^ 64) × ForSome desk.seat (IsSeat d)
 
--- what a worker made of items, where there was memory for it
-abbrev pub IsMade : Design → List Item → Most → Desk → Type 0
-IsMade d items most desk = IfOk desk.made (λ count. IsPart d items most count desk.text.items)
+-- the lines that a worker made of items, where there was memory for them
+abbrev pub IsMade : Design → List Item → Most → Lines → Type 0
+IsMade d items most lines = IfOk lines.made (λ count. IsPart d items most count lines.text.items)
 
--- what each worker made, each of whom begins so many items behind the one before
-abbrev pub AreParts : Design → List Item → Most → List Desk → Type 0
-AreParts d items most desks = (worker : ℕ) (desk : Desk) → worker < length desks → IsMade d (drop (worker * most.items) items) most (get_or desks worker desk)
+-- the lines of each worker, each of whom begins so many items behind the one before
+abbrev pub AreParts : Design → List Item → Most → List Lines → Type 0
+AreParts d items most all = (worker : ℕ) (lines : Lines) → worker < length all → IsMade d (drop (worker * most.items) items) most (get_or all worker lines)
+
+-- the same of the lines that stand at the desks of workers
+abbrev pub AreMade : Design → List Item → Most → List Desk → Type 0
+AreMade d items most desks =
+    (worker : ℕ) (desk : Desk) → worker < length desks → IsMade d (drop (worker * most.items) items) most (get_or desks worker desk).lines
+
+-- the text of lines, those of one worker behind those of another
+abbrev pub text_of : List Lines → List ℕ
+text_of all = flat_map (λ (lines : Lines). lines.text.items) all
+
+-- the text that waits
+abbrev pub waiting_text : Crew → List ℕ
+waiting_text crew = text_of (take crew.ready crew.waiting.items)
+
+-- so many workers, who may go on from where they stand, and the lines of each from the round before, of which those of some are to be put
+pub record IsCrew (d : Design) (workers : ℕ) (crew : Crew) : Type 0 where
+  pub desks_len : length crew.desks.items ≡ workers
+  pub desks : AreDesks d crew.desks.items
+  pub waiting_len : length crew.waiting.items ≡ workers
+  pub ready : crew.ready ≤ workers

@@ -26,14 +26,27 @@ pub struct Seat {
     pub place: Place,
 }
 
-/// A worker: its number, where it stands, and the lines that it made last, with the number of their items. It stands nowhere before it
-/// begins, and where it had no memory.
+/// The lines that a worker made, and of how many items, where there was memory for them.
+#[derive(Drop)]
+pub struct Lines {
+    pub made: Result<u64, NoMemory>,
+    pub text: Vec<u8>,
+}
+
+/// A worker: its number, where it stands, and the lines that it made last. It stands nowhere before it begins, and where it had no memory.
 #[derive(Drop)]
 pub struct Desk {
     pub worker: u32,
     pub seat: Option<Seat>,
-    pub made: Result<u64, NoMemory>,
-    pub text: Vec<u8>,
+    pub lines: Lines,
+}
+
+/// No lines.
+pub fn no_lines(alloc: Global) -> Lines {
+    Lines {
+        made: Ok(0),
+        text: Vec::new(alloc),
+    }
 }
 
 /// The desk of a worker who has not begun.
@@ -44,8 +57,7 @@ fn new_desk(alloc: Global, worker: u32) -> Desk
     Desk {
         worker,
         seat: None,
-        made: Ok(0),
-        text: Vec::new(alloc),
+        lines: no_lines(alloc),
     }
 }
 

@@ -1,6 +1,7 @@
 //! The items of a flattening, and their lines on their way to a sink, by workers beside each other.
 #![tactic(auto)]
 
+mod crew;
 mod cut;
 mod desks;
 mod items;

@@ -98,13 +98,13 @@ pub fn make_lines<S: Shown + Drop>(
     requires fits { first + most.items < 2 ^ 64 }
     ensures worker { desk.new.worker ≡ desk.old.worker }
     ensures seat { ForSome desk.new.seat (IsSeat ground.now) }
-    ensures part { IfOk result (λ count. IsPart ground.now (drop first (flattening ground.now)) most count desk.new.text.items) }
+    ensures part { IfOk result (λ count. IsPart ground.now (drop first (flattening ground.now)) most count desk.new.lines.text.items) }
 {
-    desk.text.clear();
+    desk.lines.text.clear();
     let mut place = place_at(ground, desk.seat.take(), first)?;
     let mut texts = PathTexts::new(ground.alloc(), ground.design());
     texts.keep(place.path.steps.as_slice());
-    let count = add_lines(ground, &mut texts, &mut place, most, &mut desk.text)?;
+    let count = add_lines(ground, &mut texts, &mut place, most, &mut desk.lines.text)?;
     desk.seat = Some(Seat {
         before: first + count,
         place,

@@ -4,11 +4,11 @@ ghost use Rattle.par_flat.specs.declared.limits.TheConstants.{MOST_WORKERS};
 
 use crate::desks::Most;
 
-/// The most items that are made into lines at once, but for those by which equal shares are rounded up.
-pub const MOST_AT_ONCE: u64 = 262_144;
+/// The most items that are made into lines in one round, but for those by which equal shares are rounded up.
+pub const MOST_AT_ONCE: u64 = 131_072;
 
-/// The most bytes of text that are made at once, but for a line of each worker.
-pub const MOST_BYTES: usize = 33_554_432;
+/// The most bytes of text that are made in one round, but for a line of each worker. The texts of two rounds stand in memory.
+pub const MOST_BYTES: usize = 16_777_216;
 
 /// The most items of a worker for which no thread is started: to start and to join one takes as long as some thousand lines.
 pub const FEW_ITEMS: u64 = 1_024;

@@ -1,16 +1,18 @@
 //! `write_par_flat`: the lines of a flattening.
 ghost use Rattle.std.specs.Prelude.{◌≡◌, ◌↔◌, ◌<◌, ◌≤◌, ◌+◌, ◌*◌, ◌^◌, ◌++◌, ◌∷◌, [], ℕ, List, Err, IfErr, IfOk, IsOk, None, OnErr, OnOk, codes, drop, get_or, length, take};
 ghost use Rattle.std.specs.Option.{ForSome};
+ghost use Rattle.std.specs.Thread.{IsSync};
 ghost use Rattle.netdb_outside.specs.Outside.{Appends, AppendsFront, Rose};
 ghost use Rattle.netlist_schema.specs.Design.{Design};
 ghost use Rattle.flat_spec.specs.Flattening.{flattening};
 ghost use Rattle.flat_spec.specs.Types.{Item};
 ghost use Rattle.flat_lines_spec.specs.Lines.{flattening_text, item_lines};
-ghost use Rattle.par_flat.specs.Desks.{AreDesks, AreParts, IsMade, IsReady, IsSeat};
+ghost use Rattle.par_flat.specs.Desks.{AreDesks, AreMade, IsCrew, IsMade, IsReady, IsSeat, text_of, waiting_text};
 ghost use Rattle.par_flat.specs.Lines.{IsRound};
 ghost use Rattle.par_flat.specs.declared.limits.TheConstants.{MOST_WORKERS};
 
-use crate::desks::{Desk, Most, desks_of};
+use crate::crew::{Crew, crew_of, ready_of, take_lines};
+use crate::desks::{Desk, Lines};
 use crate::lines::make_lines;
 use crate::rounds::{MOST_AT_ONCE, Round, are_few, next_at_once, share_of};
 use flat_writer::{FlatError, outcome, write_flat};
@@ -19,7 +21,7 @@ use netlist_schema::Shown;
 use occ_walk::WalkError;
 use par_parts::CountedGround;
 use std::alloc::Global;
-use std::thread::{self, Threads};
+use std::thread::{self, Threads, join_mut};
 
 /// The number of items from which on one walk writes them.
 const MOST_ITEMS: u64 = 9_223_372_036_854_775_808;
@@ -36,14 +38,14 @@ fn work<S: Shown + Drop, G: Gate>(
     requires few { round.first + round.workers * round.most.items < 2 ^ 64 }
     ensures worker { desk.new.worker ≡ desk.old.worker }
     ensures seat { ForSome desk.new.seat (IsSeat ground.now) }
-    ensures made { IsMade ground.now (drop (round.first + desk.old.worker * round.most.items) (flattening ground.now)) round.most desk.new }
+    ensures made { IsMade ground.now (drop (round.first + desk.old.worker * round.most.items) (flattening ground.now)) round.most desk.new.lines }
 {
     let worker = desk.worker;
     let first = round.first + u64::from(worker) * round.most.items;
     gate.reached(worker, 1);
     let made = make_lines(ground, desk, first, round.most);
     gate.reached(worker, 2);
-    desk.made = made;
+    desk.lines.made = made;
 }
 
 /// Has each worker make its lines: in a thread of its own, or where that is not wanted or one can't be started, here. All have ended when
@@ -59,7 +61,7 @@ fn work_each<R: Threads + Sync, S: Shown + Drop + Sync, G: Gate + Sync>(
     requires desks { AreDesks ground.now desks.old }
     requires few { round.first + round.workers * round.most.items < 2 ^ 64 }
     ensures desks { AreDesks ground.now desks.new }
-    ensures parts { AreParts ground.now (drop round.first (flattening ground.now)) round.most desks.new }
+    ensures made { AreMade ground.now (drop round.first (flattening ground.now)) round.most desks.new }
 {
     let threads = if round.threads { desks.len().max(1) } else { 1 };
     thread::for_each_mut(
@@ -71,7 +73,7 @@ fn work_each<R: Threads + Sync, S: Shown + Drop + Sync, G: Gate + Sync>(
             ensures worker { desk.new.worker ≡ desk.old.worker }
             ensures seat { ForSome desk.new.seat (IsSeat ground.entry.now) }
             ensures made { IsMade ground.entry.now
-                (drop (round.first + desk.old.worker * round.most.items) (flattening ground.entry.now)) round.most desk.new }
+                (drop (round.first + desk.old.worker * round.most.items) (flattening ground.entry.now)) round.most desk.new.lines }
         { work(ground, round, gate, desk) },
     );
 }
@@ -90,78 +92,112 @@ fn put<K: Sink>(bytes: &[u8], out: &mut K) -> Result<(), WriteError>
     }
 }
 
-/// Puts the lines of one worker: how many items those are.
-fn put_desk<K: Sink>(desk: &Desk, out: &mut K) -> Result<u64, WriteError>
-    ensures there { OnOk result (IsOk desk.now.made) }
-    ensures count { IfOk result (λ count. IfOk desk.now.made (λ found. count ≡ found)) }
-    ensures ok { (text : List ℕ) → IfOk desk.now.made (λ found. desk.now.text.items ≡ text) → OnOk result (Appends (K.written out.old) (K.written out.new) text) }
-    ensures err { (text : List ℕ) → IfOk desk.now.made (λ found. desk.now.text.items ≡ text) → OnErr result (AppendsFront (K.written out.old) (K.written out.new) text) }
+/// Puts the lines of workers, one behind the other.
+fn put_lines<K: Sink>(ready: &[Lines], out: &mut K) -> Result<(), WriteError>
+    ensures ok { OnOk result (Appends (K.written out.old) (K.written out.new) (text_of ready.now)) }
+    ensures err { OnErr result (AppendsFront (K.written out.old) (K.written out.new) (text_of ready.now)) }
     ensures fault { result ≡ Err WriteError.WriteFault → Rose (K.faults out.old) (K.faults out.new) }
     ensures never_falls { K.faults out.old ≤ K.faults out.new }
 {
-    match desk.made {
-        Ok(count) => {
-            put(desk.text.as_slice(), out)?;
-            Ok(count)
-        }
-        Err(_) => Err(WriteError::NoMemory),
+    for lines in ready {
+        put(lines.text.as_slice(), out)?;
     }
+    Ok(())
 }
 
-/// Puts the lines of the workers, in the order of their numbers, up to the first that stopped early: how many items those are.
-fn put_desks<K: Sink>(desks: &[Desk], most: Most, out: &mut K) -> Result<u64, WriteError>
-    requires few { (w : ℕ) (desk : _) → w < length desks.now → IfOk (get_or desks.now w desk).made (λ count. count ≤ most.items) }
-    requires fits { length desks.now * most.items < 2 ^ 64 }
-    ensures round { (d : Design) (items : List Item) → AreParts d items most desks.now → IfOk result (λ made. IsRound d items most (length desks.now) made) }
-    ensures ok { (d : Design) (items : List Item) → AreParts d items most desks.now
-        → IfOk result (λ made. Appends (K.written out.old) (K.written out.new) (item_lines d (take made items))) }
-    ensures err { (d : Design) (items : List Item) → AreParts d items most desks.now
-        → OnErr result (AppendsFront (K.written out.old) (K.written out.new) (item_lines d items)) }
-    ensures fault { result ≡ Err WriteError.WriteFault → Rose (K.faults out.old) (K.faults out.new) }
-    ensures never_falls { K.faults out.old ≤ K.faults out.new }
-{
-    let mut made = 0;
-    for desk in desks {
-        let count = put_desk(desk, out)?;
-        made += count;
-        if count < most.items {
-            return Ok(made);
-        }
-    }
-    Ok(made)
-}
-
-/// One round: its lines are made, and then put: how many items those are.
-fn put_round<R: Threads + Sync, S: Shown + Drop + Sync, G: Gate + Sync, K: Sink>(
+/// Has the lines of one round made.
+fn make_round<R: Threads + Sync, S: Shown + Drop + Sync, G: Gate + Sync>(
     rt: &R,
     ground: &CountedGround<S>,
     round: Round,
     gate: &G,
-    desks: &mut [Desk],
-    out: &mut K,
-) -> Result<u64, WriteError>
-    requires len { length desks.old ≡ round.workers }
-    requires desks { AreDesks ground.now desks.old }
+    desks: &mut Vec<Desk>,
+)
+    requires len { length desks.old.items ≡ round.workers }
+    requires desks { AreDesks ground.now desks.old.items }
     requires few { round.first + round.workers * round.most.items < 2 ^ 64 }
-    ensures desks { AreDesks ground.now desks.new }
-    ensures round { IfOk result (λ made. IsRound ground.now (drop round.first (flattening ground.now)) round.most round.workers made) }
-    ensures ok { IfOk result (λ made. Appends (K.written out.old) (K.written out.new) (item_lines ground.now (take made (drop round.first (flattening ground.now))))) }
-    ensures err { OnErr result (AppendsFront (K.written out.old) (K.written out.new) (item_lines ground.now (drop round.first (flattening ground.now)))) }
+    ensures len { length desks.new.items ≡ round.workers }
+    ensures desks { AreDesks ground.now desks.new.items }
+    ensures made { AreMade ground.now (drop round.first (flattening ground.now)) round.most desks.new.items }
+{
+    work_each(rt, ground, round, gate, desks.as_mut_slice());
+}
+
+/// Has the lines of one round made, and those that wait put: at the same time, where threads are wanted, else one behind the other.
+fn make_and_put<R: Threads + Sync, S: Shown + Drop + Sync, G: Gate + Sync, K: Sink>(
+    rt: &R,
+    ground: &CountedGround<S>,
+    round: Round,
+    gate: &G,
+    crew: &mut Crew,
+    out: &mut K,
+) -> Result<(), WriteError>
+    requires crew { IsCrew ground.now round.workers crew.old }
+    requires few { round.first + round.workers * round.most.items < 2 ^ 64 }
+    ensures crew { IsCrew ground.now round.workers crew.new }
+    ensures made { AreMade ground.now (drop round.first (flattening ground.now)) round.most crew.new.desks.items }
+    ensures ok { OnOk result (Appends (K.written out.old) (K.written out.new) (waiting_text crew.old)) }
+    ensures err { OnErr result (AppendsFront (K.written out.old) (K.written out.new) (waiting_text crew.old)) }
     ensures fault { result ≡ Err WriteError.WriteFault → Rose (K.faults out.old) (K.faults out.new) }
     ensures never_falls { K.faults out.old ≤ K.faults out.new }
 {
-    work_each(rt, ground, round, gate, desks);
-    put_desks(desks, round.most, out)
+    let ready = ready_of(crew.waiting.as_slice(), crew.ready);
+    let desks = &mut crew.desks;
+    let mut make = ||
+        requires { IsSync R.row × IsSync S.row × IsSync G.row × (length desks.now.items ≡ round.workers) × AreDesks ground.now desks.now.items
+            × (round.first + round.workers * round.most.items < 2 ^ 64) }
+        ensures len { length desks.exit.now.items ≡ round.workers }
+        ensures desks { AreDesks ground.entry.now desks.exit.now.items }
+        ensures made { AreMade ground.entry.now (drop round.first (flattening ground.entry.now)) round.most desks.exit.now.items }
+    { make_round(rt, ground, round, gate, desks) };
+    let mut put = || -> Result<(), WriteError>
+        ensures ok { OnOk result (Appends (K.written out.entry.now) (K.written out.exit.now) (text_of ready.entry.now)) }
+        ensures err { OnErr result (AppendsFront (K.written out.entry.now) (K.written out.exit.now) (text_of ready.entry.now)) }
+        ensures fault { result ≡ Err WriteError.WriteFault → Rose (K.faults out.entry.now) (K.faults out.exit.now) }
+        ensures never_falls { K.faults out.entry.now ≤ K.faults out.exit.now }
+    { put_lines(ready, out) };
+    if round.threads {
+        let ((), put) = join_mut(rt, &mut make, &mut put);
+        return put;
+    }
+    make();
+    put()
 }
 
-/// The desks of so many workers, who have not begun.
-fn new_desks(alloc: Global, workers: u32) -> Result<Vec<Desk>, WriteError>
-    ensures len { IfOk result (λ desks. length desks.items ≡ workers) }
-    ensures each { (d : Design) → IfOk result (λ desks. AreDesks d desks.items) }
+/// One round: its lines are made, and those that wait are put; behind that the lines of the round wait: how many items those are.
+fn next_round<R: Threads + Sync, S: Shown + Drop + Sync, G: Gate + Sync, K: Sink>(
+    rt: &R,
+    ground: &CountedGround<S>,
+    round: Round,
+    gate: &G,
+    crew: &mut Crew,
+    out: &mut K,
+) -> Result<u64, WriteError>
+    requires crew { IsCrew ground.now round.workers crew.old }
+    requires few { round.first + round.workers * round.most.items < 2 ^ 64 }
+    ensures crew { OnOk result (IsCrew ground.now round.workers crew.new) }
+    ensures round { IfOk result (IsRound ground.now (drop round.first (flattening ground.now)) round.most round.workers) }
+    ensures text { IfOk result (λ made. waiting_text crew.new ≡ item_lines ground.now (take made (drop round.first (flattening ground.now)))) }
+    ensures ok { OnOk result (Appends (K.written out.old) (K.written out.new) (waiting_text crew.old)) }
+    ensures err { OnErr result (AppendsFront (K.written out.old) (K.written out.new) (waiting_text crew.old)) }
+    ensures fault { result ≡ Err WriteError.WriteFault → Rose (K.faults out.old) (K.faults out.new) }
+    ensures never_falls { K.faults out.old ≤ K.faults out.new }
+{
+    make_and_put(rt, ground, round, gate, crew, out)?;
+    match take_lines(crew, round.most) {
+        Ok(made) => Ok(made),
+        Err(_) => Err(WriteError::NoMemory),
+    }
+}
+
+/// So many workers, who have not begun.
+fn new_crew(alloc: Global, workers: u32) -> Result<Crew, WriteError>
+    ensures crew { (d : Design) → IfOk result (IsCrew d workers) }
+    ensures none { IfOk result (λ crew. crew.ready ≡ 0) }
     ensures err { IfErr result (λ error. error ≡ WriteError.NoMemory) }
 {
-    match desks_of(alloc, workers) {
-        Ok(desks) => Ok(desks),
+    match crew_of(alloc, workers) {
+        Ok(crew) => Ok(crew),
         Err(_) => Err(WriteError::NoMemory),
     }
 }
@@ -186,7 +222,7 @@ fn put_items<R: Threads + Sync, S: Shown + Drop + Sync, G: Gate + Sync, K: Sink>
     let threads = gate.may_hold() || !are_few(workers, count);
     let mut first = 0;
     let mut at_once = MOST_AT_ONCE;
-    let mut desks = new_desks(ground.alloc(), workers)?;
+    let mut crew = new_crew(ground.alloc(), workers)?;
     'rounds: while first < count {
         let wanted = at_once.min(count - first);
         let round = Round {
@@ -195,11 +231,11 @@ fn put_items<R: Threads + Sync, S: Shown + Drop + Sync, G: Gate + Sync, K: Sink>
             first,
             most: share_of(workers, wanted),
         };
-        let made = put_round(rt, ground, round, gate, desks.as_mut_slice(), out)?;
+        let made = next_round(rt, ground, round, gate, &mut crew, out)?;
         at_once = next_at_once(at_once, wanted, made);
         first += made;
     }
-    Ok(())
+    put_lines(ready_of(crew.waiting.as_slice(), crew.ready), out)
 }
 
 /// Puts the lines of all items, which are that many, and `end`.
@@ -250,10 +286,11 @@ fn write_counted<R: Threads + Sync, S: Shown, W: Shown + Drop + Sync, G: Gate + 
 /// Writes the lines of a design's flattening, and behind them `end`, as `write_flat` does without a limit, where 1 to 64 workers make them
 /// beside each other, each in a thread, or where one can't be started, here. Where the gate holds nobody and there are no more than 1,024
 /// items a worker, no thread is started, and they make their lines one behind the other. They work in rounds, in each of which all have the
-/// same share, but that at the end there may be fewer items. A round makes the lines of no more than 262,144 items (and of fewer more than
-/// there are workers, where their number does not divide that), and no more than 32 MiB of text and a line of each worker, which take no
-/// more than twice that memory: a worker with so much text stops, and the next round begins behind the first that did. A worker goes on
-/// from where it stood in the round before, so what it passes over it passes over once, unless another one stopped.
+/// same share, but that at the end there may be fewer items. A round makes the lines of no more than 131,072 items (and of fewer more than
+/// there are workers, where their number does not divide that), and no more than 16 MiB of text and a line of each worker: a worker with so
+/// much text stops, and the next round begins behind the first that did. The lines of one round are put here while those of the next are
+/// made in threads, so the texts of two rounds stand in memory, which take no more than twice their length. A worker goes on from where it
+/// stood in the round before, so what it passes over it passes over once, unless another one stopped.
 ///
 /// In each round each worker, also one with no item, calls the gate with its number and 1 before its first line, and with 2 behind its
 /// last one.

@@ -39,6 +39,54 @@ impl Sink for Measure {
     }
 }
 
+/// How often a sink looks before it gives up.
+const MOST_LOOKS: u32 = 500_000_000;
+
+/// A sink that keeps no bytes, and takes its first piece only when so many begins were told at a gate: whether they were.
+#[derive(Clone, Copy)]
+pub struct LateSink<'a> {
+    pub gate: &'a TallyGate,
+    pub begins: u64,
+    pub taken: u64,
+    pub met: bool,
+}
+
+impl<'a> LateSink<'a> {
+    /// A sink that took nothing.
+    pub fn new(gate: &'a TallyGate, begins: u64) -> LateSink<'a> {
+        LateSink {
+            gate,
+            begins,
+            taken: 0,
+            met: false,
+        }
+    }
+
+    /// Looks until so many begins were told: whether they were.
+    fn looks(&self) -> bool {
+        for _ in 0..MOST_LOOKS {
+            if self.gate.begins() >= self.begins {
+                return true;
+            }
+        }
+        false
+    }
+}
+
+impl<'a> Sink for LateSink<'a> {
+    ghost written = { λ s. None };
+
+    ghost faults = { λ s. 0 };
+
+    fn put(&mut self, piece: &[u8]) -> Put {
+        if self.taken == 0 {
+            self.met = self.looks();
+        }
+        self.taken = self.taken.saturating_add(piece.len() as u64);
+        Put::Put
+    }
+}
+
 /// A gate that counts those who begin and end, and notes which ones do.
 #[derive(Drop)]
 pub struct TallyGate {

@@ -2,7 +2,7 @@
 ghost use Rattle.std.specs.Prelude.{◌≤◌};
 
 use crate::designs::{bare, board, counter, heavy, tree};
-use crate::measures::{Measure, TallyGate};
+use crate::measures::{LateSink, Measure, TallyGate};
 use flat_report::item_text;
 use flat_spec::Item;
 use flat_writer::{FlatError, write_flat};
@@ -209,7 +209,7 @@ fn a_worker_without_lines_calls_the_gate_too(rt: HostRuntime) -> Result<(), Fail
 }
 
 /// How long a text of one of 64 workers may be behind which it makes no line, and the longest piece that it may make: a line more.
-const BOUND: u64 = 524_288;
+const BOUND: u64 = 262_144;
 
 const LONGEST: u64 = BOUND + 61_000;
 
@@ -235,5 +235,23 @@ fn is_bounded<R: Threads + Abort + Sync>(rt: &R, alloc: Global, design: &Design)
 fn no_more_text_is_made_than_may_be(rt: HostRuntime) -> Result<(), Fail> {
     let heavy = heavy(rt.alloc())?;
     is_bounded(&rt, rt.alloc(), &heavy);
+    Ok(())
+}
+
+/// The first lines are taken only when 64 workers have begun their first round and one of them has begun the next.
+fn is_beside<R: Threads + Abort + Sync>(rt: &R, alloc: Global, design: &Design) {
+    let gate = TallyGate::new();
+    let mut out = LateSink::new(&gate, 65);
+    write_par_flat(rt, alloc, design, 64, &gate, &mut out).expect(rt, "a text");
+    assert!(rt;
+        out.met,
+        "no round was begun before the one before was written"
+    );
+}
+
+#[test]
+fn a_round_is_written_while_the_next_is_made(rt: HostRuntime) -> Result<(), Fail> {
+    let heavy = heavy(rt.alloc())?;
+    is_beside(&rt, rt.alloc(), &heavy);
     Ok(())
 }
