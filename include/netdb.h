@@ -1,7 +1,7 @@
 /* The netdb database for tools in C and C++: link libnetdb_c.a. docs/c-library.md has a page on it, library/netdb.py the same for Python.
 
-   A handle is a struct of the caller's, a `netdb` or a `netdb_view`. It begins as NETDB_CLOSED, is passed by its address, and is never
-   copied. A call on a null address, on a closed handle, on one of the other kind, for a seat that is none, or at a wrong time answers
+   A handle is a struct of the caller's, a `netdb`, a `netdb_view` or a `netdb_ask`. It begins as NETDB_CLOSED, is passed by its address, and
+   is never copied. A call on a null address, on a closed handle, on one of another kind, for a seat that is none, or at a wrong time answers
    NETDB_WRONG_USE and changes nothing. No call ends the process, waits for another one, or starts a thread.
 
    A database has 64 seats, numbered from 0. Each is a caller of its own, with its pin, its transaction and its conflicts.
@@ -9,8 +9,9 @@
    A parameter that is `const` holds afterwards what it held before.
 
    Threads: a handle is in one call at a time, also where it is `const`, so callers in threads put a lock of their own round the calls on a
-   database, whatever the seat. A view stands alone: it shares no lock with its database or with other views, and stays readable when they
-   are closed. A handle goes to another thread only with the threads' own ordering, as by a lock, a start or a join; no proof covers that.
+   database, whatever the seat. A view stands alone, and so do questions: they share no lock with their database or with others, and stay
+   readable when these are closed. A handle goes to another thread only with the threads' own ordering, as by a lock, a start or a join; no
+   proof covers that.
 
    What nothing checks, and a caller owes:
    - A handle begins as NETDB_CLOSED: what stands in fresh memory is none.
@@ -40,7 +41,7 @@ typedef enum netdb_status {
     NETDB_WRONG_USE = 1,
     NETDB_BAD_DESIGN = 2,  /* the text says what is wrong with the bytes, and where */
     NETDB_BAD_LINE = 3,    /* the line says no operation */
-    NETDB_CONFLICT = 4,    /* the text says the object and the version */
+    NETDB_CONFLICT = 4,    /* the text says the object and the version; an empty text: there was no memory for it */
     NETDB_LOG_FULL = 5,    /* the history has no room for the call */
     NETDB_NO_MEMORY = 6,   /* nothing was changed but a text that the call would have had */
     NETDB_END = 7,         /* no item is left */
@@ -52,7 +53,10 @@ typedef enum netdb_status {
     NETDB_WRITE_FAULT = 13,/* a write failed; a front of the text was written */
     NETDB_NO_FIELD = 14,   /* the item has no such field */
     NETDB_STOPPED = 15,    /* the function that takes pieces said so */
-    NETDB_TEXT_LOST = 16   /* the call was done; there was no memory for its text */
+    NETDB_TEXT_LOST = 16,  /* the call was done; there was no memory for its text */
+    NETDB_NO_NAME = 17,    /* the occurrence has no such net or port, or the port no such bit */
+    NETDB_NO_NET = 18,     /* no net joins the bit there */
+    NETDB_APART = 19       /* the two nets are not connected */
 } netdb_status;
 
 /* The name of a status in lower case, as "wrong use"; "unknown" for any other number. */
@@ -67,6 +71,11 @@ typedef struct netdb_view {
     bool is_open;
     void *inside;
 } netdb_view;
+
+typedef struct netdb_ask {
+    bool is_open;
+    void *inside;
+} netdb_ask;
 
 #define NETDB_CLOSED { false, NULL }
 #define NETDB_SEATS 64
@@ -90,7 +99,8 @@ netdb_status netdb_begin(netdb *db, uint32_t seat);
 /* Runs one line of a script's transaction; docs/scripts.md has the lines. The text is the reply, which may be a refusal. */
 netdb_status netdb_line(netdb *db, uint32_t seat, const char *line, size_t length);
 /* Commits the transaction and gives the version that it makes; the seat holds its pin then, on the version that it was on. At
-   NETDB_CONFLICT the number is that of the version that clashes, and the transaction goes on. */
+   NETDB_CONFLICT the number is that of the version that clashes, and the transaction goes on. An empty text after NETDB_CONFLICT means that
+   there was no memory for it: the line of a conflict is never empty. */
 netdb_status netdb_commit(netdb *db, uint32_t seat, uint64_t *version);
 /* Ends the transaction without a commit; the seat holds its pin then. */
 netdb_status netdb_abandon(netdb *db, uint32_t seat);
@@ -150,6 +160,50 @@ netdb_status netdb_write_fd(const netdb_view *view, netdb_what what, int fd);
    version. There are no transcripts. */
 netdb_status netdb_report(const netdb *db, netdb_take *take, void *context);
 netdb_status netdb_report_fd(const netdb *db, int fd);
+
+/* ---- questions
+
+   What is asked of one version without walking it; docs/questions.md says more. A path is a text as a script writes it, identifiers with `/`
+   between them, or with one more `/` before them all; `/` alone is the top. Nets and ports go by their identifiers, and case counts. The
+   answer is the text of the handle, the line of an item as of `netdb flat`. Of each refusal the cause comes in this order: NETDB_NO_PATH
+   where the text leads to no occurrence, NETDB_NO_NAME where the occurrence has no such net or port, or the port no such bit, and then
+   NETDB_NO_NET where no net joins the bit. After a refusal the text is as before. */
+
+/* Opens questions about the version that a seat holds, and makes their index: it takes time in proportion to the cells of the design, and
+   never to the occurrences. NETDB_NO_TOP comes where the design has no top. What the handle held before is closed where the call is done. */
+netdb_status netdb_ask_open(netdb_ask *ask, const netdb *db, uint32_t seat);
+void netdb_ask_close(netdb_ask *ask);
+/* The number of its version. */
+netdb_status netdb_ask_version(const netdb_ask *ask, uint64_t *version);
+size_t netdb_ask_text(const netdb_ask *ask, char *room, size_t length);
+
+/* The occurrence at a path: `inst PATH LIBRARY CELL` and its effective properties. */
+netdb_status netdb_ask_at(netdb_ask *ask, const char *path, size_t path_length);
+/* The first of the nets that are connected with the net at a bit of an occurrence, seen from outside: `net PATH NET PATH NET`. */
+netdb_status netdb_ask_net_of(netdb_ask *ask, const char *path, size_t path_length, const char *port, size_t port_length, uint32_t bit);
+/* The same, seen from inside the occurrence: of the net of its own contents that joins the bit. */
+netdb_status netdb_ask_inner_net_of(netdb_ask *ask, const char *path, size_t path_length, const char *port, size_t port_length, uint32_t bit);
+/* The first of the nets that are connected with a net of an occurrence, by which the flattening names them all. */
+netdb_status netdb_ask_first_of(netdb_ask *ask, const char *path, size_t path_length, const char *net, size_t net_length);
+/* Whether two nets are connected: NETDB_DONE, or NETDB_APART. The first is refused, and else the other. The text stays. */
+netdb_status netdb_ask_same(netdb_ask *ask, const char *path, size_t path_length, const char *net, size_t net_length,
+                            const char *other_path, size_t other_path_length, const char *other_net, size_t other_net_length);
+
+typedef enum netdb_role {
+    NETDB_ANY = 0,
+    NETDB_DRIVERS = 1, /* outputs of leaves and inputs of the top, and pins that lead both ways or whose direction is not told */
+    NETDB_LOADS = 2    /* inputs of leaves and outputs of the top, and those others too */
+} netdb_role;
+
+/* Begin a list, in place of one that was begun before: of the pins of a net on all levels that stand in a role at it, of the occurrences
+   right below an occurrence, of its nets. The text stays. */
+netdb_status netdb_ask_pins(netdb_ask *ask, const char *path, size_t path_length, const char *net, size_t net_length, netdb_role role);
+netdb_status netdb_ask_insts(netdb_ask *ask, const char *path, size_t path_length);
+netdb_status netdb_ask_nets(netdb_ask *ask, const char *path, size_t path_length);
+/* Goes on to the next item of the list, in the order of the flattening. The text is its line. Each is found when it is asked for: the first
+   pin of a net of a million comes as soon as that of one of ten. NETDB_END comes where none is left, and NETDB_WRONG_USE where no list was
+   begun. */
+netdb_status netdb_ask_next(netdb_ask *ask);
 
 #ifdef __cplusplus
 }

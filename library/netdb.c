@@ -8,7 +8,7 @@
 
 typedef uint32_t status_number;
 
-/* The exports, which take places that are not null. Both kinds of handle are one struct to them. */
+/* The exports, which take places that are not null. The kinds of handle are one struct to them. */
 status_number netdb_c_open(netdb *of, const uint8_t *bytes, size_t length);
 void netdb_c_close(netdb *of);
 size_t netdb_c_text_length(netdb *of);
@@ -29,6 +29,18 @@ status_number netdb_c_next(netdb_view *of);
 status_number netdb_c_field(netdb_view *of, uint32_t which);
 status_number netdb_c_write(netdb_view *of, uint32_t what, int32_t fd);
 status_number netdb_c_report(netdb *of, int32_t fd);
+status_number netdb_c_ask(netdb *of, uint32_t seat, netdb_ask *out);
+status_number netdb_c_ask_version(netdb_ask *of, uint64_t *version);
+status_number netdb_c_ask_at(netdb_ask *of, const uint8_t *path, size_t path_length);
+status_number netdb_c_ask_net_of(netdb_ask *of, const uint8_t *path, size_t path_length, const uint8_t *port, size_t port_length, uint32_t bit);
+status_number netdb_c_ask_inner_net_of(netdb_ask *of, const uint8_t *path, size_t path_length, const uint8_t *port, size_t port_length, uint32_t bit);
+status_number netdb_c_ask_first_of(netdb_ask *of, const uint8_t *path, size_t path_length, const uint8_t *net, size_t net_length);
+status_number netdb_c_ask_same(netdb_ask *of, const uint8_t *path, size_t path_length, const uint8_t *net, size_t net_length,
+                               const uint8_t *other_path, size_t other_path_length, const uint8_t *other_net, size_t other_net_length);
+status_number netdb_c_ask_pins(netdb_ask *of, const uint8_t *path, size_t path_length, const uint8_t *net, size_t net_length, uint32_t role);
+status_number netdb_c_ask_insts(netdb_ask *of, const uint8_t *path, size_t path_length);
+status_number netdb_c_ask_nets(netdb_ask *of, const uint8_t *path, size_t path_length);
+status_number netdb_c_ask_next(netdb_ask *of);
 
 uint32_t netdb_interface(void) { return NETDB_INTERFACE; }
 
@@ -51,6 +63,9 @@ const char *netdb_status_name(netdb_status status) {
     case NETDB_NO_FIELD: return "no field";
     case NETDB_STOPPED: return "stopped";
     case NETDB_TEXT_LOST: return "text lost";
+    case NETDB_NO_NAME: return "no name";
+    case NETDB_NO_NET: return "no net";
+    case NETDB_APART: return "apart";
     }
     return "unknown";
 }
@@ -176,3 +191,64 @@ netdb_status netdb_report(const netdb *db, netdb_take *take, void *context) {
     if (!(file = tmpfile())) return NETDB_WRITE_FAULT;
     return closed(file, netdb_report_fd(db, fileno(file)), take, context);
 }
+
+netdb_status netdb_ask_open(netdb_ask *ask, const netdb *db, uint32_t seat) {
+    if (!ask || !db || (const void *)ask == (const void *)db) return NETDB_WRONG_USE;
+    return (netdb_status)netdb_c_ask((netdb *)db, seat, ask);
+}
+
+void netdb_ask_close(netdb_ask *ask) { netdb_close((netdb *)ask); }
+
+size_t netdb_ask_text(const netdb_ask *ask, char *room, size_t length) { return netdb_text((const netdb *)ask, room, length); }
+
+netdb_status netdb_ask_version(const netdb_ask *ask, uint64_t *version) {
+    return ask && version ? (netdb_status)netdb_c_ask_version((netdb_ask *)ask, version) : NETDB_WRONG_USE;
+}
+
+/* A text as a row of bytes. */
+static const uint8_t *bytes_of(const char *text) { return (const uint8_t *)from(text); }
+
+netdb_status netdb_ask_at(netdb_ask *ask, const char *path, size_t path_length) {
+    if (!ask || !is_there(path, path_length)) return NETDB_WRONG_USE;
+    return (netdb_status)netdb_c_ask_at(ask, bytes_of(path), path_length);
+}
+
+netdb_status netdb_ask_net_of(netdb_ask *ask, const char *path, size_t path_length, const char *port, size_t port_length, uint32_t bit) {
+    if (!ask || !is_there(path, path_length) || !is_there(port, port_length)) return NETDB_WRONG_USE;
+    return (netdb_status)netdb_c_ask_net_of(ask, bytes_of(path), path_length, bytes_of(port), port_length, bit);
+}
+
+netdb_status netdb_ask_inner_net_of(netdb_ask *ask, const char *path, size_t path_length, const char *port, size_t port_length, uint32_t bit) {
+    if (!ask || !is_there(path, path_length) || !is_there(port, port_length)) return NETDB_WRONG_USE;
+    return (netdb_status)netdb_c_ask_inner_net_of(ask, bytes_of(path), path_length, bytes_of(port), port_length, bit);
+}
+
+netdb_status netdb_ask_first_of(netdb_ask *ask, const char *path, size_t path_length, const char *net, size_t net_length) {
+    if (!ask || !is_there(path, path_length) || !is_there(net, net_length)) return NETDB_WRONG_USE;
+    return (netdb_status)netdb_c_ask_first_of(ask, bytes_of(path), path_length, bytes_of(net), net_length);
+}
+
+netdb_status netdb_ask_same(netdb_ask *ask, const char *path, size_t path_length, const char *net, size_t net_length,
+                            const char *other_path, size_t other_path_length, const char *other_net, size_t other_net_length) {
+    if (!ask || !is_there(path, path_length) || !is_there(net, net_length)) return NETDB_WRONG_USE;
+    if (!is_there(other_path, other_path_length) || !is_there(other_net, other_net_length)) return NETDB_WRONG_USE;
+    return (netdb_status)netdb_c_ask_same(ask, bytes_of(path), path_length, bytes_of(net), net_length, bytes_of(other_path), other_path_length,
+                                          bytes_of(other_net), other_net_length);
+}
+
+netdb_status netdb_ask_pins(netdb_ask *ask, const char *path, size_t path_length, const char *net, size_t net_length, netdb_role role) {
+    if (!ask || !is_there(path, path_length) || !is_there(net, net_length)) return NETDB_WRONG_USE;
+    return (netdb_status)netdb_c_ask_pins(ask, bytes_of(path), path_length, bytes_of(net), net_length, (uint32_t)role);
+}
+
+netdb_status netdb_ask_insts(netdb_ask *ask, const char *path, size_t path_length) {
+    if (!ask || !is_there(path, path_length)) return NETDB_WRONG_USE;
+    return (netdb_status)netdb_c_ask_insts(ask, bytes_of(path), path_length);
+}
+
+netdb_status netdb_ask_nets(netdb_ask *ask, const char *path, size_t path_length) {
+    if (!ask || !is_there(path, path_length)) return NETDB_WRONG_USE;
+    return (netdb_status)netdb_c_ask_nets(ask, bytes_of(path), path_length);
+}
+
+netdb_status netdb_ask_next(netdb_ask *ask) { return ask ? (netdb_status)netdb_c_ask_next(ask) : NETDB_WRONG_USE; }

@@ -6,7 +6,8 @@
         for item in pin.view().walk():
             print(item.kind, item.path)
 
-A handle is in one call at a time: callers in threads put a lock of their own round the calls on a database. A view needs no lock but its own.
+A handle is in one call at a time: callers in threads put a lock of their own round the calls on a database. A view needs no lock but its own,
+and neither do questions.
 NETDB_LIBRARY in the environment names another library than the one beside this file."""
 
 from __future__ import annotations
@@ -40,6 +41,9 @@ class Status(enum.IntEnum):
     NO_FIELD = 14
     STOPPED = 15
     TEXT_LOST = 16
+    NO_NAME = 17
+    NO_NET = 18
+    APART = 19
 
 
 class NetdbError(Exception):
@@ -60,7 +64,7 @@ class BadDesign(NetdbError):
 
 
 class Conflict(NetdbError):
-    """A commit met a later one. `object` is what both touch, and `version` the later one's."""
+    """A commit met a later one. `object` is what both touch, empty where there was no memory for it, and `version` the later one's."""
 
     def __init__(self, text: str, version: int) -> None:
         super().__init__(Status.CONFLICT, version, text.strip())
@@ -197,6 +201,129 @@ class View(_Owner):
         return b"".join(pieces)
 
 
+class Role(enum.IntEnum):
+    """As what a pin stands at its net."""
+
+    ANY = 0
+    DRIVERS = 1
+    LOADS = 2
+
+
+@dataclass(frozen=True)
+class Instance:
+    """An occurrence: its path, its library and cell, and its effective properties as the line has them."""
+
+    path: str
+    library: str
+    cell: str
+    properties: str
+
+
+@dataclass(frozen=True)
+class Net:
+    """A net, by the path of its occurrence and its name there."""
+
+    path: str
+    name: str
+
+
+@dataclass(frozen=True)
+class NetPin:
+    """A pin of a net: a bit of a port of the top, or of a leaf below it."""
+
+    path: str
+    port: str
+    bit: int
+
+
+class Questions(_Owner):
+    """What is asked of a version without walking it. Paths are texts, as `core/alu/add_7`, or `/` for the top; nets and ports go by their
+    names. Where there is no such occurrence, net, port or bit, a call raises NetdbError with NO_PATH or NO_NAME. Questions stay when their
+    database is closed."""
+
+    def __init__(self) -> None:
+        super().__init__()
+        self._lists = 0
+
+    def __enter__(self) -> Questions:
+        return self
+
+    @property
+    def version(self) -> int:
+        return self._number("netdb_ask_version")
+
+    @staticmethod
+    def _words(*texts: str) -> list[object]:
+        """Texts as a call takes them. A character is a byte."""
+        return [word for text in texts for word in (text.encode("latin-1"), ctypes.c_size_t(len(text)))]
+
+    def _net(self, name: str, *words: object) -> Net | None:
+        """The net that answers a question; none where no net joins the bit."""
+        if self._ask(name, *words, also=Status.NO_NET) == Status.NO_NET:
+            return None
+        return Net(*self._text().split()[1:3])
+
+    def _list(self, name: str, *words: object) -> Iterator[list[str]]:
+        """Begins a list, and gives the words of one item after another, each without the first word."""
+        self._ask(name, *words)
+        self._lists += 1
+        return self._rest(self._lists)
+
+    def _rest(self, number: int) -> Iterator[list[str]]:
+        while number == self._lists:
+            if self._ask("netdb_ask_next", also=Status.END) == Status.END:
+                return
+            yield self._text().rstrip("\n").split(" ")[1:]
+        raise RuntimeError("another list was begun before the end of this one")
+
+    def at(self, path: str) -> Instance:
+        """What is at a path."""
+        self._ask("netdb_ask_at", *self._words(path))
+        return _instance(self._text().rstrip("\n").split(" ")[1:])
+
+    def net_of(self, path: str, port: str, bit: int = 0) -> Net | None:
+        """The first of the nets that are connected with the one at a pin, seen from outside; none where no net joins it."""
+        return self._net("netdb_ask_net_of", *self._words(path, port), ctypes.c_uint32(bit))
+
+    def inner_net_of(self, path: str, port: str, bit: int = 0) -> Net | None:
+        """The same, seen from inside the occurrence."""
+        return self._net("netdb_ask_inner_net_of", *self._words(path, port), ctypes.c_uint32(bit))
+
+    def first_of(self, net: Net) -> Net:
+        """The first of the nets that are connected with a net."""
+        self._ask("netdb_ask_first_of", *self._words(net.path, net.name))
+        return Net(*self._text().split()[1:3])
+
+    def is_same(self, one: Net, other: Net) -> bool:
+        """Whether two nets are connected."""
+        return self._ask("netdb_ask_same", *self._words(one.path, one.name, other.path, other.name), also=Status.APART) == Status.DONE
+
+    def pins(self, net: Net, role: Role = Role.ANY) -> Iterator[NetPin]:
+        """The pins of a net through all levels, in path order, each found when it is asked for. One such list goes on at a time."""
+        words = self._list("netdb_ask_pins", *self._words(net.path, net.name), ctypes.c_int(role))
+        return (NetPin(path, port, int(bit)) for path, port, bit, *_ in words)
+
+    def drivers(self, net: Net) -> Iterator[NetPin]:
+        """Those that drive the net."""
+        return self.pins(net, Role.DRIVERS)
+
+    def loads(self, net: Net) -> Iterator[NetPin]:
+        """Those that the net loads."""
+        return self.pins(net, Role.LOADS)
+
+    def insts(self, path: str = "/") -> list[Instance]:
+        """The occurrences right below one, in the order of its contents."""
+        return [_instance(words) for words in self._list("netdb_ask_insts", *self._words(path))]
+
+    def nets(self, path: str = "/") -> list[tuple[Net, Net]]:
+        """The nets of an occurrence, each with the first of those that are connected with it."""
+        return [(Net(*words[:2]), Net(*words[2:])) for words in self._list("netdb_ask_nets", *self._words(path))]
+
+
+def _instance(words: list[str]) -> Instance:
+    return Instance(words[0], words[1], words[2], " ".join(words[3:]))
+
+
 class Transaction:
     """A transaction of a seat. As a context manager it commits at its end, where it is not over by then; where an exception comes, or a
     conflict, it is abandoned."""
@@ -246,6 +373,11 @@ class Pin:
         view = View()
         view._ask("netdb_view_open", ctypes.byref(self._db._handle), self._seat)
         return view
+
+    def questions(self) -> Questions:
+        questions = Questions()
+        questions._ask("netdb_ask_open", ctypes.byref(self._db._handle), self._seat)
+        return questions
 
     def release(self) -> None:
         self._db._ask("netdb_release", self._seat)

@@ -47,6 +47,12 @@ static int view_says(const netdb_view *view, const char *want) {
     return whole == strlen(want) && !memcmp(room, want, whole);
 }
 
+static int ask_says(const netdb_ask *ask, const char *want) {
+    char room[4096];
+    size_t whole = netdb_ask_text(ask, room, sizeof room);
+    return whole == strlen(want) && !memcmp(room, want, whole);
+}
+
 /* Gathers pieces, as many bytes as there is room for; stops where it is told so. */
 struct gathered {
     size_t length, calls;
@@ -66,6 +72,7 @@ static int gather(void *context, const void *piece, size_t count) {
 static void misuse(void) {
     netdb db = NETDB_CLOSED;
     netdb_view view = NETDB_CLOSED;
+    netdb_ask ask = NETDB_CLOSED;
     uint64_t number = 99;
     uint32_t step = 0;
     /* null addresses */
@@ -86,16 +93,31 @@ static void misuse(void) {
     WANT(netdb_write(NULL, NETDB_EDIF, gather, NULL) == NETDB_WRONG_USE && netdb_write(&view, NETDB_EDIF, NULL, NULL) == NETDB_WRONG_USE);
     WANT(netdb_write_fd(NULL, NETDB_EDIF, 1) == NETDB_WRONG_USE && netdb_report_fd(NULL, 1) == NETDB_WRONG_USE);
     WANT(netdb_report(NULL, gather, NULL) == NETDB_WRONG_USE && netdb_report(&db, NULL, NULL) == NETDB_WRONG_USE);
-    WANT(netdb_text(NULL, NULL, 0) == 0 && netdb_view_text(NULL, NULL, 0) == 0);
+    WANT(netdb_text(NULL, NULL, 0) == 0 && netdb_view_text(NULL, NULL, 0) == 0 && netdb_ask_text(NULL, NULL, 0) == 0);
+    WANT(netdb_ask_open(NULL, &db, 0) == NETDB_WRONG_USE && netdb_ask_open(&ask, NULL, 0) == NETDB_WRONG_USE);
+    WANT(netdb_ask_open((netdb_ask *)&db, &db, 0) == NETDB_WRONG_USE);
+    WANT(netdb_ask_version(NULL, &number) == NETDB_WRONG_USE && netdb_ask_version(&ask, NULL) == NETDB_WRONG_USE);
+    WANT(netdb_ask_at(NULL, "/", 1) == NETDB_WRONG_USE && netdb_ask_at(&ask, NULL, 1) == NETDB_WRONG_USE);
+    WANT(netdb_ask_net_of(NULL, "/", 1, "A", 1, 0) == NETDB_WRONG_USE && netdb_ask_net_of(&ask, NULL, 1, "A", 1, 0) == NETDB_WRONG_USE);
+    WANT(netdb_ask_net_of(&ask, "/", 1, NULL, 1, 0) == NETDB_WRONG_USE && netdb_ask_inner_net_of(NULL, "/", 1, "A", 1, 0) == NETDB_WRONG_USE);
+    WANT(netdb_ask_inner_net_of(&ask, NULL, 1, "A", 1, 0) == NETDB_WRONG_USE && netdb_ask_inner_net_of(&ask, "/", 1, NULL, 1, 0) == NETDB_WRONG_USE);
+    WANT(netdb_ask_first_of(NULL, "/", 1, "a", 1) == NETDB_WRONG_USE && netdb_ask_first_of(&ask, "/", 1, NULL, 1) == NETDB_WRONG_USE);
+    WANT(netdb_ask_same(NULL, "/", 1, "a", 1, "/", 1, "a", 1) == NETDB_WRONG_USE && netdb_ask_same(&ask, "/", 1, "a", 1, "/", 1, NULL, 1) == NETDB_WRONG_USE);
+    WANT(netdb_ask_pins(NULL, "/", 1, "a", 1, NETDB_ANY) == NETDB_WRONG_USE && netdb_ask_pins(&ask, NULL, 1, "a", 1, NETDB_ANY) == NETDB_WRONG_USE);
+    WANT(netdb_ask_insts(NULL, "/", 1) == NETDB_WRONG_USE && netdb_ask_insts(&ask, NULL, 1) == NETDB_WRONG_USE);
+    WANT(netdb_ask_nets(NULL, "/", 1) == NETDB_WRONG_USE && netdb_ask_nets(&ask, NULL, 1) == NETDB_WRONG_USE && netdb_ask_next(NULL) == NETDB_WRONG_USE);
     netdb_close(NULL);
     netdb_view_close(NULL);
+    netdb_ask_close(NULL);
     /* closed handles */
     WANT(netdb_pin(&db, 0, &number) == NETDB_WRONG_USE && number == 99);
     WANT(netdb_text(&db, NULL, 0) == 0);
     WANT(netdb_next(&view) == NETDB_WRONG_USE && netdb_walk(&view) == NETDB_WRONG_USE);
-    WANT(netdb_view_open(&view, &db, 0) == NETDB_WRONG_USE);
+    WANT(netdb_view_open(&view, &db, 0) == NETDB_WRONG_USE && netdb_ask_open(&ask, &db, 0) == NETDB_WRONG_USE);
+    WANT(netdb_ask_at(&ask, "/", 1) == NETDB_WRONG_USE && netdb_ask_next(&ask) == NETDB_WRONG_USE && netdb_ask_text(&ask, NULL, 0) == 0);
     netdb_close(&db);
     netdb_view_close(&view);
+    netdb_ask_close(&ask);
     /* bytes that are no design, also none at all */
     WANT(netdb_open(&db, NULL, 0) == NETDB_BAD_DESIGN && netdb_text(&db, NULL, 0) > 0);
     WANT(netdb_open(&db, "(edif x)", 8) == NETDB_BAD_DESIGN && netdb_text(&db, NULL, 0) > 0);
@@ -193,6 +215,74 @@ static void views(void) {
     free(text);
 }
 
+static netdb_status at(netdb_ask *ask, const char *path) { return netdb_ask_at(ask, path, strlen(path)); }
+
+static netdb_status net_of(netdb_ask *ask, const char *path, const char *port, uint32_t bit) {
+    return netdb_ask_net_of(ask, path, strlen(path), port, strlen(port), bit);
+}
+
+static netdb_status inner_net_of(netdb_ask *ask, const char *path, const char *port, uint32_t bit) {
+    return netdb_ask_inner_net_of(ask, path, strlen(path), port, strlen(port), bit);
+}
+
+static netdb_status first_of(netdb_ask *ask, const char *path, const char *net) {
+    return netdb_ask_first_of(ask, path, strlen(path), net, strlen(net));
+}
+
+static netdb_status same(netdb_ask *ask, const char *path, const char *net, const char *other_path, const char *other_net) {
+    return netdb_ask_same(ask, path, strlen(path), net, strlen(net), other_path, strlen(other_path), other_net, strlen(other_net));
+}
+
+static netdb_status pins(netdb_ask *ask, const char *path, const char *net, netdb_role role) {
+    return netdb_ask_pins(ask, path, strlen(path), net, strlen(net), role);
+}
+
+/* What is left of the list are these lines, each of which is one item's. */
+static int lists(netdb_ask *ask, const char *const *lines) {
+    for (; *lines; lines++)
+        if (netdb_ask_next(ask) != NETDB_DONE || !ask_says(ask, *lines)) return 0;
+    return netdb_ask_next(ask) == NETDB_END && netdb_ask_next(ask) == NETDB_END;
+}
+
+static void questions(void) {
+    static const char no_top[] = "(edif e (edifVersion 2 0 0) (edifLevel 0) (keywordMap (keywordLevel 0)))";
+    static const char *const of_m[] = {"pin /s0/i Y 0 / m\n", "pin /s1/i A 0 / m\n", NULL};
+    static const char *const drive_a[] = {"pin / A 0 / a\n", NULL}, *const load_a[] = {"pin /s0/i A 0 / a\n", NULL};
+    static const char *const inside[] = {"inst /s0 work stage\n", "inst /s1 work stage\n", NULL};
+    static const char *const nets[] = {"net /s1 a / m\n", "net /s1 y / y\n", NULL}, *const none[] = {NULL};
+    netdb db = NETDB_CLOSED;
+    netdb_ask ask = NETDB_CLOSED;
+    uint64_t number = 99;
+    WANT(netdb_open(&db, bytes, length) == NETDB_DONE && netdb_ask_open(&ask, &db, 0) == NETDB_WRONG_USE);
+    WANT(netdb_pin(&db, 0, &number) == NETDB_DONE && netdb_ask_open(&ask, &db, 0) == NETDB_DONE);
+    WANT(netdb_pin((netdb *)&ask, 0, &number) == NETDB_WRONG_USE && netdb_walk((netdb_view *)&ask) == NETDB_WRONG_USE);
+    WANT(netdb_ask_at((netdb_ask *)&db, "/", 1) == NETDB_WRONG_USE && netdb_write_fd((netdb_view *)&ask, NETDB_EDIF, 1) == NETDB_WRONG_USE);
+    netdb_close(&db);
+    /* the questions live on */
+    WANT(netdb_ask_version(&ask, &number) == NETDB_DONE && number == 0);
+    WANT(at(&ask, "/") == NETDB_DONE && ask_says(&ask, "inst / work top\n") && at(&ask, "s1/i") == NETDB_DONE && ask_says(&ask, "inst /s1/i cells INV\n"));
+    WANT(at(&ask, "s2") == NETDB_NO_PATH && netdb_ask_at(&ask, NULL, 0) == NETDB_NO_PATH && ask_says(&ask, "inst /s1/i cells INV\n"));
+    WANT(net_of(&ask, "/s1/i", "A", 0) == NETDB_DONE && ask_says(&ask, "net / m / m\n"));
+    WANT(net_of(&ask, "s3", "A", 0) == NETDB_NO_PATH && net_of(&ask, "s1", "B", 0) == NETDB_NO_NAME && net_of(&ask, "s1", "A", 1) == NETDB_NO_NAME);
+    WANT(inner_net_of(&ask, "s1", "Y", 0) == NETDB_DONE && ask_says(&ask, "net / y / y\n"));
+    WANT(inner_net_of(&ask, "s1/i", "Y", 0) == NETDB_NO_NET && inner_net_of(&ask, "s1/i", "y", 0) == NETDB_NO_NAME);
+    WANT(first_of(&ask, "s0", "y") == NETDB_DONE && ask_says(&ask, "net / m / m\n"));
+    WANT(first_of(&ask, "s0", "m") == NETDB_NO_NAME && first_of(&ask, "s0/", "y") == NETDB_NO_PATH);
+    WANT(same(&ask, "s0", "y", "s1", "a") == NETDB_DONE && same(&ask, "s0", "y", "/", "y") == NETDB_APART);
+    WANT(same(&ask, "s0", "z", "s9", "a") == NETDB_NO_NAME && same(&ask, "s0", "y", "s9", "a") == NETDB_NO_PATH);
+    WANT(netdb_ask_next(&ask) == NETDB_WRONG_USE && pins(&ask, "/", "m", (netdb_role)3) == NETDB_WRONG_USE && netdb_ask_next(&ask) == NETDB_WRONG_USE);
+    WANT(pins(&ask, "s0", "y", NETDB_ANY) == NETDB_DONE && lists(&ask, of_m));
+    WANT(pins(&ask, "/", "a", NETDB_DRIVERS) == NETDB_DONE && lists(&ask, drive_a) && pins(&ask, "/", "a", NETDB_LOADS) == NETDB_DONE && lists(&ask, load_a));
+    WANT(pins(&ask, "/", "n", NETDB_ANY) == NETDB_NO_NAME && pins(&ask, "/n", "n", NETDB_ANY) == NETDB_NO_PATH);
+    WANT(netdb_ask_insts(&ask, "/", 1) == NETDB_DONE && lists(&ask, inside) && netdb_ask_insts(&ask, "s1/i", 4) == NETDB_DONE && lists(&ask, none));
+    WANT(netdb_ask_nets(&ask, "s1", 2) == NETDB_DONE && lists(&ask, nets));
+    WANT(netdb_ask_insts(&ask, "i", 1) == NETDB_NO_PATH && netdb_ask_nets(&ask, "i", 1) == NETDB_NO_PATH);
+    WANT(netdb_open(&db, no_top, sizeof no_top - 1) == NETDB_DONE && netdb_pin(&db, 0, &number) == NETDB_DONE);
+    WANT(netdb_ask_open(&ask, &db, 0) == NETDB_NO_TOP && at(&ask, "s0") == NETDB_DONE);
+    netdb_ask_close(&ask);
+    netdb_close(&db);
+}
+
 /* A history has 4,194,304 places. */
 static void full_log(void) {
     netdb db = NETDB_CLOSED;
@@ -208,7 +298,7 @@ static void names(void) {
     int status;
     WANT(netdb_interface() == NETDB_INTERFACE);
     WANT(!strcmp(netdb_status_name(NETDB_CONFLICT), "conflict") && !strcmp(netdb_status_name((netdb_status)99), "unknown"));
-    for (status = NETDB_DONE; status <= NETDB_TEXT_LOST; status++) WANT(strcmp(netdb_status_name((netdb_status)status), "unknown"));
+    for (status = NETDB_DONE; status <= NETDB_APART; status++) WANT(strcmp(netdb_status_name((netdb_status)status), "unknown"));
 }
 
 /* Makes a call again that found no memory, and gives its status otherwise. */
@@ -217,6 +307,7 @@ static void names(void) {
 static void small_run(void) {
     netdb db = NETDB_CLOSED;
     netdb_view view = NETDB_CLOSED;
+    netdb_ask ask = NETDB_CLOSED;
     uint64_t number;
     netdb_status status;
     AGAIN(status, netdb_open(&db, bytes, length));
@@ -239,6 +330,19 @@ static void small_run(void) {
     } while (status != NETDB_END);
     AGAIN(status, netdb_report_fd(&db, 1));
     WANT(status == NETDB_DONE);
+    AGAIN(status, netdb_ask_open(&ask, &db, 0));
+    WANT(status == NETDB_DONE);
+    AGAIN(status, at(&ask, "s0/i"));
+    WANT(status == NETDB_DONE && ask_says(&ask, "inst /s0/i cells INV\n"));
+    AGAIN(status, net_of(&ask, "s0/i", "Y", 0));
+    WANT(status == NETDB_DONE && ask_says(&ask, "net / m / m\n"));
+    AGAIN(status, pins(&ask, "/", "m", NETDB_ANY));
+    WANT(status == NETDB_DONE);
+    do {
+        AGAIN(status, netdb_ask_next(&ask));
+        WANT(status == NETDB_DONE || status == NETDB_END || status == NETDB_TEXT_LOST);
+    } while (status != NETDB_END);
+    netdb_ask_close(&ask);
     netdb_view_close(&view);
     netdb_close(&db);
 }
@@ -273,6 +377,7 @@ int main(int count, char **words) {
     misuse();
     seats();
     views();
+    questions();
     full_log();
     return 0;
 }

@@ -152,10 +152,48 @@ def conflict():
         assert error.byte is not None, error
 
 
+def refused(status, call, *words):
+    try:
+        call(*words)
+        sys.exit(f"calls.py: {call.__name__} is not refused")
+    except netdb.NetdbError as error:
+        assert error.status == status, error
+
+
+def questions():
+    """Each question in Python's words, on the example of two stages."""
+    with netdb.Netdb.open(os.path.join(TOP, "examples", "stages.edif")) as db, db.pin() as pin:
+        asked = pin.questions()
+    with asked:
+        a, m, y = (netdb.Net("/", name) for name in "amy")
+        assert asked.version == 0
+        assert asked.at("s1/i") == netdb.Instance("/s1/i", "cells", "INV", "")
+        assert asked.net_of("s1/i", "A") == m and asked.inner_net_of("s1", "Y") == y and asked.inner_net_of("s1/i", "Y") is None
+        assert asked.first_of(netdb.Net("s0", "y")) == m
+        assert asked.is_same(netdb.Net("s0", "y"), netdb.Net("s1", "a")) and not asked.is_same(m, y)
+        assert list(asked.pins(m)) == [netdb.NetPin("/s0/i", "Y", 0), netdb.NetPin("/s1/i", "A", 0)]
+        assert list(asked.drivers(a)) == [netdb.NetPin("/", "A", 0)] and list(asked.loads(a)) == [netdb.NetPin("/s0/i", "A", 0)]
+        assert [inst.path for inst in asked.insts()] == ["/s0", "/s1"] and asked.insts("s0/i") == []
+        assert asked.nets("s1") == [(netdb.Net("/s1", "a"), m), (netdb.Net("/s1", "y"), y)]
+        refused(netdb.Status.NO_PATH, asked.at, "s2")
+        refused(netdb.Status.NO_NAME, asked.net_of, "s1", "A", 1)
+        refused(netdb.Status.NO_NAME, asked.pins, netdb.Net("/", "n"))
+        refused(netdb.Status.NO_PATH, asked.nets, "i")
+        first = asked.pins(m)
+        next(first)
+        asked.pins(a)
+        try:
+            next(first)
+            sys.exit("calls.py: a list goes on behind another")
+        except RuntimeError:
+            pass
+
+
 def main():
     count = int(sys.argv[1]) if len(sys.argv) > 1 else 10
     draw = random.Random(int(sys.argv[2]) if len(sys.argv) > 2 else 1)
     conflict()
+    questions()
     with tempfile.TemporaryDirectory() as folder:
         steps = sum(compare(draw, folder) for _ in range(count))
     print(f"calls.py: {count} scripts of {steps} steps by command and by library: the same")

@@ -352,6 +352,20 @@ fn unknown<W: Write>(out: &mut W) -> Result<(), Stop> {
     Ok(())
 }
 
+/// Answers one question.
+fn answer_once<W: Write>(
+    out: &mut W,
+    ask: &Ask<Design>,
+    names: &Names<&Design>,
+    alloc: Global,
+    words: &[&str],
+) -> Result<(), Stop> {
+    if !words.is_empty() && words[0] == "named" {
+        return answer_named(out, ask, names, &words[1..]);
+    }
+    answer_words(out, ask, alloc, words)
+}
+
 /// Answers one line.
 fn answer<W: Write>(
     out: &mut W,
@@ -362,11 +376,8 @@ fn answer<W: Write>(
 ) -> Result<(), Stop> {
     let words: Vec<&str> = line.split_whitespace().collect(alloc)?;
     let words = words.as_slice();
-    if !words.is_empty() && words[0] == "named" {
-        return answer_named(out, ask, names, &words[1..]);
-    }
     if words.len() < 2 || words[0] != "again" {
-        return answer_words(out, ask, alloc, words);
+        return answer_once(out, ask, names, alloc, words);
     }
     let Some(count) = number(Some(words[1])) else {
         return unknown(out);
@@ -374,9 +385,9 @@ fn answer<W: Write>(
     let question = &words[2..];
     for _ in 1..count {
         let mut nothing = io::sink();
-        answer_words(&mut nothing, ask, alloc, question)?;
+        answer_once(&mut nothing, ask, names, alloc, question)?;
     }
-    answer_words(out, ask, alloc, question)
+    answer_once(out, ask, names, alloc, question)
 }
 
 fn main(rt: HostRuntime) -> Result<(), Stop> {

@@ -120,7 +120,6 @@ impl Version {
     }
 
     /// The library with this name.
-
     pub fn lib_named(&self, name: &Ident) -> Option<LibId>
         ensures value { result ≡ lib_named self.now name.now }
         ensures valid { IsValid self.now }

@@ -46,6 +46,7 @@ fn unended(end: u64) -> TreeError
 }
 
 impl Making {
+    /// A tree of which nothing was read. Takes no memory.
     pub fn new(alloc: Global) -> Making
         ensures { HasRead result [] }
     {

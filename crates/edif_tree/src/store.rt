@@ -76,6 +76,7 @@ fn add_node(nodes: &mut Vec<StoredNode>, place: u64, kind: StoredKind) -> Result
 }
 
 impl Store {
+    /// A store that holds no form. Takes no memory.
     pub fn new(alloc: Global) -> Store
         ensures { result ≡ record { rows = []; loose = [] } }
     {

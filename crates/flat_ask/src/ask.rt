@@ -2,20 +2,22 @@
 ghost use Rattle.std.specs.Prelude.{◌≡◌, ◌↔◌, ◌++◌, ◌∷◌, [], Err, IfOk, None, Some};
 ghost use Rattle.std.specs.Option.{option_copied, option_map};
 ghost use Rattle.netlist_schema.specs.Valid.{IsValid};
+ghost use Rattle.flat_cells.specs.Below.{AreCellsBelow};
 ghost use Rattle.flat_spec.specs.Paths.{at_path};
 ghost use Rattle.flat_items.specs.Lent.{net_of as net_lent, properties_of as properties_lent};
 ghost use Rattle.flat_items.specs.Stand.{IsGround, top_of};
 ghost use Rattle.ask_spec.specs.Nets.{first_of, inner_net_of, is_same_net, net_of, pins_of};
 ghost use Rattle.ask_spec.specs.Places.{at, insts_of, nets_of, properties_of};
-ghost use Rattle.ask_spec.specs.Roles.{drivers, loads};
-ghost use Rattle.flat_ask.specs.Asks.{IsBase};
+ghost use Rattle.ask_spec.specs.Roles.{drivers, loads, pins_as};
+ghost use Rattle.flat_ask.specs.Asks.{IsBase, kept_for};
 ghost use Rattle.net_ways.specs.Ways.{AreWays};
+ghost use Rattle.net_pins.specs.Spots.{IsKept};
 
 use ask_spec::Role;
 use flat_cells::cells_below;
 use flat_items::{Ground, NetRef, PropertiesRef, Steps};
 use flat_lookup::{cell_along, inst_at, insts_at, nets_at};
-use net_pins::{Kept, Pins, keep, pins_as};
+use net_pins::{Kept, Listing, Pins, keep, list_as, pins_as};
 use net_ways::{Ways, first_of, net_inside, net_joined, top_cell};
 use netlist_schema::{CellId, Inst, Net, NoMemory, Property, Shared, Shown};
 use std::alloc::Global;
@@ -35,11 +37,11 @@ pub enum AskError {
 
 /// A design of whose flattening something is asked, and which this owns. Contracts see the design. Several may ask it beside each other.
 pub struct Ask<S: Shown + Drop> {
-    ground: Ground<S>,
+    ground: Shared<Ground<S>>,
     ways: Ways,
-    any: Kept,
-    drivers: Kept,
-    loads: Kept,
+    any: Shared<Kept>,
+    drivers: Shared<Kept>,
+    loads: Shared<Kept>,
 }
 
 impl<S: Shown + Drop> Drop for Ask<S> {
@@ -72,6 +74,48 @@ impl<S: Shown + Drop> Model for Ask<S> {
         × IsKept Load (S.design a.ground.design) a.ground.classes a.loads.rows a.loads.tops };
 }
 
+/// What is kept of the pins that stand in a role, to be held by several.
+fn keep_shared<S: Shown + Drop>(
+    ground: &Ground<S>,
+    top: CellId,
+    below: &[CellId],
+    role: Role,
+) -> Result<Shared<Kept>, NoMemory>
+    requires ground { IsGround (S.design ground.now.design) ground.now.classes ground.now.notes }
+    requires is_top { (top_of (S.design ground.now.design)).cell ≡ top }
+    requires below { AreCellsBelow (S.design ground.now.design) top below.now }
+    ensures { IfOk result (λ kept. IsKept role (S.design ground.now.design) ground.now.classes kept.rows kept.tops) }
+{
+    let kept = keep(ground, top, below, role)?;
+    Shared::of(ground.alloc, kept)
+}
+
+/// All that is kept, with the ground to be held by several.
+fn joined<S: Shown + Drop>(
+    ground: Ground<S>,
+    ways: Ways,
+    any: Shared<Kept>,
+    drivers: Shared<Kept>,
+    loads: Shared<Kept>,
+) -> Result<Ask<S>, NoMemory>
+    requires ground { IsGround (S.design ground.design) ground.classes ground.notes }
+    requires ways { AreWays (S.design ground.design) ground.classes ways }
+    requires any { IsKept Role.Any (S.design ground.design) ground.classes any.rows any.tops }
+    requires drivers { IsKept Role.Driver (S.design ground.design) ground.classes drivers.rows drivers.tops }
+    requires loads { IsKept Role.Load (S.design ground.design) ground.classes loads.rows loads.tops }
+    ensures { IfOk result (λ ask. ask ≡ S.design ground.design) }
+{
+    let alloc = ground.alloc;
+    let shared = Shared::of(alloc, ground)?;
+    Ok(Ask {
+        ground: shared,
+        ways,
+        any,
+        drivers,
+        loads,
+    })
+}
+
 /// Makes ready to ask of a design whose top has this cell.
 fn ready<S: Shown + Drop>(alloc: Global, design: S, top: CellId) -> Result<Ask<S>, NoMemory>
     requires valid { IsValid (S.design design) }
@@ -83,16 +127,10 @@ fn ready<S: Shown + Drop>(alloc: Global, design: S, top: CellId) -> Result<Ask<S
     let below = cells_below(alloc, &ground.design, top)?;
     let ways = Ways::of(alloc, &ground.design, &ground.classes)?;
     let cells = below.as_slice();
-    let any = keep(&ground, top, cells, Role::Any)?;
-    let drivers = keep(&ground, top, cells, Role::Driver)?;
-    let loads = keep(&ground, top, cells, Role::Load)?;
-    Ok(Ask {
-        ground,
-        ways,
-        any,
-        drivers,
-        loads,
-    })
+    let any = keep_shared(&ground, top, cells, Role::Any)?;
+    let drivers = keep_shared(&ground, top, cells, Role::Driver)?;
+    let loads = keep_shared(&ground, top, cells, Role::Load)?;
+    joined(ground, ways, any, drivers, loads)
 }
 
 /// The properties of the instance that leads to an occurrence below the top by a step.
@@ -148,6 +186,22 @@ fn lent_properties<'a, S: Shown + Drop>(
     }))
 }
 
+/// What is kept for a role.
+fn kept_for<'a>(
+    any: &'a Shared<Kept>,
+    drivers: &'a Shared<Kept>,
+    loads: &'a Shared<Kept>,
+    role: Role,
+) -> &'a Shared<Kept>
+    ensures { result.now ≡ kept_for role any.now drivers.now loads.now }
+{
+    match role {
+        Role::Any => any,
+        Role::Driver => drivers,
+        Role::Load => loads,
+    }
+}
+
 /// The cell of the occurrence at a path: `None` exactly where there is none.
 fn cell_at_path<S: Shown>(design: &S, path: &[u32]) -> Option<CellId>
     requires { (S.design design.now).top ≡ Some (top_of (S.design design.now)) }
@@ -179,14 +233,14 @@ impl<S: Shown + Drop> Ask<S> {
     pub fn design(&self) -> &S
         ensures { S.design result.now ≡ self.now }
     {
-        &self.ground.design
+        &self.ground.get().design
     }
 
     /// The cell of the occurrence at a path: `None` exactly where there is none. It takes time in proportion to the path, and no memory.
     pub fn at(&self, path: &[u32]) -> Option<CellId>
         ensures { result ≡ at self.now path.now }
     {
-        cell_at_path(&self.ground.design, path)
+        cell_at_path(&self.ground.get().design, path)
     }
 
     /// Lends the effective properties of the occurrence at a path: `None` exactly where there is none. It takes time in proportion to the
@@ -194,7 +248,7 @@ impl<S: Shown + Drop> Ask<S> {
     pub fn properties_of(&self, path: &[u32]) -> Result<Option<PropertiesRef<'_>>, NoMemory>
         ensures { IfOk result (λ found. option_map properties_lent found ≡ properties_of self.now path.now) }
     {
-        lent_properties(&self.ground, path)
+        lent_properties(self.ground.get(), path)
     }
 
     /// The instances in the occurrence at a path, in order: none of a leaf, and none where there is no occurrence. It takes time in
@@ -203,7 +257,7 @@ impl<S: Shown + Drop> Ask<S> {
         ensures { result.now ≡ insts_of self.now path.now }
     {
         match self.at(path) {
-            Some(cell) => insts_at(&self.ground.design, cell),
+            Some(cell) => insts_at(&self.ground.get().design, cell),
             None => &[],
         }
     }
@@ -214,7 +268,7 @@ impl<S: Shown + Drop> Ask<S> {
         ensures { result.now ≡ nets_of self.now path.now }
     {
         match self.at(path) {
-            Some(cell) => nets_at(&self.ground.design, cell),
+            Some(cell) => nets_at(&self.ground.get().design, cell),
             None => &[],
         }
     }
@@ -225,7 +279,7 @@ impl<S: Shown + Drop> Ask<S> {
     pub fn first_of<'a>(&self, path: &'a [u32], net: u32) -> Result<NetRef<'a>, NoMemory>
         ensures { IfOk result (λ first. net_lent first ≡ first_of self.now (at_path path.now net)) }
     {
-        first_of(&self.ground, &self.ways, path, net)
+        first_of(self.ground.get(), &self.ways, path, net)
     }
 
     /// The first of the nets that are connected with the net at a bit of the occurrence at a path, seen from outside: `None` exactly where
@@ -238,7 +292,7 @@ impl<S: Shown + Drop> Ask<S> {
     ) -> Result<Option<NetRef<'a>>, NoMemory>
         ensures { IfOk result (λ found. option_map net_lent found ≡ net_of self.now path.now port bit) }
     {
-        net_joined(&self.ground, &self.ways, path, port, bit)
+        net_joined(self.ground.get(), &self.ways, path, port, bit)
     }
 
     /// The same, seen from inside the occurrence: the first of the nets that are connected with that net of its own contents which joins the
@@ -251,7 +305,7 @@ impl<S: Shown + Drop> Ask<S> {
     ) -> Result<Option<NetRef<'a>>, NoMemory>
         ensures { IfOk result (λ found. option_map net_lent found ≡ inner_net_of self.now path.now port bit) }
     {
-        net_inside(&self.ground, &self.ways, path, port, bit)
+        net_inside(self.ground.get(), &self.ways, path, port, bit)
     }
 
     /// The pins of the class of a net, which any of its nets names: those that the flattening names by the class' first net, in their
@@ -261,7 +315,14 @@ impl<S: Shown + Drop> Ask<S> {
     pub fn pins_of<'a>(&'a self, path: &'a [u32], net: u32) -> Result<Pins<'a, S>, NoMemory>
         ensures { IfOk result (λ pins. pins.left ≡ pins_of self.now (at_path path.now net)) }
     {
-        pins_as(&self.ground, &self.ways, &self.any, Role::Any, path, net)
+        pins_as(
+            self.ground.get(),
+            &self.ways,
+            self.any.get(),
+            Role::Any,
+            path,
+            net,
+        )
     }
 
     /// The pins of the class of a net that drive it, strongly or weakly, as the electrical check counts them: outputs of leaves and inputs
@@ -270,9 +331,9 @@ impl<S: Shown + Drop> Ask<S> {
         ensures { IfOk result (λ pins. pins.left ≡ drivers self.now (at_path path.now net)) }
     {
         pins_as(
-            &self.ground,
+            self.ground.get(),
             &self.ways,
-            &self.drivers,
+            self.drivers.get(),
             Role::Driver,
             path,
             net,
@@ -284,7 +345,23 @@ impl<S: Shown + Drop> Ask<S> {
     pub fn loads<'a>(&'a self, path: &'a [u32], net: u32) -> Result<Pins<'a, S>, NoMemory>
         ensures { IfOk result (λ pins. pins.left ≡ loads self.now (at_path path.now net)) }
     {
-        pins_as(&self.ground, &self.ways, &self.loads, Role::Load, path, net)
+        pins_as(
+            self.ground.get(),
+            &self.ways,
+            self.loads.get(),
+            Role::Load,
+            path,
+            net,
+        )
+    }
+
+    /// The pins of the class of a net that stand in a role at it: any, its drivers or its loads. The listing holds the design with what is
+    /// kept of it, so it goes on when the `Ask` is gone. Each pin comes as from `pins_of`, and in its time.
+    pub fn list(&self, role: Role, path: &[u32], net: u32) -> Result<Listing<S>, NoMemory>
+        ensures { IfOk result (λ pins. pins ≡ pins_as role self.now (at_path path.now net)) }
+    {
+        let kept = kept_for(&self.any, &self.drivers, &self.loads, role);
+        list_as(&self.ground, &self.ways, kept, role, path, net)
     }
 
     /// Whether two nets are connected. It takes time and memory as `first_of` for both.

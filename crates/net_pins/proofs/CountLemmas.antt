@@ -10,13 +10,11 @@ use Rattle.net_classes.specs.Joints.{IsNotBehind}
 use Rattle.net_classes.specs.declared.joints.Joint.{Joint}
 use Rattle.net_pins.specs.Levels.{IsNextOf}
 use Rattle.net_ways.specs.Counts.{IsCountOf}
-use Rattle.net_pins.specs.Order.{bit_before, joint_before}
-use Rattle.net_pins.specs.Tops.{IsNextBit, bit_of}
-use Rattle.net_pins.specs.declared.tops.OwnBit.{OwnBit}
+use Rattle.net_rows.specs.Tops.{bit_before}
+use Rattle.net_pins.specs.Order.{joint_before}
 use Rattle.net_ways.proofs.CountLemmas.{all_before, not_before}
-use Rattle.net_pins.proofs.OrderLemmas.{bit_before-from, bit_before-true}
+use Rattle.net_rows.proofs.BitLemmas.{bit_before-from, bit_before-true}
 
--- joints
 pub joint_back : (inst : ℕ) (b : Bit) (i j : Joint) → IsNotBehind i j → joint_before inst b j ≡ true → joint_before inst b i ≡ true
 joint_back inst b i j order e = go order (or_cases (nat_lt j.inst inst) (nat_eq j.inst inst && bit_before (record { port = j.port; bit = j.bit }) b) e)
   where
@@ -61,33 +59,3 @@ next_joint joints inst b count (Some next) order is at = (
               let parts = and_parts (nat_eq next.inst next.inst) (bit_before (record { port = next.port; bit = next.bit }) (record { port = next.port; bit = next.bit })) k in
               elim (bit_before-true (record { port = next.port; bit = next.bit }) (record { port = next.port; bit = next.bit }) parts.1) [ inl p ↦ omega (arith, p) | inr p ↦ omega (arith, p.1) ]
         ]
-
--- bits of the top
-pub bit_back : (b : Bit) (v w : OwnBit) → BitBefore (bit_of v) (bit_of w) → bit_before (bit_of w) b ≡ true → bit_before (bit_of v) b ≡ true
-bit_back b v w order e = bit_before-from (bit_of v) b (more order (bit_before-true (bit_of w) b e))
-  where
-    more : BitBefore (bit_of v) (bit_of w) → BitBefore (bit_of w) b → BitBefore (bit_of v) b
-    more (inl p) h = elim h [ inl k ↦ inl (omega (arith, p, k)) | inr k ↦ inl (omega (arith, p, k.0)) ]
-    more (inr p) h = elim h [ inl k ↦ inl (omega (arith, p.0, k)) | inr k ↦ inr (p.0 ∙ k.0, omega (arith, p.1, k.1)) ]
-
-pub next_bit : (bits : List OwnBit) (b : Bit) (count : ℕ) (o : Option OwnBit) → AllPairs (λ v w. BitBefore (bit_of v) (bit_of w)) bits → IsCountOf (λ own. bit_before (bit_of own) b) bits count
-    → o ≡ slice_get bits count → IsNextBit bits b o
-next_bit bits b count None order is at = λ own has. all_before (λ v. bit_before (bit_of v) b) bits count is (sym at) own has
-next_bit bits b count (Some next) order is at = (
-  slice_get-contains bits count next (sym at),
-  is.back count next (omega arith) (sym at),
-  λ own has not_so. behind own (not_before (λ v. bit_before (bit_of v) b) bits count is next (sym at) own has not_so (λ v w. BitBefore (bit_of v) (bit_of w)) order),
-)
-  where
-    behind : (own : OwnBit) → (next ≡ own) ⊎ BitBefore (bit_of next) (bit_of own) → bit_before (bit_of own) (bit_of next) ≡ false
-    behind own h = false_from_ne_true (bit_before (bit_of own) (bit_of next)) (λ e. elim h [
-      | inl same ↦ not_itself (bit_before-true (bit_of next) (bit_of next) (subst (λ (v : OwnBit). bit_before (bit_of v) (bit_of next) ≡ true) (sym same) e))
-      | inr less ↦ not_itself (both less (bit_before-true (bit_of own) (bit_of next) e))
-    ])
-      where
-        not_itself : BitBefore (bit_of next) (bit_of next) → ⊥
-        not_itself h = elim h [ inl p ↦ omega (arith, p) | inr p ↦ omega (arith, p.1) ]
-
-        both : BitBefore (bit_of next) (bit_of own) → BitBefore (bit_of own) (bit_of next) → BitBefore (bit_of next) (bit_of next)
-        both (inl p) h = elim h [ inl k ↦ inl (omega (arith, p, k)) | inr k ↦ inl (omega (arith, p, k.0)) ]
-        both (inr p) h = elim h [ inl k ↦ inl (omega (arith, p.0, k)) | inr k ↦ inr (p.0 ∙ k.0, omega (arith, p.1, k.1)) ]

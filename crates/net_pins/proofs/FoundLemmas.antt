@@ -17,14 +17,14 @@ use Rattle.net_classes.specs.declared.joints.Joint.{Joint}
 use Rattle.net_pins.specs.Levels.{AreInOrder, AreLevels, IsNextOf, LeadsTo, leads_in}
 use Rattle.net_pins.specs.Moves.{CanLeave, IsBelowAt, IsBlock, IsDropped, IsLeadAt, IsOwnBit, NothingHere, IsOwnLevel, at_bit, bit_at, entered, last_step, made_ready, moved, passed_by}
 use Rattle.net_pins.specs.Spots.{MayAsk, MayStand, Question, Stand, left, passed, pin_of}
-use Rattle.net_pins.specs.Tops.{IsNextBit, bits_in}
+use Rattle.net_rows.specs.Tops.{IsNextBit, bits_in}
 use Rattle.net_pins.specs.declared.levels.Level.{Level}
 use Rattle.net_pins.specs.declared.spot.Below.{Below}
-use Rattle.net_pins.specs.declared.tops.OwnBit.{OwnBit}
+use Rattle.net_rows.specs.declared.tops.OwnBit.{OwnBit}
 use Rattle.net_pins.proofs.LeadLemmas.{joint_inst, lead_of_level}
 use Rattle.net_pins.proofs.MoveLemmas.{block_left, block_stands, entered_left, entered_stands, leaf_left, leaf_stands}
 use Rattle.net_pins.proofs.PassLemmas.{next_is, passed_stands}
-use Rattle.net_pins.proofs.RowLemmas.{row_order}
+use Rattle.net_rows.proofs.RowLemmas.{row_order}
 use Rattle.net_pins.proofs.StandLemmas.{IsInside, inside_at, last_push}
 use Rattle.net_pins.proofs.StartLemmas.{into_left, into_stands, nowhere_left, own_left, own_level_is, own_stands}
 

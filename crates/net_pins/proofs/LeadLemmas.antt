@@ -33,13 +33,13 @@ use Rattle.net_classes.specs.declared.joints.Joint.{Joint}
 use Rattle.flat_items.specs.declared.notes.PlacedNotes.{PlacedNotes}
 use Rattle.flat_items.specs.Stand.{IsGround, top_of}
 use Rattle.net_pins.specs.Levels.{IsLevel, LeadsTo, leads_in}
-use Rattle.net_pins.specs.Rows.{AreRows, Table, direction_in, joints_of, leads, port_stands}
+use Rattle.net_rows.specs.Rows.{AreRows, Table, direction_in, joints_of, leads, port_stands}
 use Rattle.net_ways.specs.Ways.{firsts_in, joints_in}
 use Rattle.net_pins.specs.declared.levels.Level.{Level}
 use Rattle.net_ways.proofs.ClimbLemmas.{first_is, first_of_net, joint_joins, joins_joint}
 use Rattle.net_pins.proofs.DownLemmas.{below_apart, from_above, to_below}
 use Rattle.net_pins.proofs.LeftLemmas.{pin_asked}
-use Rattle.net_pins.proofs.RowLemmas.{block_leads, in_row, joint_net, leaf_leads, leaf_stands, row_has}
+use Rattle.net_rows.proofs.RowLemmas.{block_leads, in_row, joint_net, leaf_leads, leaf_stands, row_has}
 
 -- a pin of a leaf below the top stands at its net as its port tells
 strong_below : (path : List ℕ) (i : ℕ) (o : Option Direction) → is_strong_port (path ++ i ∷ []) o ≡ is_output o

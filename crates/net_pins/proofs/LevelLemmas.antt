@@ -14,7 +14,7 @@ use Rattle.net_classes.specs.Joints.{IsNotBehind}
 use Rattle.net_classes.specs.declared.joints.Joint.{Joint}
 use Rattle.net_pins.specs.Levels.{AreAdded, IsLeadAdded, IsNextOf, leads_in}
 use Rattle.net_pins.specs.Order.{joint_before}
-use Rattle.net_pins.specs.Rows.{Table, joints_of}
+use Rattle.net_rows.specs.Rows.{Table, joints_of}
 use Rattle.net_ways.specs.Counts.{IsCountOf}
 use Rattle.net_pins.proofs.MoveLemmas.{before_from, before_parts, bit_of, first_bit}
 use Rattle.net_pins.proofs.OrderLemmas.{bits_compare, none_before_first}

@@ -2,18 +2,13 @@ mod BackLemmas
 mod CountLemmas
 mod DownLemmas
 mod FoundLemmas
-mod IndexLemmas
 pub mod KeptLemmas
 mod LeadLemmas
 mod LeftLemmas
 mod LevelLemmas
-mod ListLemmas
 mod MoveLemmas
-mod NestedLemmas
 mod OrderLemmas
 mod PassLemmas
 mod RoomLemmas
-mod RowLemmas
 mod StandLemmas
 mod StartLemmas
-mod TopLemmas

@@ -20,12 +20,14 @@ use Rattle.net_classes.specs.declared.joints.Joint.{Joint}
 use Rattle.flat_items.specs.Stand.{top_of}
 use Rattle.net_pins.specs.Levels.{AreLevels, IsLevel, IsNextOf, LeadsTo, leads_in}
 use Rattle.net_pins.specs.Moves.{bit_at, entered, made_ready, moved}
-use Rattle.net_pins.specs.Order.{PinPlace, bit_before, joint_before}
+use Rattle.net_rows.specs.Tops.{bit_before}
+use Rattle.net_pins.specs.Order.{PinPlace, joint_before}
 use Rattle.net_pins.specs.Spots.{IsLowest, MayAsk, MayStand, Question, Stand, left, place_of}
 use Rattle.net_pins.specs.declared.levels.Level.{Level}
 use Rattle.net_pins.proofs.LeadLemmas.{body_of, body_there, has_contents, lead_is_pin, level_goes_down, pin_has_lead, shows_leaf}
 use Rattle.net_pins.proofs.LeftLemmas.{place_in}
-use Rattle.net_pins.proofs.OrderLemmas.{PathBefore-under, PinBefore-more, between, bit_before-from, bit_before-true, bits_compare, none_before_first}
+use Rattle.net_rows.proofs.BitLemmas.{bit_before-from, bit_before-true}
+use Rattle.net_pins.proofs.OrderLemmas.{PathBefore-under, PinBefore-more, between, bits_compare, none_before_first}
 use Rattle.net_pins.proofs.StandLemmas.{IsAsked, IsInside, levels_push, same_left, set_push}
 
 abbrev pub first_bit : Bit

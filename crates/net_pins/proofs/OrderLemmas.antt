@@ -6,7 +6,9 @@ use Rattle.std.proofs.lemmas.Bool.{and_from, and_parts, cases_order, eq-eqb, eqb
 use Rattle.flat_spec.specs.PathOrder.{PathBefore}
 use Rattle.flat_spec.specs.Paths.{Bit}
 use Rattle.erc_spec.specs.Told.{BitBefore, PinBefore}
-use Rattle.net_pins.specs.Order.{PinPlace, bit_before, path_before, place_before}
+use Rattle.net_rows.specs.Tops.{bit_before}
+use Rattle.net_rows.proofs.BitLemmas.{bit_before-from, bit_before-true}
+use Rattle.net_pins.specs.Order.{PinPlace, path_before, place_before}
 
 -- the tests tell the order
 pub path_before-true : (p q : List ℕ) → path_before p q ≡ true → PathBefore p q
@@ -37,18 +39,6 @@ same_path-true (i ∷ p) (j ∷ q) e =
 pub same_path-refl : (p : List ℕ) → pointwise nat_eq p p ≡ true
 same_path-refl [] = refl
 same_path-refl (i ∷ p) = and_from (nat_eq i i) (pointwise nat_eq p p) (eq-eqb i i refl) (same_path-refl p)
-
-pub bit_before-true : (a b : Bit) → bit_before a b ≡ true → BitBefore a b
-bit_before-true a b e = elim (or_cases (nat_lt a.port b.port) (nat_eq a.port b.port && nat_lt a.bit b.bit) e) [
-  | inl less ↦ inl (ltb-true a.port b.port less)
-  | inr same ↦ let parts = and_parts (nat_eq a.port b.port) (nat_lt a.bit b.bit) same in inr (eqb-true a.port b.port parts.0, ltb-true a.bit b.bit parts.1)
-]
-
-pub bit_before-from : (a b : Bit) → BitBefore a b → bit_before a b ≡ true
-bit_before-from a b h = elim h [
-  | inl less ↦ or_left (nat_lt a.port b.port) (nat_eq a.port b.port && nat_lt a.bit b.bit) (lt-ltb a.port b.port less)
-  | inr same ↦ or_right (nat_lt a.port b.port) (nat_eq a.port b.port && nat_lt a.bit b.bit) (and_from (nat_eq a.port b.port) (nat_lt a.bit b.bit) (eq-eqb a.port b.port same.0) (lt-ltb a.bit b.bit same.1))
-]
 
 pub place_before-true : (p q : PinPlace) → place_before p q ≡ true → PinBefore p q
 place_before-true p q e = elim (or_cases (path_before p.0 q.0) (pointwise nat_eq p.0 q.0 && bit_before p.1 q.1) e) [

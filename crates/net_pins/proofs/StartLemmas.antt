@@ -37,19 +37,20 @@ use Rattle.net_classes.specs.Inside.{IsFirstAt}
 use Rattle.flat_items.specs.Stand.{top_of}
 use Rattle.net_pins.specs.Levels.{AreLevels, IsLevel}
 use Rattle.net_pins.specs.Moves.{at_bit, bit_at, entered, made_ready}
-use Rattle.net_pins.specs.Order.{PinPlace, bit_before}
-use Rattle.net_pins.specs.Rows.{direction_in, port_stands}
+use Rattle.net_pins.specs.Order.{PinPlace}
+use Rattle.net_rows.specs.Rows.{direction_in, port_stands}
 use Rattle.net_pins.specs.Spots.{MayAsk, MayStand, Question, Stand, left, place_of}
-use Rattle.net_pins.specs.Tops.{bit_of, bit_stands, bits_in}
+use Rattle.net_rows.specs.Tops.{bit_before, bit_of, bit_stands, bits_in}
 use Rattle.net_ways.specs.Ways.{firsts_in}
 use Rattle.net_pins.specs.declared.levels.Level.{Level}
-use Rattle.net_pins.specs.declared.tops.OwnBit.{OwnBit}
+use Rattle.net_rows.specs.declared.tops.OwnBit.{OwnBit}
 use Rattle.net_ways.proofs.ClimbLemmas.{IsOuterNet, at_top, first_at_is, first_is, first_net as first_net_of, none_outer, outer_is, told_at}
 use Rattle.net_pins.proofs.DownLemmas.{outer_exists, rep_front}
 use Rattle.net_pins.proofs.LeadLemmas.{direction_is, some_net}
 use Rattle.net_pins.proofs.LeftLemmas.{place_in, pin_asked}
 use Rattle.net_pins.proofs.MoveLemmas.{first_bit}
-use Rattle.net_pins.proofs.OrderLemmas.{PathBefore-under, PinBefore-more, between, bit_before-from, bit_before-true, bits_compare, none_before_first}
+use Rattle.net_rows.proofs.BitLemmas.{bit_before-from, bit_before-true}
+use Rattle.net_pins.proofs.OrderLemmas.{PathBefore-under, PinBefore-more, between, bits_compare, none_before_first}
 use Rattle.net_pins.proofs.StandLemmas.{IsAsked, none_left, same_left}
 
 not_before_nil : (p : List ℕ) → PathBefore p [] → ⊥

@@ -11,7 +11,7 @@ use Rattle.net_classes.specs.Joints.{IsNotBehind}
 use Rattle.net_classes.specs.declared.joints.Joint.{Joint}
 use Rattle.flat_items.specs.Stand.{top_of}
 use Rattle.net_pins.specs.Order.{joint_before}
-use Rattle.net_pins.specs.Rows.{Table, joints_of}
+use Rattle.net_rows.specs.Rows.{Table, joints_of}
 use Rattle.net_ways.specs.Ways.{firsts_in}
 use Rattle.net_pins.specs.declared.levels.Level.{Level}
 

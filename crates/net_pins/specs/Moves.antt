@@ -8,10 +8,10 @@ use Rattle.flat_items.specs.Stand.{top_of}
 use Rattle.net_classes.specs.declared.joints.Joint.{Joint}
 use Rattle.net_pins.specs.Levels.{IsNextOf, leads_in}
 use Rattle.net_pins.specs.Spots.{Question, Stand, passed}
-use Rattle.net_pins.specs.Tops.{IsNextBit, bits_in}
+use Rattle.net_rows.specs.Tops.{IsNextBit, bits_in}
 use Rattle.net_pins.specs.declared.levels.Level.{Level}
 use Rattle.net_pins.specs.declared.spot.Below.{Below}
-use Rattle.net_pins.specs.declared.tops.OwnBit.{OwnBit}
+use Rattle.net_rows.specs.declared.tops.OwnBit.{OwnBit}
 
 -- the last step of the path
 abbrev pub last_step : List ℕ → ℕ

@@ -8,6 +8,7 @@ use Rattle.flat_spec.specs.declared.item.Item.TheVariants.{Enter, Net, Pin}
 use Rattle.ask_spec.specs.Roles.{pins_as}
 use Rattle.ask_spec.specs.declared.role.Role.{Role}
 use Rattle.net_classes.specs.declared.joints.Joint.{Joint}
+use Rattle.net_rows.specs.Tops.{bit_before}
 
 -- a bit of an occurrence
 abbrev pub PinPlace : Type 0
@@ -19,10 +20,6 @@ path_before [] [] = false
 path_before [] (j ∷ q) = true
 path_before (i ∷ p) [] = false
 path_before (i ∷ p) (j ∷ q) = nat_lt i j || (nat_eq i j && path_before p q)
-
--- by port, and within one by bit
-abbrev pub bit_before : Bit → Bit → Bool
-bit_before a b = nat_lt a.port b.port || (nat_eq a.port b.port && nat_lt a.bit b.bit)
 
 -- the first pin comes before the second
 abbrev pub place_before : PinPlace → PinPlace → Bool

@@ -1,5 +1,5 @@
 -- Where one stands among the pins of a net.
-use Rattle.std.specs.Prelude.{◌≡◌, ◌⊎◌, ◌+◌, ℕ, List, [], ◌∷◌, ◌++◌, Bool, true, false, Option, Some, None, Result, Ok, Err, drop, is_none}
+use Rattle.std.specs.Prelude.{◌≡◌, ◌⊎◌, ◌+◌, ℕ, List, [], ◌∷◌, ◌++◌, Bool, true, false, Option, Some, None, Result, Ok, Err, IfNone, IfOk, IfSome, OnErr, drop, is_none}
 use Rattle.std.specs.List.{Contains}
 use Rattle.netlist_schema.specs.Design.{Design, cell_at}
 use Rattle.netlist_schema.specs.declared.memory.NoMemory.{NoMemory}
@@ -15,8 +15,9 @@ use Rattle.flat_items.specs.Stand.{IsGround, top_of}
 use Rattle.flat_items.specs.declared.notes.PlacedNotes.{PlacedNotes}
 use Rattle.net_pins.specs.Levels.{AreLevels}
 use Rattle.net_pins.specs.Order.{PinPlace, left_at}
-use Rattle.net_pins.specs.Rows.{AreRows, Table}
-use Rattle.net_pins.specs.Tops.{AreTops, TopTable}
+use Rattle.net_pins.specs.declared.kept.Kept.{Kept}
+use Rattle.net_rows.specs.Rows.{AreRows, Table}
+use Rattle.net_rows.specs.Tops.{AreTops, TopTable}
 use Rattle.net_pins.specs.declared.levels.Level.{Level}
 use Rattle.net_pins.specs.declared.spot.Found.{Found}
 use Rattle.net_pins.specs.declared.spot.Found.TheVariants.{ThePin, Occurrence, Nothing}
@@ -40,6 +41,11 @@ pub record Question : Type 0 where
   pub cells : Table
   pub tops : TopTable
   pub first : NetAt
+
+-- the question by what is kept for its role
+abbrev pub question : Role → Design → Facts → Kept → NetAt → Question
+question role d facts kept first =
+    record { role = role; design = d; facts = facts; cells = kept.rows; tops = kept.tops; first = first }
 
 -- it can be answered: the design's ground, what is kept, and a net that is its own first
 pub record MayAsk (q : Question) : Type 0 where
@@ -116,3 +122,11 @@ abbrev pub GivesNext : Rest → Option (Result Item NoMemory) → Rest → Type 
 GivesNext old None new = (old.left ≡ []) × (new.left ≡ [])
 GivesNext old (Some (Ok item)) new = old.left ≡ item ∷ new.left
 GivesNext old (Some (Err error)) new = new.left ≡ old.left
+
+-- the next pin is given, and one stands behind it: none, where none is left; the first, where the others are left; or want of memory, where
+-- all are left that were
+pub record GoesOn (q : Question) (old new : Stand) (given : Result (Option Item) NoMemory) : Type 0 where
+  pub stands : MayStand q new
+  pub none : IfOk given (λ item. IfNone item ((left q old ≡ []) × (left q new ≡ [])))
+  pub some : IfOk given (λ item. IfSome item (λ first. left q old ≡ first ∷ left q new))
+  pub err : OnErr given (left q new ≡ left q old)

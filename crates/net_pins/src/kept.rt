@@ -3,18 +3,20 @@ ghost use Rattle.std.specs.Prelude.{◌≡◌, IfOk};
 ghost use Rattle.flat_cells.specs.Below.{AreCellsBelow};
 ghost use Rattle.flat_spec.specs.Paths.{at_path};
 ghost use Rattle.flat_items.specs.Stand.{IsGround, top_of};
+ghost use Rattle.ask_spec.specs.Nets.{first_of};
 ghost use Rattle.ask_spec.specs.Roles.{pins_as};
 ghost use Rattle.net_ways.specs.Ways.{AreWays};
 ghost use Rattle.net_pins.specs.Spots.{IsKept};
 
+use crate::listing::{Listing, begin_listing};
 use crate::pins::{Pins, begin};
-use crate::rows::Rows;
 use crate::spot::Asked;
-use crate::tops::TopRows;
 use ask_spec::Role;
 use flat_items::Ground;
+use flat_spec::NetAt;
+use net_rows::{Rows, TopRows};
 use net_ways::{Ways, first_of};
-use netlist_schema::{CellId, NoMemory, Shown};
+use netlist_schema::{CellId, NoMemory, Shared, Shown};
 
 /// What is kept of the pins that stand in one role.
 pub struct Kept {
@@ -67,4 +69,39 @@ pub fn pins_as<'a, S: Shown + Drop>(
         role,
         first,
     })
+}
+
+/// The first of the nets that are connected with a net, of its own.
+fn first_made<S: Shown + Drop>(
+    ground: &Ground<S>,
+    ways: &Ways,
+    path: &[u32],
+    net: u32,
+) -> Result<NetAt, NoMemory>
+    requires ground { IsGround (S.design ground.now.design) ground.now.classes ground.now.notes }
+    requires ways { AreWays (S.design ground.now.design) ground.now.classes ways.now }
+    ensures { IfOk result (λ first. first ≡ first_of (S.design ground.now.design) (at_path path.now net)) }
+{
+    let first = first_of(ground, ways, path, net)?;
+    first.made(ground.alloc)
+}
+
+/// The same, which owns what it is listed from.
+pub fn list_as<S: Shown + Drop>(
+    ground: &Shared<Ground<S>>,
+    ways: &Ways,
+    kept: &Shared<Kept>,
+    role: Role,
+    path: &[u32],
+    net: u32,
+) -> Result<Listing<S>, NoMemory>
+    requires ground { IsGround (S.design ground.now.design) ground.now.classes ground.now.notes }
+    requires ways { AreWays (S.design ground.now.design) ground.now.classes ways.now }
+    requires kept { IsKept role (S.design ground.now.design) ground.now.classes kept.now.rows kept.now.tops }
+    ensures { IfOk result (λ pins. pins ≡ pins_as role (S.design ground.now.design) (at_path path.now net)) }
+{
+    let first = first_made(ground.get(), ways, path, net)?;
+    let ground = ground.share()?;
+    let kept = kept.share()?;
+    begin_listing(ground, kept, role, first)
 }

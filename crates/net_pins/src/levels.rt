@@ -8,8 +8,8 @@ ghost use Rattle.net_pins.specs.Levels.{AreAdded, AreInOrder, IsLeadAdded, IsNex
 ghost use Rattle.net_ways.specs.Counts.{IsCountOf};
 ghost use Rattle.net_pins.specs.Order.{joint_before};
 
-use crate::rows::Rows;
 use net_classes::{Classes, Joint};
+use net_rows::Rows;
 use netlist_schema::{CellId, NoMemory};
 use std::alloc::Global;
 

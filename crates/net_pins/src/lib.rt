@@ -2,15 +2,11 @@
 #![tactic(auto)]
 
 mod kept;
-mod leads;
 mod levels;
-mod lists;
+mod listing;
 mod pins;
-mod rows;
 mod spot;
-mod tops;
 
-pub use kept::{Kept, keep, pins_as};
+pub use kept::{Kept, keep, list_as, pins_as};
+pub use listing::Listing;
 pub use pins::Pins;
-pub use rows::Rows;
-pub use tops::TopRows;

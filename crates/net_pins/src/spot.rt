@@ -8,13 +8,12 @@ ghost use Rattle.net_pins.specs.Moves.{CanLeave, HasLeft, IsBelowAt, IsBlock, Is
 ghost use Rattle.net_pins.specs.Spots.{IsFound, IsLent, MayAsk, MayStand, left, rest_of, stand_of};
 
 use crate::levels::{Level, level_below, next_lead};
-use crate::rows::Rows;
-use crate::tops::{OwnBit, TopRows};
 use ask_spec::Role;
 use flat_items::{Ground, ItemRef, NetRef};
 use flat_lookup::{cell_along, inst_at};
 use flat_spec::Item;
 use net_classes::Joint;
+use net_rows::{OwnBit, Rows, TopRows};
 use net_ways::top_cell;
 use netlist_schema::{CellId, NoMemory, Shown};
 use std::marker::Model;

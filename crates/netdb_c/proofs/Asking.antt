@@ -1,7 +1,7 @@
 -- What asking for the length of a text tells.
 use Rattle.std.proofs.Common.{◌≡◌, ap, ◌∙◌, length, Option, None, Some}
 use Rattle.netdb_calls.specs.declared.calls.Call.TheVariants as asks
-use Rattle.netdb_calls.specs.declared.calls.Told.{Told}
+use Rattle.call_status.specs.declared.told.Told.{Told}
 use Rattle.netdb_calls.specs.declared.opened.Opened.{Opened}
 use Rattle.netdb_c.specs.Exports.{HasAsked, text_of}
 

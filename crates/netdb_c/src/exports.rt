@@ -1,17 +1,22 @@
 //! The functions that C calls. Each is one call of `netdb_calls` on what the handle holds.
-ghost use Rattle.std.specs.Prelude.{◌≡◌, ◌++◌, None, Some, drop, length, min, option_map, take};
+ghost use Rattle.std.specs.Prelude.{◌≡◌, ◌≤◌, ◌++◌, None, Some, drop, length, min, option_map, take};
 ghost use Rattle.netdb_calls.specs.declared.calls.Call.TheVariants as asks;
 ghost use Rattle.netdb_calls.specs.declared.calls.DeskCall.TheVariants as desk;
 ghost use Rattle.netdb_calls.specs.declared.calls.ViewCall.TheVariants as view;
-ghost use Rattle.netdb_c.specs.Exports.{Answers, Copies, Gives, HasAsked, HasOpened, HasPut, HasViewed, Says, text_of};
+ghost use Rattle.netdb_outside.specs.Outside.{Rose};
+ghost use Rattle.netdb_c.specs.Exports.{Answers, Copies, Gives, GoesTo, HasAsked, HasOpened, HasPut, HasReported, HasViewed, HasWritten, Says, text_of};
 
 use crate::handle::Handle;
-use netdb_calls::{Call, DeskCall, Opened, Status, Told, ViewCall, ask, open, open_view};
+use call_status::{Status, Told};
+use netdb_calls::{
+    Call, DescriptorOut, DeskCall, Opened, ViewCall, ask, open, open_view, report_to, write_to,
+};
+use netdb_outside::Sink;
 use std::alloc::Global;
 use std::mem;
 
 /// Takes what a handle holds; it holds nothing then.
-fn take(alloc: Global, of: &mut Handle) -> Option<Box<Opened>>
+pub(crate) fn take(alloc: Global, of: &mut Handle) -> Option<Box<Opened>>
     ensures was { option_map (λ b. b.value) result ≡ of.old.held }
     ensures left { of.new.held ≡ None }
 {
@@ -19,14 +24,14 @@ fn take(alloc: Global, of: &mut Handle) -> Option<Box<Opened>>
 }
 
 /// Gives a handle what it is to hold. What it held before is dropped.
-fn put(alloc: Global, of: &mut Handle, opened: Box<Opened>)
+pub(crate) fn put(alloc: Global, of: &mut Handle, opened: Box<Opened>)
     ensures { of.new.held ≡ Some opened.value }
 {
     drop(mem::replace(of, Handle::over(opened)).into_box(alloc));
 }
 
 /// Asks what a handle holds. A closed one answers a `WrongUse`, and stays closed.
-fn on(alloc: Global, of: &mut Handle, call: Call<'_>) -> Told
+pub(crate) fn on(alloc: Global, of: &mut Handle, call: Call<'_>) -> Told
     ensures { HasAsked call.entry of.old.held of.new.held result }
 {
     let Some(mut opened) = take(alloc, of) else {
@@ -41,7 +46,7 @@ fn on(alloc: Global, of: &mut Handle, call: Call<'_>) -> Told
 }
 
 /// The number of a status; the number that is told is written where the status has one.
-fn give(told: Told, number: &mut u64) -> u32
+pub(crate) fn give(told: Told, number: &mut u64) -> u32
     ensures { Gives told number.old number.new result }
 {
     match told.status {
@@ -54,7 +59,7 @@ fn give(told: Told, number: &mut u64) -> u32
 }
 
 /// Boxes what was opened, and gives it to a handle.
-fn put_new(alloc: Global, of: &mut Handle, opened: Opened, status: Status) -> u32
+pub(crate) fn put_new(alloc: Global, of: &mut Handle, opened: Opened, status: Status) -> u32
     ensures { HasPut of.old.held of.new.held opened status result }
 {
     match Box::new(alloc, opened) {
@@ -180,7 +185,7 @@ pub extern "C" fn netdb_c_line(alloc: Global, of: &mut Handle, seat: u32, line: 
         .number()
 }
 
-/// Commits a seat's transaction.
+/// Commits a seat's transaction. After a conflict the text is its line, which is never empty, or is empty where there was no memory for it.
 #[unsafe(no_mangle)]
 pub extern "C" fn netdb_c_commit(
     alloc: Global,
@@ -276,20 +281,55 @@ pub extern "C" fn netdb_c_field(alloc: Global, of: &mut Handle, number: u32) -> 
         .number()
 }
 
-/// Writes a text of a view's version to a file descriptor.
+/// Writes the text of a number, of the version of the view that a handle holds. A closed handle is a `WrongUse`, and nothing is written.
+fn write_held<K: Sink>(alloc: Global, of: &mut Handle, number: u32, out: &mut K) -> Status
+    ensures same { of.new.held ≡ of.old.held }
+    ensures wrote { HasWritten of.old.held number (K.written out.old) (K.written out.new) result }
+    ensures wrong_use { result ≡ Status.WrongUse → out.new ≡ out.old }
+    ensures no_top { result ≡ Status.NoTop → out.new ≡ out.old }
+    ensures fault { result ≡ Status.WriteFault → Rose (K.faults out.old) (K.faults out.new) }
+    ensures never_falls { K.faults out.old ≤ K.faults out.new }
+{
+    let Some(opened) = take(alloc, of) else {
+        return Status::WrongUse;
+    };
+    let status = write_to(&opened, number, out);
+    put(alloc, of, opened);
+    status
+}
+
+/// Writes the history of the database that a handle holds. A closed handle is a `WrongUse`, and nothing is written.
+fn report_held<K: Sink>(alloc: Global, of: &mut Handle, out: &mut K) -> Status
+    ensures same { of.new.held ≡ of.old.held }
+    ensures wrote { HasReported of.old.held (K.written out.old) (K.written out.new) result }
+    ensures wrong_use { result ≡ Status.WrongUse → out.new ≡ out.old }
+    ensures fault { result ≡ Status.WriteFault → Rose (K.faults out.old) (K.faults out.new) }
+    ensures never_falls { K.faults out.old ≤ K.faults out.new }
+{
+    let Some(opened) = take(alloc, of) else {
+        return Status::WrongUse;
+    };
+    let status = report_to(alloc, &opened, out);
+    put(alloc, of, opened);
+    status
+}
+
+/// Writes the text of a number, of a view's version, to a file descriptor.
 #[unsafe(no_mangle)]
 pub extern "C" fn netdb_c_write(alloc: Global, of: &mut Handle, number: u32, descriptor: i32) -> u32
-    ensures { Answers (asks.Write number descriptor) of.old.held of.new.held result }
+    ensures same { of.new.held ≡ of.old.held }
+    ensures answers { GoesTo descriptor (λ before after status. HasWritten of.old.held number before after status) result }
 {
-    on(alloc, of, Call::Write { number, descriptor })
-        .status
-        .number()
+    let mut out = DescriptorOut::new(descriptor);
+    write_held(alloc, of, number, &mut out).number()
 }
 
 /// Writes the history of a database to a file descriptor.
 #[unsafe(no_mangle)]
 pub extern "C" fn netdb_c_report(alloc: Global, of: &mut Handle, descriptor: i32) -> u32
-    ensures { Answers (asks.Report descriptor) of.old.held of.new.held result }
+    ensures same { of.new.held ≡ of.old.held }
+    ensures answers { GoesTo descriptor (λ before after status. HasReported of.old.held before after status) result }
 {
-    on(alloc, of, Call::Report { descriptor }).status.number()
+    let mut out = DescriptorOut::new(descriptor);
+    report_held(alloc, of, &mut out).number()
 }

@@ -3,4 +3,5 @@
 
 mod exports;
 mod handle;
+mod question_exports;
 mod unboxed;

@@ -9,7 +9,7 @@ use Rattle.edif_file.specs.Steps.{Says}
 use Rattle.edif_file.specs.declared.no_design.NoDesign.{NoDesign}
 use Rattle.netdb_calls.specs.Opening.{FailsBy, Opens, OpensDesign, OpensTo, OpensWrong}
 use Rattle.netdb_calls.specs.declared.opened.Opened.{Opened}
-use Rattle.netdb_calls.specs.declared.status.Status.{Status}
+use Rattle.call_status.specs.declared.status.Status.{Status}
 
 -- what a reader says of whatever it was fed, said of these bytes
 pub design_told : (reader : Reader) (bytes : List ℕ) (r : Result Design NoDesign) → WasFed reader bytes → length bytes ≤ MOST_FILE_BYTES

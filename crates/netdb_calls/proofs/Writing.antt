@@ -6,8 +6,11 @@ use Rattle.flat_writer.specs.declared.error.FlatError.TheVariants as flat
 use Rattle.netdb_outside.specs.Outside.{Appends, AppendsFront}
 use Rattle.netdb_outside.specs.declared.write_error.WriteError.{WriteError}
 use Rattle.netdb_outside.specs.declared.write_error.WriteError.TheVariants as write
-use Rattle.netdb_calls.specs.Texts.{WritesBelow, WritesText, status_of_flat, status_of_write}
-use Rattle.netdb_calls.specs.declared.status.Status.TheVariants as says
+use Rattle.netdb_view.specs.Facts.{ViewFacts}
+use Rattle.netdb_calls.specs.Texts.{Writes, WritesBelow, WritesText, status_of_flat, status_of_write}
+use Rattle.call_status.specs.declared.status.Status.TheVariants as says
+use Rattle.netdb_calls.specs.declared.texts.Kind.{Kind}
+use Rattle.netdb_calls.specs.declared.texts.Kind.TheVariants as kind
 
 pub written : (text : List ℕ) (old new : Option (List ℕ)) (r : Result (Unit {0}) WriteError)
     → OnOk r (Appends old new text) → OnErr r (AppendsFront old new text) → WritesText text old new (status_of_write r)
@@ -19,6 +22,11 @@ pub fault_written : (r : Result (Unit {0}) WriteError) (P : Type 0) → (IsErrOf
 fault_written (Ok done) P cause is = absurd (cc)
 fault_written (Err write.WriteFault) P cause is = cause refl
 fault_written (Err write.NoMemory) P cause is = absurd (cc)
+
+pub topped_written : (r : Result (Unit {0}) WriteError) (P : Type 0) → status_of_write r ≡ says.NoTop → P
+topped_written (Ok done) P is = absurd (cc)
+topped_written (Err write.WriteFault) P is = absurd (cc)
+topped_written (Err write.NoMemory) P is = absurd (cc)
 
 -- where a top is wanted
 has_top : (d : Design) (r : Result (Unit {0}) FlatError) → ((r ≡ Err flat.NoTop) ↔ (d.top ≡ None)) → ¬ (r ≡ Err flat.NoTop) → ¬ (d.top ≡ None)
@@ -37,3 +45,17 @@ fault_flattened (Ok done) P cause is = absurd (cc)
 fault_flattened (Err flat.NoTop) P cause is = absurd (cc)
 fault_flattened (Err flat.WriteFault) P cause is = cause refl
 fault_flattened (Err flat.NoMemory) P cause is = absurd (cc)
+
+pub untopped_flattened : (r : Result (Unit {0}) FlatError) (P : Type 0) → (r ≡ Err flat.NoTop → P) → status_of_flat r ≡ says.NoTop → P
+untopped_flattened (Ok done) P cause is = absurd (cc)
+untopped_flattened (Err flat.NoTop) P cause is = cause refl
+untopped_flattened (Err flat.WriteFault) P cause is = absurd (cc)
+untopped_flattened (Err flat.NoMemory) P cause is = absurd (cc)
+
+-- of a view each text is for use
+pub never_wrong : (view : ViewFacts) (k : Kind) (old new : Option (List ℕ)) (P : Type 0) → Writes view k old new says.WrongUse → P
+never_wrong view kind.Edif old new P wrote = absurd wrote
+never_wrong view kind.Flat old new P wrote = absurd wrote
+never_wrong view kind.Csv old new P wrote = absurd wrote
+never_wrong view kind.Erc old new P wrote = absurd wrote
+never_wrong view kind.Uses old new P wrote = absurd wrote

@@ -5,6 +5,7 @@ use Rattle.netlist_schema.specs.Design.{Design}
 use Rattle.netlist_schema.specs.Types.{Object}
 use Rattle.netlist_schema.specs.declared.memory.NoMemory.{NoMemory}
 use Rattle.edit_rules_spec.specs.declared.reply.Reply.{Reply}
+use Rattle.db_version.specs.Shot.{Shot}
 use Rattle.db_core.specs.declared.errors.CollectError.{CollectError}
 use Rattle.db_core.specs.declared.errors.CollectError.TheVariants as collect
 use Rattle.db_core.specs.declared.errors.CommitError.{CommitError}
@@ -22,6 +23,7 @@ use Rattle.netdb_desk.specs.Seats.{DeskFacts, held_at, pin_of}
 use Rattle.netdb_desk.specs.declared.held.WrongUse.{WrongUse}
 use Rattle.netdb_desk.specs.declared.line.LineError.{LineError}
 use Rattle.netdb_desk.specs.declared.line.LineError.TheVariants as said
+use Rattle.netdb_questions.specs.Facts.{QuestionFacts}
 use Rattle.netdb_view.specs.Facts.{ViewFacts}
 use Rattle.netdb_view.specs.Fields.{field_text}
 use Rattle.netdb_view.specs.Walking.{Begins, BeginsAt, StepsOn}
@@ -29,27 +31,22 @@ use Rattle.netdb_view.specs.declared.view.BeginError.{BeginError}
 use Rattle.netdb_view.specs.declared.view.BeginError.TheVariants as begin
 use Rattle.netdb_view.specs.declared.view.Step.TheVariants as step
 use Rattle.netdb_calls.specs.Fields.{field_at}
-use Rattle.netdb_calls.specs.Texts.{WritesHistory, WritesOf, kind_at, head_design}
+use Rattle.question_calls.specs.Questions.{AnswersQuestion}
+use Rattle.call_status.specs.Telling.{only, told}
+use Rattle.netdb_calls.specs.Texts.{head_design}
 use Rattle.netdb_calls.specs.declared.calls.Call.{Call}
 use Rattle.netdb_calls.specs.declared.calls.Call.TheVariants as asking
 use Rattle.netdb_calls.specs.declared.calls.DeskCall.{DeskCall}
 use Rattle.netdb_calls.specs.declared.calls.DeskCall.TheVariants as asks
-use Rattle.netdb_calls.specs.declared.calls.Told.{Told}
+use Rattle.question_calls.specs.declared.calls.QuestionCall.{QuestionCall}
+use Rattle.call_status.specs.declared.told.Told.{Told}
 use Rattle.netdb_calls.specs.declared.calls.ViewCall.{ViewCall}
 use Rattle.netdb_calls.specs.declared.calls.ViewCall.TheVariants as views
 use Rattle.netdb_calls.specs.declared.opened.Inside.{Inside}
-use Rattle.netdb_calls.specs.declared.opened.Inside.TheVariants.{Desk, Refused, View}
+use Rattle.netdb_calls.specs.declared.opened.Inside.TheVariants.{Desk, Questions, Refused, View}
 use Rattle.netdb_calls.specs.declared.opened.Opened.{Opened}
-use Rattle.netdb_calls.specs.declared.status.Status.{Status}
-use Rattle.netdb_calls.specs.declared.status.Status.TheVariants as says
-use Rattle.netdb_calls.specs.declared.texts.Kind.{Kind}
-
--- a status alone, and one with a number
-abbrev pub told : Status → ℕ → Told
-told status number = record { status = status; number = number }
-
-abbrev pub only : Status → Told
-only status = told status 0
+use Rattle.call_status.specs.declared.status.Status.{Status}
+use Rattle.call_status.specs.declared.status.Status.TheVariants as says
 
 -- ---- the answer of each call of a desk, as a status and a number
 
@@ -154,6 +151,7 @@ pub record IsWrong (old new : Opened) (answer : Told) : Type 0 where
 abbrev pub AskedDesk : DeskCall → Inside → Opened → Opened → Told → Type 0
 AskedDesk call (Desk desk) old new answer = OnDesk call desk old.text.items new answer
 AskedDesk call (View view) old new answer = IsWrong old new answer
+AskedDesk call (Questions questions) old new answer = IsWrong old new answer
 AskedDesk call Refused old new answer = IsWrong old new answer
 
 abbrev pub AsksDesk : DeskCall → Opened → Opened → Told → Type 0
@@ -212,33 +210,35 @@ pub record OnView (call : ViewCall) (old : ViewFacts) (before : List ℕ) (new :
 abbrev pub AskedView : ViewCall → Inside → Opened → Opened → Told → Type 0
 AskedView call (View view) old new answer = OnView call view old.text.items new answer
 AskedView call (Desk desk) old new answer = IsWrong old new answer
+AskedView call (Questions questions) old new answer = IsWrong old new answer
 AskedView call Refused old new answer = IsWrong old new answer
 
 abbrev pub AsksView : ViewCall → Opened → Opened → Told → Type 0
 AsksView call old new answer = AskedView call old.inside old new answer
 
+-- ---- questions
+
+pub record OnQuestions (call : QuestionCall) (old : QuestionFacts) (before : List ℕ) (new : Opened) (answer : Told) : Type 0 where
+  pub questions : QuestionFacts
+  pub inside : new.inside ≡ Questions questions
+  pub answers : AnswersQuestion call old questions before new.text.items answer
+
+abbrev pub AskedQuestions : QuestionCall → Inside → Opened → Opened → Told → Type 0
+AskedQuestions call (Questions questions) old new answer = OnQuestions call questions old.text.items new answer
+AskedQuestions call (Desk desk) old new answer = IsWrong old new answer
+AskedQuestions call (View view) old new answer = IsWrong old new answer
+AskedQuestions call Refused old new answer = IsWrong old new answer
+
+abbrev pub AsksQuestion : QuestionCall → Opened → Opened → Told → Type 0
+AsksQuestion call old new answer = AskedQuestions call old.inside old new answer
+
 -- ---- any call
-
--- the text of this number was written to a file descriptor, as far as the status says; where it is none, or no view was opened, it was not
-abbrev pub WritesKind : Option Kind → Inside → Told → Type 0
-WritesKind None inside answer = answer ≡ only says.WrongUse
-WritesKind (Some kind) inside answer = (answer.number ≡ 0) × WritesOf inside kind None None answer.status
-
-abbrev pub WritesTo : Opened → ℕ → Told → Type 0
-WritesTo opened number answer = WritesKind (kind_at number) opened.inside answer
-
--- the history of the database that was opened was written to one so
-abbrev pub WritesReport : Inside → Told → Type 0
-WritesReport (Desk desk) answer = (answer.number ≡ 0) × WritesHistory desk None None answer.status
-WritesReport (View view) answer = answer ≡ only says.WrongUse
-WritesReport Refused answer = answer ≡ only says.WrongUse
 
 abbrev pub Asks : Call → Opened → Opened → Told → Type 0
 Asks (asking.Desk call) old new answer = AsksDesk call old new answer
 Asks (asking.View call) old new answer = AsksView call old new answer
+Asks (asking.Question call) old new answer = AsksQuestion call old new answer
 Asks asking.Length old new answer = (new ≡ old) × (answer ≡ told says.Done (length old.text.items))
-Asks (asking.Write number descriptor) old new answer = (new ≡ old) × WritesTo old number answer
-Asks (asking.Report descriptor) old new answer = (new ≡ old) × WritesReport old.inside answer
 
 -- ---- a view that is opened
 
@@ -260,7 +260,35 @@ ViewsDesk desk seat (Err other) = ⊥
 abbrev pub ViewsInside : Inside → ℕ → Result Opened Status → Type 0
 ViewsInside (Desk desk) seat result = ViewsDesk desk seat result
 ViewsInside (View view) seat result = result ≡ Err says.WrongUse
+ViewsInside (Questions questions) seat result = result ≡ Err says.WrongUse
 ViewsInside Refused seat result = result ≡ Err says.WrongUse
 
 abbrev pub OpensView : Opened → ℕ → Result Opened Status → Type 0
 OpensView opened seat result = ViewsInside opened.inside seat result
+
+-- ---- questions that are opened
+
+-- of the version that the seat holds, with no list and no text
+pub record AreQuestionsOf (desk : DeskFacts) (seat : ℕ) (made : Opened) : Type 0 where
+  pub questions : QuestionFacts
+  pub inside : made.inside ≡ Questions questions
+  pub text : made.text.items ≡ []
+  pub seen : Some questions.version ≡ option_map seen_at (pin_of (held_at desk seat))
+  pub left : questions.left ≡ None
+
+-- where its design has no top, there are none
+abbrev pub QuestionsOnDesk : DeskFacts → ℕ → Result Opened Status → Type 0
+QuestionsOnDesk desk seat (Ok made) = AreQuestionsOf desk seat made
+QuestionsOnDesk desk seat (Err says.NoTop) = (seen : Shot) × (Some seen ≡ option_map seen_at (pin_of (held_at desk seat))) × (seen.design.top ≡ None)
+QuestionsOnDesk desk seat (Err says.NoMemory) = pin_of (held_at desk seat) ≢ None
+QuestionsOnDesk desk seat (Err says.WrongUse) = pin_of (held_at desk seat) ≡ None
+QuestionsOnDesk desk seat (Err other) = ⊥
+
+abbrev pub QuestionsInside : Inside → ℕ → Result Opened Status → Type 0
+QuestionsInside (Desk desk) seat result = QuestionsOnDesk desk seat result
+QuestionsInside (View view) seat result = result ≡ Err says.WrongUse
+QuestionsInside (Questions questions) seat result = result ≡ Err says.WrongUse
+QuestionsInside Refused seat result = result ≡ Err says.WrongUse
+
+abbrev pub OpensQuestions : Opened → ℕ → Result Opened Status → Type 0
+OpensQuestions opened seat result = QuestionsInside opened.inside seat result

@@ -1,5 +1,5 @@
 pub mod Answers
+pub mod Descriptors
 pub mod Fields
-pub mod Numbers
 pub mod Opening
 pub mod Texts

@@ -9,8 +9,8 @@ use Rattle.netdb_desk.specs.Calls.{IsOpened}
 use Rattle.netdb_desk.specs.Seats.{DeskFacts}
 use Rattle.netdb_calls.specs.declared.opened.Inside.TheVariants.{Desk, Refused}
 use Rattle.netdb_calls.specs.declared.opened.Opened.{Opened}
-use Rattle.netdb_calls.specs.declared.status.Status.{Status}
-use Rattle.netdb_calls.specs.declared.status.Status.TheVariants as says
+use Rattle.call_status.specs.declared.status.Status.{Status}
+use Rattle.call_status.specs.declared.status.Status.TheVariants as says
 
 -- the database of a design, at whose seats nothing is held, with no text; or there was no memory
 abbrev pub OpensDesign : Design → Result (Opened × Status) Status → Type 0

@@ -17,9 +17,9 @@ use Rattle.used_spec.specs.Lines.{uses_text}
 use Rattle.netdb_desk.specs.Seats.{DeskFacts}
 use Rattle.netdb_view.specs.Facts.{ViewFacts}
 use Rattle.netdb_calls.specs.declared.opened.Inside.{Inside}
-use Rattle.netdb_calls.specs.declared.opened.Inside.TheVariants.{Desk, Refused, View}
-use Rattle.netdb_calls.specs.declared.status.Status.{Status}
-use Rattle.netdb_calls.specs.declared.status.Status.TheVariants as says
+use Rattle.netdb_calls.specs.declared.opened.Inside.TheVariants.{Desk, Questions, Refused, View}
+use Rattle.call_status.specs.declared.status.Status.{Status}
+use Rattle.call_status.specs.declared.status.Status.TheVariants as says
 use Rattle.netdb_calls.specs.declared.texts.Kind.{Kind}
 use Rattle.netdb_calls.specs.declared.texts.Kind.TheVariants as kind
 
@@ -66,6 +66,21 @@ Writes view kind.Csv old new status = WritesBelow view.version.design (pin_table
 Writes view kind.Erc old new status = WritesBelow view.version.design (findings_text view.version.design) old new status
 Writes view kind.Uses old new status = WritesText (uses_text view.version.design) old new status
 
+-- a text of a kind of what was opened; where that is no view, nothing was written
+abbrev pub WritesOf : Inside → Kind → Option (List ℕ) → Option (List ℕ) → Status → Type 0
+WritesOf (View view) kind old new status = Writes view kind old new status
+WritesOf (Desk desk) kind old new status = (status ≡ says.WrongUse) × (new ≡ old)
+WritesOf (Questions questions) kind old new status = (status ≡ says.WrongUse) × (new ≡ old)
+WritesOf Refused kind old new status = (status ≡ says.WrongUse) × (new ≡ old)
+
+-- the text of a number of what was opened; where the number is that of no text, nothing was written
+abbrev pub WritesKind : Option Kind → Inside → Option (List ℕ) → Option (List ℕ) → Status → Type 0
+WritesKind (Some kind) inside old new status = WritesOf inside kind old new status
+WritesKind None inside old new status = (status ≡ says.WrongUse) × (new ≡ old)
+
+abbrev pub WritesTo : Inside → ℕ → Option (List ℕ) → Option (List ℕ) → Status → Type 0
+WritesTo inside number old new status = WritesKind (kind_at number) inside old new status
+
 -- the design of the last version
 abbrev pub head_design : DeskFacts → Design
 head_design d = design (state d.story) (head (state d.story))
@@ -74,8 +89,9 @@ head_design d = design (state d.story) (head (state d.story))
 abbrev pub WritesHistory : DeskFacts → Option (List ℕ) → Option (List ℕ) → Status → Type 0
 WritesHistory d old new status = WritesText (written_report (head_design d) d.story.events []) old new status
 
--- the same of what was opened; where that is no view, nothing was written
-abbrev pub WritesOf : Inside → Kind → Option (List ℕ) → Option (List ℕ) → Status → Type 0
-WritesOf (View view) kind old new status = Writes view kind old new status
-WritesOf (Desk desk) kind old new status = (status ≡ says.WrongUse) × (new ≡ old)
-WritesOf Refused kind old new status = (status ≡ says.WrongUse) × (new ≡ old)
+-- the history of what was opened; where that is no database, nothing was written
+abbrev pub WritesReport : Inside → Option (List ℕ) → Option (List ℕ) → Status → Type 0
+WritesReport (Desk desk) old new status = WritesHistory desk old new status
+WritesReport (View view) old new status = (status ≡ says.WrongUse) × (new ≡ old)
+WritesReport (Questions questions) old new status = (status ≡ says.WrongUse) × (new ≡ old)
+WritesReport Refused old new status = (status ≡ says.WrongUse) × (new ≡ old)

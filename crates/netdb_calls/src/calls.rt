@@ -1,15 +1,15 @@
 //! The calls, by what was opened.
 ghost use Rattle.std.specs.Prelude.{◌≡◌};
-ghost use Rattle.netdb_calls.specs.Answers.{Asks, AsksDesk, AsksView, OpensView, WritesReport, WritesTo};
+ghost use Rattle.netdb_calls.specs.Answers.{Asks, AsksDesk, AsksQuestion, AsksView, OpensQuestions, OpensView};
 
 use crate::desk_calls::answer_desk;
 use crate::opened::{Inside, Opened};
-use crate::out::DescriptorOut;
-use crate::status::Status;
-use crate::texts::{kind_of, write_history, write_text};
 use crate::view_calls::answer_view;
+use call_status::{Status, Told};
+use netdb_questions::{AskError, Questions};
 use netdb_view::View;
 use netlist_schema::NoMemory;
+use question_calls::{QuestionCall, answer_question};
 use std::alloc::Global;
 
 /// A call on a database, for a seat.
@@ -35,32 +35,6 @@ pub enum ViewCall<'a> {
     Field { number: u32 },
 }
 
-/// The status of an answer, and the number that it gives: a version, or how many were dropped; 0 where it gives none.
-#[derive(Clone, Copy, Debug, PartialEq, Eq)]
-pub struct Told {
-    pub status: Status,
-    pub number: u64,
-}
-
-impl Told {
-    /// A status that gives no number.
-    pub(crate) fn only(status: Status) -> Told
-        ensures { result ≡ record { status = status; number = 0 } }
-    {
-        Told { status, number: 0 }
-    }
-
-    /// A number.
-    pub(crate) fn done(number: u64) -> Told
-        ensures { result ≡ record { status = Status.Done; number = number } }
-    {
-        Told {
-            status: Status::Done,
-            number,
-        }
-    }
-}
-
 /// Answers a call on a database. Where no database was opened it is a `WrongUse`, and nothing is changed.
 fn ask_desk(alloc: Global, opened: &mut Opened, call: DeskCall<'_>) -> Told
     ensures { AsksDesk call.entry opened.old opened.new result }
@@ -81,17 +55,24 @@ fn ask_view(opened: &mut Opened, call: ViewCall<'_>) -> Told
     answer_view(view, call, &mut opened.text)
 }
 
+/// Answers a question. Where no questions were opened it is a `WrongUse`, and nothing is changed.
+fn ask_question(alloc: Global, opened: &mut Opened, call: QuestionCall<'_>) -> Told
+    ensures { AsksQuestion call.entry opened.old opened.new result }
+{
+    let Inside::Questions(questions) = &mut opened.inside else {
+        return Told::only(Status::WrongUse);
+    };
+    answer_question(alloc, questions, call, &mut opened.text)
+}
+
 /// A call on what was opened.
 #[derive(Clone, Copy)]
 pub enum Call<'a> {
     Desk(DeskCall<'a>),
     View(ViewCall<'a>),
+    Question(QuestionCall<'a>),
     /// The number of bytes of the text.
     Length,
-    /// The text of a view's version of this number, written to a file descriptor.
-    Write { number: u32, descriptor: i32 },
-    /// The history of a database, written to a file descriptor.
-    Report { descriptor: i32 },
 }
 
 /// Answers a call.
@@ -101,32 +82,9 @@ pub fn ask(alloc: Global, opened: &mut Opened, call: Call<'_>) -> Told
     match call {
         Call::Desk(call) => ask_desk(alloc, opened, call),
         Call::View(call) => ask_view(opened, call),
+        Call::Question(call) => ask_question(alloc, opened, call),
         Call::Length => Told::done(opened.text.len() as u64),
-        Call::Write { number, descriptor } => write_to(opened, number, descriptor),
-        Call::Report { descriptor } => report_to(alloc, opened, descriptor),
     }
-}
-
-/// Writes a text of a view's version to a file descriptor.
-fn write_to(opened: &Opened, number: u32, descriptor: i32) -> Told
-    ensures { WritesTo opened.now number result }
-{
-    let Some(kind) = kind_of(number) else {
-        return Told::only(Status::WrongUse);
-    };
-    let mut out = DescriptorOut::new(descriptor);
-    Told::only(write_text(opened, kind, &mut out))
-}
-
-/// Writes the history of a database to a file descriptor.
-fn report_to(alloc: Global, opened: &Opened, descriptor: i32) -> Told
-    ensures { WritesReport opened.now.inside result }
-{
-    let Inside::Desk(desk) = &opened.inside else {
-        return Told::only(Status::WrongUse);
-    };
-    let mut out = DescriptorOut::new(descriptor);
-    Told::only(write_history(alloc, desk, &mut out))
 }
 
 /// A view of the version that a seat of an opened database holds.
@@ -145,5 +103,28 @@ pub fn open_view(alloc: Global, opened: &Opened, seat: u32) -> Result<Opened, St
             text: Vec::new(alloc),
         }),
         Err(NoMemory) => Err(Status::NoMemory),
+    }
+}
+
+/// Questions about the version that a seat of an opened database holds. `NoTop` comes exactly where a seat holds one whose design has none.
+pub fn open_questions(alloc: Global, opened: &Opened, seat: u32) -> Result<Opened, Status>
+    ensures { OpensQuestions opened.now seat result }
+{
+    let Inside::Desk(desk) = &opened.inside else {
+        return Err(Status::WrongUse);
+    };
+    let Some(seen) = desk.seen(seat) else {
+        return Err(Status::WrongUse);
+    };
+    let Ok(version) = seen.share() else {
+        return Err(Status::NoMemory);
+    };
+    match Questions::of(alloc, version) {
+        Ok(questions) => Ok(Opened {
+            inside: Inside::Questions(questions),
+            text: Vec::new(alloc),
+        }),
+        Err(AskError::NoTop) => Err(Status::NoTop),
+        Err(AskError::NoMemory) => Err(Status::NoMemory),
     }
 }

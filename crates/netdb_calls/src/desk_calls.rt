@@ -5,8 +5,8 @@ ghost use Rattle.netdb_desk.specs.Seats.{held_at};
 ghost use Rattle.netdb_calls.specs.Answers.{AnswersDesk, HasCommitted, HasRun, SaysClash, SaysLast, SaysRefused, told_of_begin, told_of_collect, told_of_done, told_of_line, told_of_pin, told_of_pin_at};
 ghost use Rattle.netdb_calls.specs.Texts.{head_design};
 
-use crate::calls::{DeskCall, Told};
-use crate::status::Status;
+use crate::calls::DeskCall;
+use call_status::{Status, Told};
 use db_core::{CollectError, CommitError, PinAtError, PinError};
 use netdb_desk::{Desk, LineError, WrongUse};
 use netlist_schema::{NoMemory, Object};
@@ -138,7 +138,7 @@ fn say_last(alloc: Global, desk: &Desk, seat: u32, text: &mut Vec<u8>) -> Told
     }
 }
 
-/// Commits. After a conflict the text says it.
+/// Commits. After a conflict the text says it, or is empty where there was no memory for it.
 fn commit(alloc: Global, desk: &mut Desk, seat: u32, text: &mut Vec<u8>) -> Told
     ensures { HasCommitted seat desk.old desk.new text.old.items text.new.items result }
 {

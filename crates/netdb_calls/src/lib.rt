@@ -6,13 +6,13 @@ mod desk_calls;
 mod opened;
 mod opening;
 mod out;
-mod status;
 mod texts;
 mod view_calls;
 
-pub use calls::{Call, DeskCall, Told, ViewCall, ask, open_view};
+pub use call_status::{Status, Told};
+pub use calls::{Call, DeskCall, ViewCall, ask, open_questions, open_view};
 pub use opened::{Inside, Opened};
 pub use opening::open;
 pub use out::DescriptorOut;
-pub use status::Status;
-pub use texts::{Kind, kind_of, write_text};
+pub use question_calls::QuestionCall;
+pub use texts::{report_to, write_to};

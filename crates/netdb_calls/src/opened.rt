@@ -1,5 +1,6 @@
 //! What was opened.
 use netdb_desk::Desk;
+use netdb_questions::Questions;
 use netdb_view::View;
 
 /// What was opened.
@@ -9,6 +10,7 @@ pub enum Inside {
     Refused,
     Desk(Desk),
     View(View),
+    Questions(Questions),
 }
 
 /// What was opened, and the text of the last call on it that has one.

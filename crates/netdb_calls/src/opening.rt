@@ -6,7 +6,7 @@ ghost use Rattle.edif_file.specs.Steps.{Says};
 ghost use Rattle.netdb_calls.specs.Opening.{Opens, OpensDesign, OpensWrong};
 
 use crate::opened::{Inside, Opened};
-use crate::status::Status;
+use call_status::Status;
 use edif_file::{DesignReader, NoDesign, fault_text};
 use edif_spec::EdifFault;
 use netdb_desk::Desk;

@@ -1,12 +1,13 @@
 //! `DescriptorOut`: a sink over a file descriptor of the system.
-ghost use Rattle.std.specs.Prelude.{◌≡◌, ◌≤◌, ℕ, None};
+ghost use Rattle.std.specs.Prelude.{◌≡◌, ◌≤◌};
 ghost use Rattle.netdb_outside.specs.Outside.{AppendsFront, Rose};
+ghost use Rattle.netdb_calls.specs.Descriptors.{PutGives, bytes_told, fresh};
 
 use netdb_outside::{Put, Sink};
 use std::marker::Model;
 
-/// A file descriptor. As contracts see it, it is the count of its faults: it tells no bytes. Nothing is kept back, and a write that the
-/// system cuts short goes on with the rest.
+/// A file descriptor. As contracts see it, it is the descriptor and the count of its faults: it tells no bytes. Nothing is kept back, and a
+/// write that the system cuts short goes on with the rest.
 #[derive(Drop)]
 pub struct DescriptorOut {
     descriptor: i32,
@@ -14,15 +15,17 @@ pub struct DescriptorOut {
 }
 
 impl Model for DescriptorOut {
-    ghost Value = { ℕ };
+    ghost use Rattle.netdb_calls.specs.Descriptors.{DescriptorFacts};
 
-    ghost view = { λ d. d.faults };
+    ghost Value = { DescriptorFacts };
+
+    ghost view = { λ d. record { descriptor = d.descriptor; faults = d.faults } };
 }
 
 impl DescriptorOut {
     /// The sink over this descriptor, which had no faults. Takes no memory.
     pub fn new(descriptor: i32) -> DescriptorOut
-        ensures { result ≡ 0 }
+        ensures { result ≡ fresh descriptor }
     {
         DescriptorOut {
             descriptor,
@@ -32,14 +35,15 @@ impl DescriptorOut {
 }
 
 impl Sink for DescriptorOut {
-    ghost written = { λ _. None };
+    ghost written = { λ d. bytes_told d };
 
-    ghost faults = { λ d. d };
+    ghost faults = { λ d. d.faults };
 
     fn put(&mut self, piece: &[u8]) -> Put
-        ensures front { AppendsFront None None piece.now }
-        ensures failed { result ≡ Put.Failed → Rose self.old self.new }
-        ensures never_falls { self.old ≤ self.new }
+        ensures front { AppendsFront (bytes_told self.old) (bytes_told self.new) piece.now }
+        ensures failed { result ≡ Put.Failed → Rose self.old.faults self.new.faults }
+        ensures never_falls { self.old.faults ≤ self.new.faults }
+        ensures gives { PutGives self.old self.new result }
     {
         if io::write_all(self.descriptor, piece) {
             return Put::Put;

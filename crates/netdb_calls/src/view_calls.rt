@@ -3,8 +3,8 @@ ghost use Rattle.std.specs.Prelude.{◌≡◌};
 ghost use Rattle.netdb_calls.specs.Fields.{field_at};
 ghost use Rattle.netdb_calls.specs.Answers.{AnswersView, HasShown, SaysField, SaysLine, told_of_begin_at, told_of_walk};
 
-use crate::calls::{Told, ViewCall};
-use crate::status::Status;
+use crate::calls::ViewCall;
+use call_status::{Status, Told};
 use netdb_view::{BeginError, Field, Step, View};
 use netlist_schema::NoMemory;
 use occ_walk::WalkError;

@@ -1,5 +1,5 @@
-//! Tests of the crates that look into designs and flatten them, on designs that are read from their texts; and worked rows of port
-//! classes and of walks, on designs that are made by hand.
+//! Tests of the crates that look into designs and flatten them, on designs that are read from their texts; worked rows of port
+//! classes and of walks, on designs that are made by hand; and what an electrical check finds, and what is written of it.
 #![tactic(auto)]
 
 #[cfg(test)]
@@ -8,6 +8,12 @@ mod board;
 mod classes;
 #[cfg(test)]
 mod designs;
+#[cfg(test)]
+mod finding;
+#[cfg(test)]
+mod finding_designs;
+#[cfg(test)]
+mod findings;
 #[cfg(test)]
 mod items;
 #[cfg(test)]

@@ -1,7 +1,7 @@
 use Rattle.std.proofs.Common.{subst, sym}
 use Rattle.netlist_schema.specs.Types.{CellId}
 use Rattle.flat_cells.specs.Below.{AreCellsBelow}
-use Rattle.net_pins.specs.Tops.{AreTops}
+use Rattle.net_rows.specs.Tops.{AreTops}
 use Rattle.net_pins.proofs.KeptLemmas.{all_there}
 use Rattle.net_pins.proofs.kept.keep.Goals as goal
 

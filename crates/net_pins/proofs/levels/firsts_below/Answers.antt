@@ -5,7 +5,7 @@ use Rattle.std.proofs.lemmas.List.{get_or_default, take_all}
 use Rattle.net_classes.specs.Joints.{IsNotBehind}
 use Rattle.net_classes.specs.declared.joints.Joint.{Joint}
 use Rattle.net_pins.specs.Levels.{AreAdded, LeadsTo, leads_in}
-use Rattle.net_pins.specs.Rows.{joints_of}
+use Rattle.net_rows.specs.Rows.{joints_of}
 use Rattle.net_classes.specs.Facts.{Facts}
 use Rattle.netlist_schema.specs.Types.{CellId}
 use Rattle.flat_spec.proofs.ListLemmas.{Contains-member}

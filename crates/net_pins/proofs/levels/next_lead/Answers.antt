@@ -5,7 +5,7 @@ use Rattle.flat_spec.specs.Paths.{Bit}
 use Rattle.net_classes.specs.Joints.{IsNotBehind}
 use Rattle.net_classes.specs.declared.joints.Joint.{Joint}
 use Rattle.net_pins.specs.Levels.{IsNextOf, leads_in}
-use Rattle.net_pins.specs.Rows.{joints_of}
+use Rattle.net_rows.specs.Rows.{joints_of}
 use Rattle.net_pins.proofs.LevelLemmas.{leads_more, none_next}
 use Rattle.net_pins.proofs.levels.next_lead.Goals as goal
 

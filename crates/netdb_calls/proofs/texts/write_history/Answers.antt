@@ -4,7 +4,7 @@ use Rattle.db_version.specs.Shot.{Shot}
 use Rattle.netdb_outside.specs.Outside.{Appends, AppendsFront}
 use Rattle.script_run_spec.specs.Written.{written_report}
 use Rattle.netdb_calls.specs.Texts.{WritesText, head_design}
-use Rattle.netdb_calls.specs.declared.status.Status.{Status}
+use Rattle.call_status.specs.declared.status.Status.{Status}
 use Rattle.netdb_calls.proofs.Writing.{fault_written, written}
 use Rattle.netdb_calls.proofs.texts.write_history.Goals as goal
 

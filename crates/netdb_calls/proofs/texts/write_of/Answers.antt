@@ -5,9 +5,9 @@ use Rattle.flat_csv_spec.specs.PinTable.{pin_table}
 use Rattle.flat_lines_spec.specs.Lines.{flattening_text}
 use Rattle.used_spec.specs.Lines.{uses_text}
 use Rattle.netdb_calls.specs.Texts.{Writes, WritesBelow, WritesText}
-use Rattle.netdb_calls.specs.declared.status.Status.{Status}
+use Rattle.call_status.specs.declared.status.Status.{Status}
 use Rattle.netdb_calls.specs.declared.texts.Kind.{Kind}
-use Rattle.netdb_calls.proofs.Writing.{fault_flattened, fault_written, flattened, written}
+use Rattle.netdb_calls.proofs.Writing.{fault_flattened, fault_written, flattened, topped_written, untopped_flattened, written}
 use Rattle.netdb_calls.proofs.texts.write_of.Goals as goal
 
 pub returns-in-Edif-clause-wrote : goal.returns-in-Edif-clause-wrote
@@ -69,3 +69,18 @@ returns-in-Erc-clause-fault g c = λ is. fault_flattened c.erc.result _ c.erc.en
 
 pub returns-in-Uses-clause-fault : goal.returns-in-Uses-clause-fault
 returns-in-Uses-clause-fault g c = λ is. fault_written c.uses.result _ c.uses.ensures.fault (sym c.of_write-in-Uses.ensures ∙ is)
+
+pub returns-in-Edif-clause-no_top : goal.returns-in-Edif-clause-no_top
+returns-in-Edif-clause-no_top g c = λ is. topped_written c.write.result _ (sym c.of_write.ensures ∙ is)
+
+pub returns-in-Flat-clause-no_top : goal.returns-in-Flat-clause-no_top
+returns-in-Flat-clause-no_top g c = λ is. untopped_flattened c.flat.result _ c.flat.ensures.untouched (sym c.of_flat.ensures ∙ is)
+
+pub returns-in-Csv-clause-no_top : goal.returns-in-Csv-clause-no_top
+returns-in-Csv-clause-no_top g c = λ is. untopped_flattened c.csv.result _ c.csv.ensures.untouched (sym c.of_flat-in-Csv.ensures ∙ is)
+
+pub returns-in-Erc-clause-no_top : goal.returns-in-Erc-clause-no_top
+returns-in-Erc-clause-no_top g c = λ is. untopped_flattened c.erc.result _ c.erc.ensures.untouched (sym c.of_flat-in-Erc.ensures ∙ is)
+
+pub returns-in-Uses-clause-no_top : goal.returns-in-Uses-clause-no_top
+returns-in-Uses-clause-no_top g c = λ is. topped_written c.uses.result _ (sym c.of_write-in-Uses.ensures ∙ is)

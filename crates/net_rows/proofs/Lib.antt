@@ -1,0 +1,6 @@
+pub mod BitLemmas
+mod IndexLemmas
+mod ListLemmas
+mod NestedLemmas
+pub mod RowLemmas
+mod TopLemmas

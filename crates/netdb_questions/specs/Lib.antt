@@ -1,0 +1,5 @@
+pub mod Answers
+pub mod Facts
+pub mod Items
+pub mod Lists
+pub mod Named
