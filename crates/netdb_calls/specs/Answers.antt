@@ -276,11 +276,11 @@ pub record AreQuestionsOf (desk : DeskFacts) (seat : ℕ) (made : Opened) : Type
   pub seen : Some questions.version ≡ option_map seen_at (pin_of (held_at desk seat))
   pub left : questions.left ≡ None
 
--- where its design has no top, there are none
+-- where its design has no top, there are none, whether there is memory or not
 abbrev pub QuestionsOnDesk : DeskFacts → ℕ → Result Opened Status → Type 0
 QuestionsOnDesk desk seat (Ok made) = AreQuestionsOf desk seat made
 QuestionsOnDesk desk seat (Err says.NoTop) = (seen : Shot) × (Some seen ≡ option_map seen_at (pin_of (held_at desk seat))) × (seen.design.top ≡ None)
-QuestionsOnDesk desk seat (Err says.NoMemory) = pin_of (held_at desk seat) ≢ None
+QuestionsOnDesk desk seat (Err says.NoMemory) = (seen : Shot) × (Some seen ≡ option_map seen_at (pin_of (held_at desk seat))) × (seen.design.top ≢ None)
 QuestionsOnDesk desk seat (Err says.WrongUse) = pin_of (held_at desk seat) ≡ None
 QuestionsOnDesk desk seat (Err other) = ⊥
 

@@ -8,7 +8,7 @@ use crate::view_calls::answer_view;
 use call_status::{Status, Told};
 use netdb_questions::{AskError, Questions};
 use netdb_view::View;
-use netlist_schema::NoMemory;
+use netlist_schema::{NoMemory, Shown};
 use question_calls::{QuestionCall, answer_question};
 use std::alloc::Global;
 
@@ -115,6 +115,9 @@ pub fn open_questions(alloc: Global, opened: &Opened, seat: u32) -> Result<Opene
     };
     let Some(seen) = desk.seen(seat) else {
         return Err(Status::WrongUse);
+    };
+    let Some(_) = seen.top() else {
+        return Err(Status::NoTop);
     };
     let Ok(version) = seen.share() else {
         return Err(Status::NoMemory);
