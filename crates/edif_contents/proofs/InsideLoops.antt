@@ -28,14 +28,15 @@ use Rattle.edif_parts.proofs.NamedForms.{NamedForms, forms_again, forms_distinct
 use Rattle.edif_parts.proofs.Steps.{fault_here, here_first, those_keep, those_skip}
 use Rattle.edif_contents.specs.Inners as inners
 use Rattle.edif_contents.specs.Inners.{InstTakenFault, InstsFault, ReadInsts}
-use Rattle.edif_contents.specs.Joins.{SameBit, ends_of, places_of, row_of}
-use Rattle.edif_contents.specs.Nets.{AreMeant, AreNamedAlike, AreNamedApart, IsFine, JoinOnce, JoinTwice, MeansNetIn, NetsFaultIn, NetsSoFar, ReadNet, ReadNets, RowFits, named, names_in, refs_in, row_names}
+use Rattle.edif_nets.specs.Joins.{SameBit, ends_of, places_of, row_of}
+use Rattle.edif_contents.specs.Nets.{AreMeant, IsFine, MeansNetIn, NetsFaultIn, NetsSoFar, ReadNet, ReadNets, RowFits, names_in, refs_in}
+use Rattle.edif_nets.specs.NetLists.{AreNamedAlike, AreNamedApart, JoinOnce, JoinTwice, named, row_names}
 use Rattle.edif_contents.specs.declared.ends.Surroundings.{Surroundings}
 use Rattle.edif_contents.specs.declared.insts.InstAt.{InstAt}
 use Rattle.edif_contents.specs.declared.insts.Insts.{Insts}
-use Rattle.edif_contents.specs.declared.net_list.NetList.{NetList}
+use Rattle.edif_nets.specs.declared.net_list.NetList.{NetList}
 use Rattle.edif_contents.specs.declared.nets.NetAt.{NetAt}
-use Rattle.edif_contents.proofs.JoinLemmas.{row_count, two_same}
+use Rattle.edif_nets.proofs.JoinLemmas.{row_count, two_same}
 use Rattle.edif_contents.proofs.NetLemmas.{each_bare}
 use Rattle.edif_contents.proofs.NetRows.{all_fit, beyond_one, beyond_row, flat_here, flat_push, named_row_more, names_read, places_row_more, wide_ends}
 

@@ -4,10 +4,7 @@ pub mod EndLemmas
 pub mod Followers
 pub mod InsideLoops
 pub mod InstLemmas
-pub mod JoinKeys
-pub mod JoinLemmas
 pub mod KnownLemmas
 pub mod NetLemmas
 pub mod NetRows
-pub mod Numbers
 pub mod RefLemmas

@@ -1,26 +1,25 @@
 -- What is read of nets.
 use Rattle.std.specs.Prelude.{◌≡◌, ◌^◌, ◌<◌, ◌≤◌, ◌⊎◌, ◌+◌, ◌*◌, ◌++◌, ℕ, List, [], ◌∷◌, Option, Some, map, length}
-use Rattle.std.specs.List.{All, AllByRecursion, AllZip, flat_map, zip}
+use Rattle.std.specs.List.{All, AllByRecursion, AllZip, flat_map}
 use Rattle.edif_spelling_spec.specs.Tree.{Bare, Placed, bare}
 use Rattle.netlist_schema.specs.Names.{AreDistinct, HasDistinctKeys}
 use Rattle.netlist_schema.specs.Typed.{IsTypedNet}
 use Rattle.netlist_schema.specs.declared.limits.TheConstants.{MOST_ENDS, MOST_NETS}
 use Rattle.edif_spec.specs.Design as design
 use Rattle.edif_spec.specs.Faults.{Among, AtTwo, Beyond, SameOfTwo, declared_width, defined, parts, repeated, those_of}
-use Rattle.edif_spec.specs.Nets.{FineForm, NetForm, name_at, nets_of, row_size}
-use Rattle.netlist_bus_spec.specs.Members.{numbered}
+use Rattle.edif_spec.specs.Nets.{FineForm, NetForm, nets_of, row_size}
 use Rattle.edif_spec.specs.Means.{MeansNet}
 use Rattle.edif_spec.specs.Rows.{Each, IsFormOf, those}
 use Rattle.edif_spec.specs.Stands.{JoinedFault, NetFault, SameEnd, counted_ends, ends_in, net_names_in, row_ends}
 use Rattle.edif_spec.specs.declared.fault.MeaningFault.{MeaningFault}
 use Rattle.edif_spec.specs.declared.keyword.Keyword.TheVariants as keywords
 use Rattle.edif_tree.specs.Handles.{all}
-use Rattle.edif_parts.specs.Names.{ids}
 use Rattle.edif_contents.specs.Ends.{ReadEnd, WidthFaultIn}
-use Rattle.edif_contents.specs.Joins.{SameBit, ends_of, places_of}
+use Rattle.edif_nets.specs.Joins.{places_of}
+use Rattle.edif_nets.specs.NetLists.{named}
 use Rattle.edif_contents.specs.declared.ends.EndAt.{EndAt}
 use Rattle.edif_contents.specs.declared.ends.Surroundings.{Surroundings}
-use Rattle.edif_contents.specs.declared.net_list.NetList.{NetList}
+use Rattle.edif_nets.specs.declared.net_list.NetList.{NetList}
 use Rattle.edif_contents.specs.declared.nets.JoinedAt.{JoinedAt}
 use Rattle.edif_contents.specs.declared.nets.NetAt.{NetAt}
 use Rattle.edif_contents.specs.declared.nets.StretchesAt.{StretchesAt}
@@ -61,28 +60,6 @@ pub record ReadNet (s : Surroundings) (t : Placed) (n : NetAt) : Type 0 where
   pub within : All (λ s. s.first < 2 ^ 32) n.form.joined
   pub named : defined t ≡ Some (n.form.name.id, n.place)
   pub nodes : all n.ends ≡ ends_in t
-
--- the names of the nets of a form, all at the place of the form's name
-abbrev pub row_names : NetForm → ℕ → List (List ℕ × ℕ)
-row_names n place = numbered (λ k. ((name_at n.name n.array k).id, place)) 0 (row_size n.array)
-
--- A net is added to those that are there, and the place of its name.
-pub record NetAdded (n : design.Net) (place : ℕ) (old new : NetList) : Type 0 where
-  pub nets : new.nets.items ≡ old.nets.items ++ n ∷ []
-  pub places : new.places.items ≡ old.places.items ++ place ∷ []
-  pub ends : new.ends.items ≡ old.ends.items
-
--- The nets of a form are added to those that are there, and the place of the form's name for each.
-pub record RowAdded (n : NetForm) (place : ℕ) (old new : NetList) : Type 0 where
-  pub nets : new.nets.items ≡ old.nets.items ++ nets_of n
-  pub places : new.places.items ≡ old.places.items ++ numbered (λ k. place) 0 (row_size n.array)
-  pub ends : new.ends.items ≡ old.ends.items
-
--- the names of nets, each with the place beside it
-abbrev pub named : List design.Net → List ℕ → List (List ℕ × ℕ)
-named [] ps = []
-named (n ∷ ns) [] = []
-named (n ∷ ns) (p ∷ ps) = (n.name.id, p) ∷ named ns ps
 
 -- The nets for which the forms of nets among these stand, within the limits, with names that differ and each bit joined once.
 pub record ReadNets (s : Surroundings) (ts : List Placed) (ns : List design.Net) : Type 0 where
@@ -126,20 +103,6 @@ pub record NetsSoFar (s : Surroundings) (ts : List Placed) (l : NetList) : Type 
 -- there is room for the nets of a form behind those of a list, and for their ends
 abbrev pub RowFits : NetList → Placed → NetForm → Type 0
 RowFits l t n = (length l.nets.items + row_size n.array ≤ MOST_NETS) × (length l.ends.items + length (ends_in t) * row_size n.array ≤ MOST_ENDS)
-
--- each bit is joined once by the nets of a list, and one that is not
-abbrev pub JoinOnce : NetList → Type 0
-JoinOnce l = AreDistinct (ends_of l.nets.items)
-
-abbrev pub JoinTwice : NetList → MeaningFault → Type 0
-JoinTwice l f = AtTwo (SameBit f) (zip (ends_of l.nets.items) l.ends.items)
-
--- the names of the nets of a list differ, and two that do not
-abbrev pub AreNamedApart : NetList → Type 0
-AreNamedApart l = AreDistinct (ids (named l.nets.items l.places.items))
-
-abbrev pub AreNamedAlike : NetList → MeaningFault → Type 0
-AreNamedAlike l f = AtTwo (SameOfTwo f) (named l.nets.items l.places.items)
 
 -- what is wrong with nets where this form comes next, whatever follows it
 abbrev pub NextNetFault : Surroundings → List Placed → Placed → MeaningFault → Type 0

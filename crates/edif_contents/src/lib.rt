@@ -2,13 +2,10 @@
 #![tactic(auto)]
 
 mod contents;
-mod differ;
 mod ends;
 mod insts;
-mod joins;
 mod known;
 mod limits;
-mod net_list;
 mod nets;
 mod references;
 

@@ -1,10 +1,9 @@
 //! Limits on how many forms may stand, and on where.
-ghost use Rattle.std.specs.Prelude.{◌≡◌, ◌<◌, ◌≤◌, IfOk};
+ghost use Rattle.std.specs.Prelude.{◌≡◌, ◌<◌, ◌≤◌};
 ghost use Rattle.edif_spec.specs.declared.fault.MeaningFault.TheVariants.{OverLimit};
 ghost use Rattle.edif_parts.specs.Reading.{Answers};
 
 use edif_parts::{EdifError, over_limit};
-use netlist_schema::NoMemory;
 
 /// Whether there is room for a form at this place, where so many stand before it; else it is the first beyond the limit.
 pub(crate) fn room(count: usize, limit: usize, place: u64) -> Result<(), EdifError>
@@ -14,15 +13,5 @@ pub(crate) fn room(count: usize, limit: usize, place: u64) -> Result<(), EdifErr
         Ok(())
     } else {
         Err(over_limit(limit as u64, place))
-    }
-}
-
-/// A place in 4 bytes. There is no memory for a larger one, which no file within its limit has.
-pub(crate) fn small(place: u64) -> Result<u32, NoMemory>
-    ensures { IfOk result (λ small. small ≡ place) }
-{
-    match u32::try_from(place) {
-        Ok(small) => Ok(small),
-        Err(_) => Err(NoMemory),
     }
 }

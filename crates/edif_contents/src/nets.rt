@@ -1,36 +1,31 @@
 //! Nets.
-ghost use Rattle.std.specs.Prelude.{◌≡◌, ◌+◌, ◌++◌, ◌∷◌, [], ◌^◌, ◌<◌, ◌≤◌, IfOk, List, None, OnOk, length, map, true};
+ghost use Rattle.std.specs.Prelude.{◌≡◌, ◌+◌, ◌++◌, ◌∷◌, [], ◌^◌, ◌<◌, ◌≤◌, IfOk, List, None, length, map, true};
 ghost use Rattle.std.specs.List.{All, AllByRecursion, AllZip};
 ghost use Rattle.edif_spelling_spec.specs.Tree.{Placed, bare};
 ghost use Rattle.edif_spec.specs.Faults.{Among, those_of};
 ghost use Rattle.edif_spec.specs.Rows.{has_keyword};
 ghost use Rattle.edif_spec.specs.Means.{MeansProperties};
 ghost use Rattle.edif_spec.specs.Stands.{JoinedFault, PropertiesFault};
-ghost use Rattle.edif_spec.specs.declared.fault.MeaningFault.TheVariants.{OverLimit};
 ghost use Rattle.edif_spec.specs.declared.keyword.Keyword.TheVariants.{Joined, Net as NetWord, PortRef, Property as PropertyWord};
 ghost use Rattle.edif_tree.specs.Handles.{here, all};
 ghost use Rattle.edif_contents.specs.Ends.{AreNamed, EndFaultIn, ReadEnd, WidthFaultIn};
 ghost use Rattle.netlist_schema.specs.Names.{HasDistinctKeys};
 ghost use Rattle.netlist_schema.specs.Typed.{IsTypedProperty};
 ghost use Rattle.netlist_schema.specs.declared.limits.TheConstants.{MOST_ENDS, MOST_NETS};
-ghost use Rattle.edif_spec.specs.Nets.{end_of, name_at, net_at, row_size};
+ghost use Rattle.edif_spec.specs.Nets.{row_size};
 ghost use Rattle.edif_spec.specs.Stands.{width_kind};
-ghost use Rattle.edif_contents.specs.Nets.{NetFaultIn, NetsFaultIn, NetsSoFar, NextNetFault, ReadJoined, ReadNet, ReadNets, ReadStretches, RowAdded, RowFits, StretchesFaultIn};
+ghost use Rattle.edif_contents.specs.Nets.{NetFaultIn, NetsFaultIn, NetsSoFar, NextNetFault, ReadJoined, ReadNet, ReadNets, ReadStretches, RowFits, StretchesFaultIn};
 ghost use Rattle.edif_parts.specs.Reading.{Answers};
 
 use crate::ends::{EndAt, Surroundings, read_end};
-use crate::joins::{check_ends, end_of, ends_room, row_places};
-use crate::net_list::{NetList, check_names};
-use bus_members::member_name;
 use edif_grammar::is_form_of;
-use edif_parts::{
-    BusName, EdifError, fault_at, over_limit, read_bus_name, read_parts, read_properties,
+use edif_nets::{
+    NetList, add_row, check_ends, check_names, ends_room, nets_room, row_places, row_size,
 };
+use edif_parts::{BusName, EdifError, fault_at, read_bus_name, read_parts, read_properties};
 use edif_spec::{Keyword, Kind, NetForm, Stretch};
 use edif_tree::{Node, Nodes};
-use netlist_schema::{
-    Copied, End, MOST_NETS, Name, Net, NoMemory, Property, Row, Shared, SharedRow, Width,
-};
+use netlist_schema::{Net, NoMemory, Property, Row, Shared, SharedRow, Width};
 use std::alloc::Global;
 
 /// What a net joins, and the nodes of its ends.
@@ -94,16 +89,6 @@ fn read_joined<'a>(
         ends,
         nodes: parts.inner,
     })
-}
-
-/// The number of nets in the row of a form.
-fn row_size(array: &Option<Width>) -> u32
-    ensures { result ≡ row_size array.now }
-{
-    match array {
-        Some(width) => width.get(),
-        None => 1,
-    }
 }
 
 /// What an end of another width than its net is.
@@ -201,97 +186,6 @@ fn read_net<'a>(
         place,
         ends: joined.nodes,
     })
-}
-
-/// The name of the net of number `k` of the row of a form.
-fn name_at(alloc: Global, form: &NetForm, k: u32) -> Result<Name, NoMemory>
-    ensures { IfOk result (λ name. name ≡ name_at form.now.name form.now.array k) }
-{
-    match form.array {
-        Some(_) => member_name(alloc, &form.name, k),
-        None => Copied::copy(&form.name, alloc),
-    }
-}
-
-/// The ends of the net of number `k` of a row that joins these stretches.
-fn ends_at(alloc: Global, stretches: &[Stretch], k: u32) -> Result<Row<End>, NoMemory>
-    requires within { All (λ s. k + s.first < 2 ^ 32) stretches.now }
-    ensures { IfOk result (λ ends. ends ≡ map (end_of k) stretches.now) }
-{
-    let mut ends = Vec::with_capacity(alloc, stretches.len())?;
-    for stretch in stretches {
-        ends.push(end_of(k, stretch))?;
-    }
-    Ok(Row::of(ends))
-}
-
-/// The net of number `k` of the row of a form.
-fn net_at(alloc: Global, form: &NetForm, k: u32) -> Result<Net, NoMemory>
-    requires within { All (λ s. k + s.first < 2 ^ 32) form.now.joined }
-    ensures { IfOk result (λ net. net ≡ net_at form.now k) }
-{
-    let name = name_at(alloc, form, k)?;
-    let ends = ends_at(alloc, form.joined.as_slice(), k)?;
-    let properties = form.properties.share()?;
-    Ok(Net {
-        name,
-        ends,
-        properties,
-    })
-}
-
-/// The one net of a form without an array, which takes over its name and its properties.
-fn only_net(alloc: Global, form: NetForm) -> Result<Net, NoMemory>
-    requires array { form.array ≡ None }
-    requires within { All (λ s. s.first < 2 ^ 32) form.joined }
-    ensures { IfOk result (λ net. net ≡ net_at form 0) }
-{
-    let ends = ends_at(alloc, form.joined.as_slice(), 0)?;
-    Ok(Net {
-        name: form.name,
-        ends,
-        properties: form.properties,
-    })
-}
-
-/// Adds the nets of the row of a form, as `add_row` does, each with a share of its properties.
-fn add_members(
-    alloc: Global,
-    form: &NetForm,
-    place: u64,
-    list: &mut NetList,
-) -> Result<(), NoMemory>
-    requires { All (λ s. s.first + row_size form.now.array ≤ 2 ^ 32) form.now.joined }
-    ensures { OnOk result (RowAdded form.now place list.old list.new) }
-{
-    for k in 0..row_size(&form.array) {
-        let net = net_at(alloc, form, k)?;
-        list.add(alloc, net, place)?;
-    }
-    Ok(())
-}
-
-/// Adds the nets of the row of a form, whose name stands at this place.
-fn add_row(alloc: Global, form: NetForm, place: u64, list: &mut NetList) -> Result<(), NoMemory>
-    requires { All (λ s. s.first + row_size form.array ≤ 2 ^ 32) form.joined }
-    ensures { OnOk result (RowAdded form place list.old list.new) }
-{
-    if form.array.is_some() {
-        return add_members(alloc, &form, place, list);
-    }
-    let net = only_net(alloc, form)?;
-    list.add(alloc, net, place)
-}
-
-/// Whether there is room for so many nets behind those that are there; else the form of these is the first beyond the limit.
-fn nets_room(count: usize, size: u32, place: u64) -> Result<(), EdifError>
-    requires { count ≤ MOST_NETS }
-    ensures { Answers (λ _. count + size ≤ MOST_NETS) (λ f. (MOST_NETS < count + size) × (f ≡ OverLimit MOST_NETS place)) result }
-{
-    if count as u64 + u64::from(size) > MOST_NETS as u64 {
-        return Err(over_limit(MOST_NETS as u64, place));
-    }
-    Ok(())
 }
 
 /// Whether there is room for the nets of the form at a node, which is read so, behind those of a list, and for their ends; else the

@@ -2,7 +2,8 @@ use Rattle.edif_spec.specs.Faults.{those_of}
 use Rattle.edif_spec.specs.declared.keyword.Keyword.TheVariants.{Net}
 use Rattle.edif_tree.specs.Handles.{all}
 use Rattle.edif_parts.proofs.Answering.{hand_on}
-use Rattle.edif_contents.specs.Nets.{AreNamedAlike, JoinTwice, NetsFaultIn}
+use Rattle.edif_contents.specs.Nets.{NetsFaultIn}
+use Rattle.edif_nets.specs.NetLists.{AreNamedAlike, JoinTwice}
 use Rattle.edif_contents.proofs.InsideLoops.{ends_fail, ends_placed, names_fail, nets_end}
 use Rattle.edif_contents.proofs.nets.read_nets.Goals as goal
 

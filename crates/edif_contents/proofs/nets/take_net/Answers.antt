@@ -4,7 +4,7 @@ use Rattle.edif_spec.specs.declared.keyword.Keyword.TheVariants.{Net}
 use Rattle.edif_tree.specs.Handles.{here, all}
 use Rattle.edif_parts.proofs.Answering.{hand_on}
 use Rattle.edif_parts.proofs.Steps.{fault_here}
-use Rattle.edif_contents.specs.Joins.{places_of, row_of}
+use Rattle.edif_nets.specs.Joins.{places_of, row_of}
 use Rattle.edif_contents.specs.Nets.{NetFaultIn, NextNetFault}
 use Rattle.edif_contents.proofs.InsideLoops.{net_ends_fit, nets_push, row_small}
 use Rattle.edif_contents.proofs.nets.take_net.Goals as goal

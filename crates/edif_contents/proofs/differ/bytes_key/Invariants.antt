@@ -1,7 +1,0 @@
-use Rattle.std.proofs.Common.{◌≡◌, drop}
-use Rattle.edif_contents.specs.Keys.{name_key}
-use Rattle.edif_contents.proofs.differ.bytes_key.Given as goal
-
--- with the bytes that are left it is the number of the whole name
-abbrev pub invariant-loop-byte : goal.invariant-loop-byte
-invariant-loop-byte l = name_key l.key (drop l.byte-index l.bytes) ≡ name_key 0 l.bytes

@@ -1,0 +1,4 @@
+pub mod JoinKeys
+pub mod JoinLemmas
+pub mod NetListing
+pub mod Numbers
