@@ -1,3 +1,3 @@
-mod KnownLemmas
 mod RowLemmas
 mod SinkLemmas
+pub mod TextLemmas

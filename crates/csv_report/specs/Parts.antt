@@ -1,8 +1,13 @@
 -- The row of a pin.
-use Rattle.std.specs.Prelude.{ℕ, List}
+use Rattle.std.specs.Prelude.{ℕ, List, [], ◌∷◌, Option, Some, None}
+use Rattle.std.specs.Fmt.{decimal}
 use Rattle.std.specs.Option.{option_map}
 use Rattle.netlist_schema.specs.Design.{Design}
 use Rattle.flat_items.specs.Lent.{net_of}
+use Rattle.flat_items.specs.Texts.{net_in, port_in}
+use Rattle.flat_items.specs.declared.texts.ItemText.{ItemText}
+use Rattle.flat_items.specs.declared.texts.ItemText.TheVariants.{Enter, Net, Pin}
+use Rattle.flat_items.specs.declared.texts.NetText.{NetText}
 use Rattle.flat_csv_spec.specs.Fields.{row}
 use Rattle.flat_csv_spec.specs.PinTable.{pin_fields}
 use Rattle.csv_report.specs.declared.pin.PinRef.{PinRef}
@@ -10,3 +15,13 @@ use Rattle.csv_report.specs.declared.pin.PinRef.{PinRef}
 -- its fields, as a row
 abbrev pub row_of_pin : Design → PinRef → List ℕ
 row_of_pin d pin = row (pin_fields d pin.path.now pin.port pin.bit (option_map net_of pin.first))
+
+-- the same by the texts of its paths
+abbrev pub first_fields : Design → Option NetText → List (List ℕ)
+first_fields d None = [] ∷ [] ∷ []
+first_fields d (Some first) = first.at.text.now ∷ net_in d first.at.cell first.net ∷ []
+
+abbrev pub row_of_text : Design → ItemText → List ℕ
+row_of_text d (Enter at properties) = []
+row_of_text d (Net at net first) = []
+row_of_text d (Pin at port bit first) = row (at.text.now ∷ port_in d at.cell port ∷ decimal bit ∷ first_fields d first)

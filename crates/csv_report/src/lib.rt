@@ -1,7 +1,6 @@
 //! The pins of a flattening, as rows of comma-separated text.
 #![tactic(auto)]
 
-mod known;
 mod pin;
 mod pins;
 mod places;

@@ -1,109 +1,58 @@
 //! The rows of pins on their way to a sink.
-ghost use Rattle.flat_csv_spec.specs.PinTable.{pin_row as row_of_item};
+ghost use Rattle.std.specs.Prelude.{◌≡◌, [], ◌∷◌};
 ghost use Rattle.netdb_outside.specs.Buffered.{Writes};
-ghost use Rattle.flat_items.specs.Lent.{item_of};
-ghost use Rattle.csv_report.specs.Parts.{row_of_pin};
+ghost use Rattle.csv_report.specs.Parts.{first_fields, row_of_text};
 
-use crate::known::{known_first, known_port};
-use crate::pin::PinRef;
-use crate::places::{first_name, first_path_bytes, path_bytes, port_name};
 use crate::sink::RowSink;
-use flat_items::ItemRef;
+use flat_items::{ItemText, NetText};
+use flat_lookup::{net_name, port_name};
 use itoa::Buffer;
 use netdb_outside::Sink;
 use netlist_schema::Shown;
-use path_texts::PathTexts;
-use std::alloc::Global;
 
-/// Writes the row of a lent item, as `lent_row` appends it.
-pub fn put_item<S: Shown, K: Sink>(
-    alloc: Global,
-    texts: &PathTexts<'_, S>,
-    item: ItemRef<'_>,
-    rows: &mut RowSink,
-    out: &mut K,
-)
-    ensures { Writes K.written K.faults out.old rows.old out.new rows.new (row_of_item texts.now (item_of item.entry)) }
+/// The path of the occurrence of a net, and the net's identifier.
+#[derive(Clone, Copy)]
+struct NetFields<'t, 'd> {
+    path: &'t [u8],
+    name: &'d [u8],
+}
+
+/// Those of a representative, two empty texts where there is none.
+#[inline(always)]
+fn net_fields<'t, 'd, S: Shown>(design: &'d S, first: Option<NetText<'t>>) -> NetFields<'t, 'd>
+    ensures { result.path.now ∷ result.name.now ∷ [] ≡ first_fields (S.design design.now) first.entry }
+{
+    match first {
+        Some(net) => NetFields {
+            path: net.at.text,
+            name: net_name(design, Some(net.at.cell), net.net),
+        },
+        None => NetFields {
+            path: &[],
+            name: &[],
+        },
+    }
+}
+
+/// Writes the row of an item whose paths are lent as texts, as `pin_row` appends it.
+#[inline(always)]
+pub fn put_item<S: Shown, K: Sink>(design: &S, item: ItemText<'_>, rows: &mut RowSink, out: &mut K)
+    ensures { Writes K.written K.faults out.old rows.old out.new rows.new (row_of_text (S.design design.now) item.entry) }
 {
     match item {
-        ItemRef::Pin {
-            path,
+        ItemText::Pin {
+            at,
             port,
             bit,
             first,
         } => {
-            let pin = PinRef {
-                path,
-                port,
-                bit,
-                first,
-            };
-            put_pin(alloc, texts, pin, rows, out);
+            let name = port_name(design, Some(at.cell), port);
+            let net = net_fields(design, first);
+            let mut buffer = Buffer::new();
+            let digits = buffer.format(bit).as_bytes();
+            rows.put_row(&[at.text, name, digits, net.path, net.name], out);
         }
-        ItemRef::Enter { .. } => (),
-        ItemRef::Net { .. } => (),
+        ItemText::Enter { .. } => (),
+        ItemText::Net { .. } => (),
     }
-}
-
-/// Writes the row of a pin.
-fn put_pin<S: Shown, K: Sink>(
-    alloc: Global,
-    texts: &PathTexts<'_, S>,
-    pin: PinRef<'_>,
-    rows: &mut RowSink,
-    out: &mut K,
-)
-    ensures { Writes K.written K.faults out.old rows.old out.new rows.new (row_of_pin texts.now pin.entry) }
-{
-    let Some(at) = known_port(texts, pin.path, pin.port) else {
-        return put_made(alloc, texts.design(), pin, rows, out);
-    };
-    let Some(net) = known_first(texts, pin.first) else {
-        return put_made(alloc, texts.design(), pin, rows, out);
-    };
-    let mut buffer = Buffer::new();
-    rows.put_row(
-        &[
-            at.path,
-            at.name,
-            buffer.format(pin.bit).as_bytes(),
-            net.path,
-            net.name,
-        ],
-        out,
-    );
-}
-
-/// The same, where the text of a path is not kept.
-fn put_made<S: Shown, K: Sink>(
-    alloc: Global,
-    design: &S,
-    pin: PinRef<'_>,
-    rows: &mut RowSink,
-    out: &mut K,
-)
-    ensures { Writes K.written K.faults out.old rows.old out.new rows.new (row_of_pin (S.design design.now) pin.entry) }
-{
-    if rows.is_stuck() {
-        return;
-    }
-    let Ok(place) = path_bytes(alloc, design, pin.path) else {
-        rows.run_out();
-        return;
-    };
-    let Ok(net_place) = first_path_bytes(alloc, design, pin.first) else {
-        rows.run_out();
-        return;
-    };
-    let mut buffer = Buffer::new();
-    rows.put_row(
-        &[
-            place.as_slice(),
-            port_name(design, pin.path, pin.port),
-            buffer.format(pin.bit).as_bytes(),
-            net_place.as_slice(),
-            first_name(design, pin.first),
-        ],
-        out,
-    );
 }

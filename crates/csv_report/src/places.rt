@@ -8,7 +8,7 @@ ghost use Rattle.flat_items.specs.Lent.{net_of};
 use flat_items::NetRef;
 use flat_lookup::cell_along;
 use netlist_schema::{CellId, NoMemory, Shown};
-use path_texts::{PathTexts, push_path};
+use path_texts::push_path;
 use std::alloc::Global;
 
 /// The path of an occurrence: `/` before the identifier of each instance to which it leads from the top, and `/` alone for the top.
@@ -16,7 +16,7 @@ pub fn path_bytes<S: Shown>(alloc: Global, design: &S, path: &[u32]) -> Result<V
     ensures { IfOk result (λ text. text.items ≡ path_text (S.design design.now) path.now) }
 {
     let mut text = Vec::new(alloc);
-    push_path(&PathTexts::new(alloc, design), path, &mut text)?;
+    push_path(design, path, &mut text)?;
     Ok(text)
 }
 

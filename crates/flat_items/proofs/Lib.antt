@@ -10,4 +10,5 @@ mod NoteLemmas
 pub mod PinLemmas
 pub mod PortLemmas
 pub mod StageLemmas
+pub mod TextLemmas
 mod WayLemmas

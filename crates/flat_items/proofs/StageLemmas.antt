@@ -39,12 +39,12 @@ net_there d o n less =
     slice_get-get_or (range_with_len 0 count) n 0 within ∙ ap Some (get_or-range_with_len 0 count n 0 less ∙ omega arith) in
     slice_get-map (at_path o.path) (range_with_len 0 count) n ∙ ap (option_map (at_path o.path)) at
 
-net_opens : (d : Design) (o : Occurrence) (n : ℕ) → n < length (nets_at d o.cell)
+pub net_opens : (d : Design) (o : Occurrence) (n : ℕ) → n < length (nets_at d o.cell)
     → own_left d o (Nets n) ≡ net_item d (top_of d).cell (at_path o.path n) ∷ own_left d o (Nets (n + 1))
 net_opens d o n less =
     ap (λ (v : List NetAt). map (net_item d (top_of d).cell) v ++ pins_of d o) (drop_next (own_nets d o) n (at_path o.path n) (net_there d o n less))
 
-opened_ahead : (items others : List Item) (item : Item) (v : Item) → items ≡ v ∷ others → item ≡ v → items ≡ item ∷ drop 1 items
+pub opened_ahead : (items others : List Item) (item : Item) (v : Item) → items ≡ v ∷ others → item ≡ v → items ≡ item ∷ drop 1 items
 opened_ahead items others item v is same = is ∙ ap (λ x. x ∷ others) (sym same) ∙ ap (λ xs. item ∷ drop 1 xs) (sym is)
 
 -- a net, and behind it the others
@@ -65,7 +65,7 @@ nets_past d o n p past zero_is =
     ap (λ (v : List NetAt). map (net_item d (top_of d).cell) v ++ pins_of d o) (drop_all n (own_nets d o) none)
     ∙ ap (λ k. drop k (pins_of d o)) (sym zero_is)
 
-pin_opens : (d : Design) → IsValid d → (o : Occurrence) (p : PinAt) (port : Port) → slice_get (ports_shown d o) p.port ≡ Some port
+pub pin_opens : (d : Design) → IsValid d → (o : Occurrence) (p : PinAt) (port : Port) → slice_get (ports_shown d o) p.port ≡ Some port
     → IsPinAt (ports_shown d o) p
     → own_left d o (Pins p) ≡ pin_item d (top_of d).cell o.path (record { port = p.port; bit = p.bit }) ∷ drop (p.number + 1) (pins_of d o)
 pin_opens d valid o p port at is =

@@ -5,4 +5,5 @@ pub mod Named
 pub mod Placed
 pub mod Ports
 pub mod Stand
+pub mod Texts
 pub mod Ways

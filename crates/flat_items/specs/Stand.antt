@@ -8,6 +8,7 @@ use Rattle.flat_spec.specs.Paths.{Reaches, nets_at}
 use Rattle.net_classes.specs.Facts.{Facts}
 use Rattle.net_classes.specs.PortClasses.{AreClasses}
 use Rattle.net_names.specs.Names.{AreNames}
+use Rattle.path_texts.specs.Texts.{steps_text}
 use Rattle.flat_items.specs.Placed.{ArePlaced}
 use Rattle.flat_items.specs.declared.notes.PlacedNotes.{PlacedNotes}
 use Rattle.flat_items.specs.Ports.{IsPinAt, ports_shown}
@@ -24,15 +25,16 @@ no_top = record { name = record { id = []; shown = None }; cell = record { lib =
 abbrev pub top_of : Design → TopHead
 top_of d = unwrap_or d.top no_top
 
--- a place as plain lists: the frames above, that of the occurrence itself, what it gives next, and the path to it
+-- a place as plain lists: the frames above, that of the occurrence itself, what it gives next, the path to it, and the text of that
 pub record Stand : Type 0 where
   pub above : List Frame
   pub here : Frame
   pub stage : Stage
   pub path : List ℕ
+  pub text : List ℕ
 
 abbrev pub stand_of : Place → Stand
-stand_of place = record { above = place.above.items; here = place.here; stage = place.stage; path = place.path.steps.items }
+stand_of place = record { above = place.above.items; here = place.here; stage = place.stage; path = place.path.steps.items; text = place.text.items }
 
 -- the occurrence whose items are given
 abbrev pub here_of : Stand → Occurrence
@@ -49,6 +51,7 @@ pub record IsGround (d : Design) (facts : Facts) (notes : PlacedNotes) : Type 0 
 pub record IsFrame (d : Design) (path : List ℕ) (f : Frame) : Type 0 where
   pub reached : Reaches d (top_of d).cell path f.cell
   pub names : AreNames d (top_of d).cell path f.cell f.names.items
+  pub end_is : f.end ≡ length (steps_text d (top_of d).cell path)
 
 -- frames of the occurrences along steps, from the one at the first path down to the one before the last step is made
 abbrev pub AreAbove : Design → List ℕ → List ℕ → List Frame → Type 0
@@ -64,11 +67,12 @@ IsStage d o (Nets n) = n < length (nets_at d o.cell)
 IsStage d o (Pins p) = IsPinAt (ports_shown d o) p × IsSome (slice_get (ports_shown d o) p.port)
 IsStage d o Done = Unit {0}
 
--- the frames are those along the path, from the top down
+-- the frames are those along the path, from the top down, and the text is that of the path
 pub record MayStand (d : Design) (s : Stand) : Type 0 where
   pub above : AreAbove d [] s.path s.above
   pub here : IsFrame d s.path s.here
   pub stage : IsStage d (here_of s) s.stage
+  pub text_is : s.text ≡ steps_text d (top_of d).cell s.path
 
 -- the frame of the occurrence above, and the last step; none at the top
 abbrev pub IsParent : Design → Stand → Option Parent → Type 0

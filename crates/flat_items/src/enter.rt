@@ -38,7 +38,10 @@ fn base_properties<'a, S: Shown>(design: &'a S, place: &Place) -> &'a [Property]
 
 /// The effective properties of the occurrence.
 #[inline(always)]
-fn properties<'a, S: Shown + Drop>(ground: &'a Ground<S>, place: &Place) -> PropertiesRef<'a>
+pub(crate) fn properties<'a, S: Shown + Drop>(
+    ground: &'a Ground<S>,
+    place: &Place,
+) -> PropertiesRef<'a>
     requires ground { IsGround (S.design ground.now.design) ground.now.classes ground.now.notes }
     requires stands { MayStand (S.design ground.now.design) (stand_of place.now) }
     ensures { properties_of result ≡ effective (S.design ground.now.design) (top_of (S.design ground.now.design)) place.now.path.steps.items }

@@ -5,6 +5,7 @@ ghost use Rattle.flat_spec.specs.Representatives.{representative};
 ghost use Rattle.net_names.specs.Names.{name_in, net_named};
 ghost use Rattle.flat_items.specs.Lent.{net_of as net_lent};
 ghost use Rattle.flat_items.specs.Stand.{IsFrame, IsGround, top_of};
+ghost use Rattle.flat_items.specs.Texts.{IsFront};
 
 use crate::ground::Ground;
 use crate::lent::NetRef;
@@ -16,7 +17,8 @@ use netlist_schema::Shown;
 #[inline(always)]
 fn net_of(path: &[u32], name: NetName) -> NetRef<'_>
     requires { name.depth ≤ length path.now }
-    ensures { net_lent result ≡ net_named path.now name }
+    ensures net { net_lent result ≡ net_named path.now name }
+    ensures front { IsFront path.now result.path.now }
 {
     NetRef {
         path: &path[..name.depth as usize],
@@ -44,7 +46,8 @@ pub(crate) fn first_of<'a, S: Shown + Drop>(
     requires ground { IsGround (S.design ground.now.design) ground.now.classes ground.now.notes }
     requires frame { IsFrame (S.design ground.now.design) path.now frame.now }
     requires net { IsNet (S.design ground.now.design) frame.now.cell (at_root net) }
-    ensures { net_lent result ≡ representative (S.design ground.now.design) (top_of (S.design ground.now.design)).cell (at_path path.now net) }
+    ensures net { net_lent result ≡ representative (S.design ground.now.design) (top_of (S.design ground.now.design)).cell (at_path path.now net) }
+    ensures front { IsFront path.now result.path.now }
 {
     let firsts = ground.classes.firsts(frame.cell);
     let name = name_at(frame.names.as_slice(), firsts, net);

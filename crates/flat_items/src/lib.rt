@@ -15,6 +15,7 @@ mod pins;
 mod place;
 mod ports;
 mod steps;
+mod texts;
 
 pub use behind::stage_behind;
 pub use ground::Ground;
@@ -23,3 +24,4 @@ pub use lent::{ItemRef, NetRef, PropertiesRef};
 pub use notes::PlacedNotes;
 pub use place::{Frame, Parent, PinAt, Place, Stage};
 pub use steps::Steps;
+pub use texts::{ItemText, NetText, text_ahead};

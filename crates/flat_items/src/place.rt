@@ -1,5 +1,5 @@
 //! Where a walk stands.
-ghost use Rattle.std.specs.Prelude.{◌≡◌, OnErr, OnOk};
+ghost use Rattle.std.specs.Prelude.{◌≡◌, ◌++◌, codes, OnErr, OnOk};
 ghost use Rattle.netlist_schema.specs.Design.{Design};
 ghost use Rattle.flat_items.specs.Left.{is_over};
 ghost use Rattle.flat_items.specs.Moves.{HasEntered, HasLeft};
@@ -52,6 +52,8 @@ pub struct Frame {
     pub from: usize,
     pub upto: usize,
     pub near: usize,
+    /// Where the text of the path to it ends.
+    pub end: usize,
     /// For each first net of its contents the first net of the design that is connected with it.
     pub names: Vec<NetName>,
 }
@@ -65,12 +67,13 @@ pub struct Parent<'a> {
 }
 
 /// Where a walk stands: the occurrences from the top down to the parent of the one whose items it gives, that one, what it gives of
-/// it next, and the steps from the top to it.
+/// it next, the steps from the top to it, and of each step `/` and the identifier of its instance.
 pub struct Place {
     pub above: Vec<Frame>,
     pub here: Frame,
     pub stage: Stage,
     pub path: Steps,
+    pub text: Vec<u8>,
 }
 
 impl Drop for Place {
@@ -80,8 +83,24 @@ impl Drop for Place {
             here: _,
             stage: _,
             path: _,
+            text: _,
         } = self;
     }
+}
+
+/// Appends `/` and a name. After `NoMemory` the text is as before.
+#[inline(always)]
+fn push_name(name: &[u8], text: &mut Vec<u8>) -> Result<(), NoMemory>
+    ensures ok { OnOk result (text.new.items ≡ text.old.items ++ (codes "/" ++ name.now)) }
+    ensures err { OnErr result (text.new.items ≡ text.old.items) }
+{
+    let before = text.len();
+    text.push(b'/')?;
+    if text.extend_from_slice(name).is_err() {
+        text.truncate(before);
+        return Err(NoMemory);
+    }
+    Ok(())
 }
 
 impl Place {
@@ -103,15 +122,17 @@ impl Place {
         })
     }
 
-    /// Enters by a step the occurrence whose frame this is; the one that is left above goes on later with the instance at `next`. After
-    /// `NoMemory` all is as before.
+    /// Enters by a step the occurrence whose frame this is, and whose instance has that name; the one that is left above goes on later
+    /// with the instance at `next`. After `NoMemory` all is as before.
     #[inline(always)]
-    pub fn enter(&mut self, step: u32, next: u32, frame: Frame) -> Result<(), NoMemory>
-        ensures ok { OnOk result (HasEntered (stand_of self.old) step next frame (stand_of self.new)) }
+    pub fn enter(&mut self, step: u32, next: u32, name: &[u8], frame: Frame) -> Result<(), NoMemory>
+        ensures ok { OnOk result (HasEntered (stand_of self.old) step next name.now frame (stand_of self.new)) }
         ensures err { OnErr result (stand_of self.new ≡ stand_of self.old) }
     {
         self.above.reserve(1)?;
-        self.path.steps.push(step)?;
+        self.path.steps.reserve(1)?;
+        push_name(name, &mut self.text)?;
+        self.path.steps.push_reserved(step);
         let near = frame.upto;
         let mut above = mem::replace(&mut self.here, frame);
         above.next = next;
@@ -129,6 +150,7 @@ impl Place {
         match self.above.pop() {
             Some(parent) => {
                 self.path.steps.pop();
+                self.text.truncate(parent.end);
                 self.here = parent;
                 self.stage = Stage::Done;
                 true

@@ -10,13 +10,11 @@ ghost use Rattle.flat_items.specs.Lent.{item_of, net_of, properties_of};
 
 use crate::names::{cell_name, lib_name};
 use crate::paths::{push_first, push_net_words, push_place};
-use crate::whole::push_whole;
 use crate::words::{push_number, push_properties, push_word};
 use flat_items::{ItemRef, NetRef, PropertiesRef};
 use flat_lookup::port_name;
 use flat_spec::Item;
 use netlist_schema::{CellId, NoMemory, Shown};
-use path_texts::PathTexts;
 use std::alloc::Global;
 
 /// Appends the line of an item, with the line feed at its end: `inst PATH LIB CELL` and the properties; `net PATH NET` and the path
@@ -45,53 +43,25 @@ pub fn lent_text<S: Shown>(
     ensures ok { OnOk result (out.new.items ≡ out.old.items ++ item_line (S.design design.now) (item_of item.entry)) }
     ensures err { OnErr result (out.new.items ≡ out.old.items) }
 {
-    kept_text(alloc, &PathTexts::new(alloc, design), item, out)
-}
-
-/// The same of a lent item, with the text of the path that was kept.
-#[inline(always)]
-pub fn kept_text<S: Shown>(
-    alloc: Global,
-    texts: &PathTexts<'_, S>,
-    item: ItemRef<'_>,
-    out: &mut Vec<u8>,
-) -> Result<(), NoMemory>
-    ensures ok { OnOk result (out.new.items ≡ out.old.items ++ item_line texts.now (item_of item.entry)) }
-    ensures err { OnErr result (out.new.items ≡ out.old.items) }
-{
     let before = out.len();
-    if push_line(alloc, texts, item, out).is_err() {
+    if push_line(alloc, design, item, out).is_err() {
         out.truncate(before);
         return Err(NoMemory);
     }
     Ok(())
 }
 
-/// Keeps the text of the path of an item with which an occurrence begins; at other items that of the path before stays kept.
-#[inline(always)]
-pub fn keep_path<S: Shown>(texts: &mut PathTexts<'_, S>, item: ItemRef<'_>)
-    ensures { texts.new ≡ texts.old }
-{
-    if let ItemRef::Enter { path, .. } = item {
-        texts.keep(path);
-    }
-}
-
 /// Appends the line of an item. After `NoMemory` some bytes may stand behind those before.
-#[inline(always)]
 fn push_line<S: Shown>(
     alloc: Global,
-    texts: &PathTexts<'_, S>,
+    design: &S,
     item: ItemRef<'_>,
     out: &mut Vec<u8>,
 ) -> Result<(), NoMemory>
-    ensures ok { OnOk result (out.new.items ≡ out.old.items ++ item_line texts.now (item_of item.entry)) }
+    ensures ok { OnOk result (out.new.items ≡ out.old.items ++ item_line (S.design design.now) (item_of item.entry)) }
     ensures grows { Grows out.old.items out.new.items }
 {
-    if push_whole(alloc, texts, item, out)? {
-        return Ok(());
-    }
-    push_item(alloc, texts, item, out)?;
+    push_item(alloc, design, item, out)?;
     out.push(b'\n')?;
     Ok(())
 }
@@ -99,11 +69,11 @@ fn push_line<S: Shown>(
 /// Appends the words of an item. After `NoMemory` some bytes may stand behind those before.
 fn push_item<S: Shown>(
     alloc: Global,
-    texts: &PathTexts<'_, S>,
+    design: &S,
     item: ItemRef<'_>,
     out: &mut Vec<u8>,
 ) -> Result<(), NoMemory>
-    ensures ok { OnOk result (out.new.items ≡ out.old.items ++ spaced (item_words texts.now (item_of item.entry))) }
+    ensures ok { OnOk result (out.new.items ≡ out.old.items ++ spaced (item_words (S.design design.now) (item_of item.entry))) }
     ensures grows { Grows out.old.items out.new.items }
 {
     match item {
@@ -111,32 +81,32 @@ fn push_item<S: Shown>(
             path,
             cell,
             properties,
-        } => push_enter(alloc, texts, path, cell, properties, out),
-        ItemRef::Net { path, net, first } => push_net(texts, path, net, first, out),
+        } => push_enter(alloc, design, path, cell, properties, out),
+        ItemRef::Net { path, net, first } => push_net(design, path, net, first, out),
         ItemRef::Pin {
             path,
             port,
             bit,
             first,
-        } => push_pin(texts, path, port, bit, first, out),
+        } => push_pin(design, path, port, bit, first, out),
     }
 }
 
 /// Appends the words of an occurrence. After `NoMemory` some bytes may stand behind those before.
 fn push_enter<S: Shown>(
     alloc: Global,
-    texts: &PathTexts<'_, S>,
+    design: &S,
     path: &[u32],
     cell: CellId,
     properties: PropertiesRef<'_>,
     out: &mut Vec<u8>,
 ) -> Result<(), NoMemory>
-    ensures ok { OnOk result (out.new.items ≡ out.old.items ++ spaced (item_words texts.now (Item.Enter path.now cell (properties_of properties.entry)))) }
+    ensures ok { OnOk result (out.new.items ≡ out.old.items ++ spaced (item_words (S.design design.now) (Item.Enter path.now cell (properties_of properties.entry)))) }
     ensures grows { Grows out.old.items out.new.items }
 {
     out.extend_from_slice(b"inst")?;
-    push_place(texts, path, out)?;
-    push_cell(texts.design(), cell, out)?;
+    push_place(design, path, out)?;
+    push_cell(design, cell, out)?;
     push_lent(alloc, properties, out)
 }
 
@@ -169,36 +139,36 @@ fn push_cell<S: Shown>(design: &S, cell: CellId, out: &mut Vec<u8>) -> Result<()
 
 /// Appends the words of a net. After `NoMemory` some bytes may stand behind those before.
 fn push_net<S: Shown>(
-    texts: &PathTexts<'_, S>,
+    design: &S,
     path: &[u32],
     net: u32,
     first: NetRef<'_>,
     out: &mut Vec<u8>,
 ) -> Result<(), NoMemory>
-    ensures ok { OnOk result (out.new.items ≡ out.old.items ++ spaced (item_words texts.now (Item.Net path.now net (net_of first.entry)))) }
+    ensures ok { OnOk result (out.new.items ≡ out.old.items ++ spaced (item_words (S.design design.now) (Item.Net path.now net (net_of first.entry)))) }
     ensures grows { Grows out.old.items out.new.items }
 {
     out.extend_from_slice(b"net")?;
-    push_net_words(texts, path, net, out)?;
-    push_first(texts, first, out)
+    push_net_words(design, path, net, out)?;
+    push_first(design, first, out)
 }
 
 /// Appends the words of a pin. After `NoMemory` some bytes may stand behind those before.
 fn push_pin<S: Shown>(
-    texts: &PathTexts<'_, S>,
+    design: &S,
     path: &[u32],
     port: u32,
     bit: u32,
     first: Option<NetRef<'_>>,
     out: &mut Vec<u8>,
 ) -> Result<(), NoMemory>
-    ensures ok { OnOk result (out.new.items ≡ out.old.items ++ spaced (item_words texts.now (Item.Pin path.now port bit (option_map net_of first.entry)))) }
+    ensures ok { OnOk result (out.new.items ≡ out.old.items ++ spaced (item_words (S.design design.now) (Item.Pin path.now port bit (option_map net_of first.entry)))) }
     ensures grows { Grows out.old.items out.new.items }
 {
     out.extend_from_slice(b"pin")?;
-    let cell = push_place(texts, path, out)?;
-    push_bit(port_name(texts.design(), cell, port), bit, out)?;
-    push_joined(texts, first, out)
+    let cell = push_place(design, path, out)?;
+    push_bit(port_name(design, cell, port), bit, out)?;
+    push_joined(design, first, out)
 }
 
 /// Appends a port's identifier and a bit, each behind a blank. After `NoMemory` some bytes may stand behind those before.
@@ -213,16 +183,16 @@ fn push_bit(port: &[u8], bit: u32, out: &mut Vec<u8>) -> Result<(), NoMemory>
 /// Appends the representative of the net that joins a pin, or `-` where none does, each word behind a blank. After `NoMemory` some
 /// bytes may stand behind those before.
 fn push_joined<S: Shown>(
-    texts: &PathTexts<'_, S>,
+    design: &S,
     first: Option<NetRef<'_>>,
     out: &mut Vec<u8>,
 ) -> Result<(), NoMemory>
     ensures ok { OnOk result (out.new.items
-        ≡ out.old.items ++ behind_blanks (option_map_or (net_words texts.now) (option_map net_of first.entry) (codes "-" ∷ []))) }
+        ≡ out.old.items ++ behind_blanks (option_map_or (net_words (S.design design.now)) (option_map net_of first.entry) (codes "-" ∷ []))) }
     ensures grows { Grows out.old.items out.new.items }
 {
     match first {
-        Some(first) => push_first(texts, first, out),
+        Some(first) => push_first(design, first, out),
         None => push_word(b"-", out),
     }
 }

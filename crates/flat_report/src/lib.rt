@@ -7,4 +7,5 @@ mod paths;
 mod whole;
 mod words;
 
-pub use items::{item_text, keep_path, kept_text, lent_text};
+pub use items::{item_text, lent_text};
+pub use whole::text_line;

@@ -10,45 +10,45 @@ use crate::words::push_word;
 use flat_items::NetRef;
 use flat_lookup::net_name;
 use netlist_schema::{CellId, NoMemory, Shown};
-use path_texts::{PathTexts, push_path};
+use path_texts::push_path;
 
 /// Appends a blank and a path, and returns the cell that it reaches. After `NoMemory` some bytes may stand behind those before.
 pub(crate) fn push_place<S: Shown>(
-    texts: &PathTexts<'_, S>,
+    design: &S,
     path: &[u32],
     out: &mut Vec<u8>,
 ) -> Result<Option<CellId>, NoMemory>
-    ensures cell { IfOk result (λ cell. cell ≡ cell_below_top texts.now path.now) }
-    ensures text { OnOk result (out.new.items ≡ out.old.items ++ (codes " " ++ path_text texts.now path.now)) }
+    ensures cell { IfOk result (λ cell. cell ≡ cell_below_top (S.design design.now) path.now) }
+    ensures text { OnOk result (out.new.items ≡ out.old.items ++ (codes " " ++ path_text (S.design design.now) path.now)) }
     ensures grows { Grows out.old.items out.new.items }
 {
     out.push(b' ')?;
-    push_path(texts, path, out)
+    push_path(design, path, out)
 }
 
 /// Appends the path and the identifier of a net, each behind a blank. After `NoMemory` some bytes may stand behind those before.
 pub(crate) fn push_net_words<S: Shown>(
-    texts: &PathTexts<'_, S>,
+    design: &S,
     path: &[u32],
     net: u32,
     out: &mut Vec<u8>,
 ) -> Result<(), NoMemory>
-    ensures ok { OnOk result (out.new.items ≡ out.old.items ++ behind_blanks (net_words texts.now (at_path path.now net))) }
+    ensures ok { OnOk result (out.new.items ≡ out.old.items ++ behind_blanks (net_words (S.design design.now) (at_path path.now net))) }
     ensures grows { Grows out.old.items out.new.items }
 {
-    let cell = push_place(texts, path, out)?;
-    push_word(net_name(texts.design(), cell, net), out)
+    let cell = push_place(design, path, out)?;
+    push_word(net_name(design, cell, net), out)
 }
 
 /// Appends the path and the identifier of a representative, each behind a blank. After `NoMemory` some bytes may stand behind
 /// those before.
 pub(crate) fn push_first<S: Shown>(
-    texts: &PathTexts<'_, S>,
+    design: &S,
     first: NetRef<'_>,
     out: &mut Vec<u8>,
 ) -> Result<(), NoMemory>
-    ensures ok { OnOk result (out.new.items ≡ out.old.items ++ behind_blanks (net_words texts.now (net_of first.entry))) }
+    ensures ok { OnOk result (out.new.items ≡ out.old.items ++ behind_blanks (net_words (S.design design.now) (net_of first.entry))) }
     ensures grows { Grows out.old.items out.new.items }
 {
-    push_net_words(texts, first.path, first.net, out)
+    push_net_words(design, first.path, first.net, out)
 }

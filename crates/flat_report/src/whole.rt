@@ -1,83 +1,83 @@
-//! The line of an item in one piece, where the texts of its paths are kept.
-ghost use Rattle.std.specs.Prelude.{◌≡◌, ◌++◌, ◌∷◌, [], map, IfOk, OnOk};
-ghost use Rattle.std.specs.Option.{option_map};
+//! The line of an item in one piece, by the texts of its paths.
+ghost use Rattle.std.specs.Prelude.{◌≡◌, ◌++◌, ◌∷◌, [], codes, map, OnErr, OnOk};
+ghost use Rattle.std.specs.Option.{option_map_or};
 ghost use Rattle.edif_names.specs.Parts.{Grows};
 ghost use Rattle.edif_spec.specs.PropertyText.{property_text};
-ghost use Rattle.flat_lines_spec.specs.Lines.{item_line, spaced};
-ghost use Rattle.flat_report.specs.Parts.{IsWhole};
-ghost use Rattle.flat_items.specs.Lent.{item_of, net_of, properties_of};
+ghost use Rattle.flat_lines_spec.specs.Lines.{spaced};
+ghost use Rattle.flat_report.specs.Parts.{first_words, line_of};
 
 use crate::names::{cell_name, lib_name};
 use crate::words::push_properties;
 use edif_names::property_text;
-use flat_items::{ItemRef, NetRef, PropertiesRef};
+use flat_items::{ItemText, NetText, PropertiesRef};
 use flat_lookup::{net_name, port_name};
-use flat_spec::Item;
 use itoa::Buffer;
 use joined_words::push_words;
-use netlist_schema::{CellId, NoMemory, Property, Shown};
-use path_texts::PathTexts;
+use netlist_schema::{NoMemory, Property, Shown};
+use path_texts::PathText;
 use std::alloc::Global;
 
-/// The design, lent for as long as the texts are.
+/// Appends the line of an item whose paths are lent as texts, as `item_text` does. After `NoMemory` the bytes are as before.
 #[inline(always)]
-fn design_of<'t, S: Shown>(texts: &'t PathTexts<'_, S>) -> &'t S
-    ensures { S.design result.now ≡ texts.now }
+pub fn text_line<S: Shown>(
+    alloc: Global,
+    design: &S,
+    item: ItemText<'_>,
+    out: &mut Vec<u8>,
+) -> Result<(), NoMemory>
+    ensures ok { OnOk result (out.new.items ≡ out.old.items ++ line_of (S.design design.now) item.entry) }
+    ensures err { OnErr result (out.new.items ≡ out.old.items) }
 {
-    texts.design()
+    let before = out.len();
+    if push_line(alloc, design, item, out).is_err() {
+        out.truncate(before);
+        return Err(NoMemory);
+    }
+    Ok(())
 }
 
-/// Appends the line of an item, where the texts of its paths are kept: whether they are. After `NoMemory` some bytes may stand behind those
-/// before.
+/// Appends the line of an item. After `NoMemory` some bytes may stand behind those before.
 #[inline(always)]
-pub(crate) fn push_whole<S: Shown>(
+fn push_line<S: Shown>(
     alloc: Global,
-    texts: &PathTexts<'_, S>,
-    item: ItemRef<'_>,
+    design: &S,
+    item: ItemText<'_>,
     out: &mut Vec<u8>,
-) -> Result<bool, NoMemory>
-    ensures whole { IfOk result (IsWhole out.old.items out.new.items (item_line texts.now (item_of item.entry))) }
+) -> Result<(), NoMemory>
+    ensures ok { OnOk result (out.new.items ≡ out.old.items ++ line_of (S.design design.now) item.entry) }
     ensures grows { Grows out.old.items out.new.items }
 {
     match item {
-        ItemRef::Enter {
-            path,
-            cell,
-            properties,
-        } => whole_enter(alloc, texts, path, cell, properties, out),
-        ItemRef::Net { path, net, first } => whole_net(texts, path, net, first, out),
-        ItemRef::Pin {
-            path,
+        ItemText::Enter { at, properties } => push_enter(alloc, design, at, properties, out),
+        ItemText::Net { at, net, first } => push_net(design, at, net, first, out),
+        ItemText::Pin {
+            at,
             port,
             bit,
             first,
-        } => whole_pin(texts, path, port, bit, first, out),
+        } => push_pin(design, at, port, bit, first, out),
     }
 }
 
 /// The line of an occurrence.
 #[inline(always)]
-fn whole_enter<S: Shown>(
+fn push_enter<S: Shown>(
     alloc: Global,
-    texts: &PathTexts<'_, S>,
-    path: &[u32],
-    cell: CellId,
+    design: &S,
+    at: PathText<'_>,
     properties: PropertiesRef<'_>,
     out: &mut Vec<u8>,
-) -> Result<bool, NoMemory>
-    ensures whole { IfOk result (IsWhole out.old.items out.new.items (item_line texts.now (Item.Enter path.now cell (properties_of properties.entry)))) }
+) -> Result<(), NoMemory>
+    ensures ok { OnOk result (out.new.items ≡ out.old.items ++ line_of (S.design design.now) (ItemText.Enter at.entry properties.entry)) }
     ensures grows { Grows out.old.items out.new.items }
 {
-    let Some(unchanged) = properties.unchanged() else {
-        return Ok(false);
-    };
-    let Some(at) = texts.find(path) else {
-        return Ok(false);
-    };
-    let design = design_of(texts);
-    let words: &[&[u8]] = &[b"inst", at.text, lib_name(design, cell)];
-    push_ended(alloc, words, cell_name(design, cell), unchanged, out)?;
-    Ok(true)
+    let words: &[&[u8]] = &[b"inst", at.text, lib_name(design, at.cell)];
+    let last = cell_name(design, at.cell);
+    if let Some(unchanged) = properties.unchanged() {
+        return push_ended(alloc, words, last, unchanged, out);
+    }
+    let made = properties.made(alloc)?;
+    push_ended(alloc, words, last, made.as_slice(), out)
 }
 
 /// Appends words with a blank between each two, and a line feed. After `NoMemory` some bytes may stand behind those before.
@@ -129,67 +129,67 @@ fn push_ended(
 
 /// The line of a net.
 #[inline(always)]
-fn whole_net<S: Shown>(
-    texts: &PathTexts<'_, S>,
-    path: &[u32],
+fn push_net<S: Shown>(
+    design: &S,
+    at: PathText<'_>,
     net: u32,
-    first: NetRef<'_>,
+    first: NetText<'_>,
     out: &mut Vec<u8>,
-) -> Result<bool, NoMemory>
-    ensures whole { IfOk result (IsWhole out.old.items out.new.items (item_line texts.now (Item.Net path.now net (net_of first.entry)))) }
+) -> Result<(), NoMemory>
+    ensures ok { OnOk result (out.new.items ≡ out.old.items ++ line_of (S.design design.now) (ItemText.Net at.entry net first.entry)) }
     ensures grows { Grows out.old.items out.new.items }
 {
-    let Some(at) = texts.find(path) else {
-        return Ok(false);
-    };
-    let Some(to) = texts.find(first.path) else {
-        return Ok(false);
-    };
-    let design = design_of(texts);
     push_spaced(
         &[
             b"net",
             at.text,
             net_name(design, Some(at.cell), net),
-            to.text,
+            first.at.text,
         ],
-        net_name(design, Some(to.cell), first.net),
+        net_name(design, Some(first.at.cell), first.net),
         out,
-    )?;
-    Ok(true)
+    )
+}
+
+/// The line of a pin by the text of its path, the identifier of its port and the digits of its bit.
+#[inline(always)]
+fn push_joined<S: Shown>(
+    design: &S,
+    at: &[u8],
+    port: &[u8],
+    bit: &[u8],
+    first: Option<NetText<'_>>,
+    out: &mut Vec<u8>,
+) -> Result<(), NoMemory>
+    ensures ok { OnOk result (out.new.items
+        ≡ out.old.items ++ (spaced (codes "pin" ∷ at.now ∷ port.now ∷ bit.now ∷ option_map_or (first_words (S.design design.now)) first.entry (codes "-" ∷ [])) ++ 10 ∷ [])) }
+    ensures grows { Grows out.old.items out.new.items }
+{
+    let Some(net) = first else {
+        return push_spaced(&[b"pin", at, port, bit], b"-", out);
+    };
+    push_spaced(
+        &[b"pin", at, port, bit, net.at.text],
+        net_name(design, Some(net.at.cell), net.net),
+        out,
+    )
 }
 
 /// The line of a pin.
 #[inline(always)]
-fn whole_pin<S: Shown>(
-    texts: &PathTexts<'_, S>,
-    path: &[u32],
+fn push_pin<S: Shown>(
+    design: &S,
+    at: PathText<'_>,
     port: u32,
     bit: u32,
-    first: Option<NetRef<'_>>,
+    first: Option<NetText<'_>>,
     out: &mut Vec<u8>,
-) -> Result<bool, NoMemory>
-    ensures whole { IfOk result (IsWhole out.old.items out.new.items (item_line texts.now (Item.Pin path.now port bit (option_map net_of first.entry)))) }
+) -> Result<(), NoMemory>
+    ensures ok { OnOk result (out.new.items ≡ out.old.items ++ line_of (S.design design.now) (ItemText.Pin at.entry port bit first.entry)) }
     ensures grows { Grows out.old.items out.new.items }
 {
-    let Some(at) = texts.find(path) else {
-        return Ok(false);
-    };
-    let design = design_of(texts);
     let name = port_name(design, Some(at.cell), port);
     let mut buffer = Buffer::new();
     let digits = buffer.format(bit).as_bytes();
-    let Some(net) = first else {
-        push_spaced(&[b"pin", at.text, name, digits], b"-", out)?;
-        return Ok(true);
-    };
-    let Some(to) = texts.find(net.path) else {
-        return Ok(false);
-    };
-    push_spaced(
-        &[b"pin", at.text, name, digits, to.text],
-        net_name(design, Some(to.cell), net.net),
-        out,
-    )?;
-    Ok(true)
+    push_joined(design, at.text, name, digits, first, out)
 }

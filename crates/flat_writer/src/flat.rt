@@ -3,17 +3,16 @@ ghost use Rattle.std.specs.Prelude.{◌≡◌, ◌↔◌, ◌≤◌, ◌-◌, Er
 ghost use Rattle.netdb_outside.specs.Buffered.{Writes};
 ghost use Rattle.netdb_outside.specs.Outside.{Appends, AppendsFront, Rose};
 ghost use Rattle.flat_lines_spec.specs.Lines.{flattening_text};
-ghost use Rattle.flat_items.specs.Lent.{item_of};
+ghost use Rattle.flat_items.specs.Texts.{IsItemText};
+ghost use Rattle.flat_spec.specs.Types.{Item};
 ghost use Rattle.flat_writer.specs.Given.{GivesItem, GivesLine, text_of_items};
 
 use crate::error::{FlatError, outcome};
 use crate::shown::Line;
-use flat_items::ItemRef;
-use flat_report::keep_path;
+use flat_items::ItemText;
 use netdb_outside::{BufferedSink, Sink, WriteError};
 use netlist_schema::Shown;
 use occ_walk::{Walk, WalkError};
-use path_texts::PathTexts;
 use std::alloc::Global;
 
 /// Writes the lines of a design's flattening, of at most so many items where there is a limit, and behind them `end`, or `more` where
@@ -36,46 +35,42 @@ pub fn write_flat<S: Shown, K: Sink>(
     ensures never_falls { K.faults out.old ≤ K.faults out.new }
 {
     match Walk::new(alloc, design) {
-        Ok(mut walk) => outcome(write_left(alloc, design, &mut walk, limit, out)),
+        Ok(mut walk) => outcome(write_left(alloc, &mut walk, limit, out)),
         Err(WalkError::NoTop) => Err(FlatError::NoTop),
         Err(WalkError::NoMemory) => Err(FlatError::NoMemory),
     }
 }
 
 /// Writes the lines of the items that are left to a walk.
-fn write_left<S: Shown, W: Shown + Drop, K: Sink>(
+fn write_left<W: Shown + Drop, K: Sink>(
     alloc: Global,
-    design: &S,
     walk: &mut Walk<W>,
     limit: Option<u64>,
     out: &mut K,
 ) -> Result<(), WriteError>
-    ensures ok { OnOk result (Appends (K.written out.old) (K.written out.new) (text_of_items (S.design design.now) limit walk.old.left)) }
-    ensures err { OnErr result (AppendsFront (K.written out.old) (K.written out.new) (text_of_items (S.design design.now) limit walk.old.left)) }
+    ensures ok { OnOk result (Appends (K.written out.old) (K.written out.new) (text_of_items walk.old.design limit walk.old.left)) }
+    ensures err { OnErr result (AppendsFront (K.written out.old) (K.written out.new) (text_of_items walk.old.design limit walk.old.left)) }
     ensures fault { result ≡ Err WriteError.WriteFault → Rose (K.faults out.old) (K.faults out.new) }
     ensures never_falls { K.faults out.old ≤ K.faults out.new }
 {
-    let mut texts = PathTexts::new(alloc, design);
     let mut page = BufferedSink::new(alloc);
-    put_left(alloc, &mut texts, walk, limit, &mut page, out);
+    put_left(alloc, walk, limit, &mut page, out);
     page.finish(out)
 }
 
 /// The same by way of a buffer.
-fn put_left<S: Shown, W: Shown + Drop, K: Sink>(
+fn put_left<W: Shown + Drop, K: Sink>(
     alloc: Global,
-    texts: &mut PathTexts<'_, S>,
     walk: &mut Walk<W>,
     limit: Option<u64>,
     page: &mut BufferedSink,
     out: &mut K,
 )
-    ensures same { texts.new ≡ texts.old }
-    ensures gives { Writes K.written K.faults out.old page.old out.new page.new (text_of_items texts.old limit walk.old.left) }
+    ensures { Writes K.written K.faults out.old page.old out.new page.new (text_of_items walk.old.design limit walk.old.left) }
 {
     let mut room = limit;
     'lines: loop {
-        if !put_next(alloc, texts, walk, room, page, out) {
+        if !put_next(alloc, walk, room, page, out) {
             return;
         }
         room = one_less(room);
@@ -103,22 +98,21 @@ fn is_full(room: Option<u64>) -> bool
 
 /// Writes the next line of what is left to a walk, with room for so many items where there is a limit: whether lines are left.
 #[inline(always)]
-fn put_next<S: Shown, W: Shown + Drop, K: Sink>(
+fn put_next<W: Shown + Drop, K: Sink>(
     alloc: Global,
-    texts: &mut PathTexts<'_, S>,
     walk: &mut Walk<W>,
     room: Option<u64>,
     page: &mut BufferedSink,
     out: &mut K,
 ) -> bool
-    ensures same { texts.new ≡ texts.old }
-    ensures gives { GivesLine (Writes K.written K.faults out.old page.old out.new page.new) texts.old room walk.old.left walk.new.left result }
+    ensures same { walk.new.design ≡ walk.old.design }
+    ensures gives { GivesLine (Writes K.written K.faults out.old page.old out.new page.new) walk.old.design room walk.old.left walk.new.left result }
 {
     if page.is_stuck() {
         return false;
     }
     match walk.advance() {
-        Ok(true) => put_ahead(alloc, texts, walk, room, page, out),
+        Ok(true) => put_ahead(alloc, walk, room, page, out),
         Ok(false) => {
             page.put(b"end\n", out);
             false
@@ -132,23 +126,21 @@ fn put_next<S: Shown, W: Shown + Drop, K: Sink>(
 
 /// The same, where the walk has gone on to its next item.
 #[inline(always)]
-fn put_ahead<S: Shown, W: Shown + Drop, K: Sink>(
+fn put_ahead<W: Shown + Drop, K: Sink>(
     alloc: Global,
-    texts: &mut PathTexts<'_, S>,
     walk: &mut Walk<W>,
     room: Option<u64>,
     page: &mut BufferedSink,
     out: &mut K,
 ) -> bool
     requires { walk.old.over ≡ false }
-    ensures same { texts.new ≡ texts.old }
-    ensures gives { GivesLine (Writes K.written K.faults out.old page.old out.new page.new) texts.old room walk.old.left walk.new.left result }
+    ensures same { walk.new.design ≡ walk.old.design }
+    ensures gives { GivesLine (Writes K.written K.faults out.old page.old out.new page.new) walk.old.design room walk.old.left walk.new.left result }
 {
-    let Some(item) = walk.current() else {
+    let Some(item) = walk.text() else {
         return false;
     };
-    keep_path(texts, item);
-    let has_room = put_item(alloc, texts, item, room, page, out);
+    let has_room = put_item(alloc, walk.design(), item, room, page, out);
     walk.skip();
     has_room
 }
@@ -157,18 +149,18 @@ fn put_ahead<S: Shown, W: Shown + Drop, K: Sink>(
 #[inline(always)]
 fn put_item<S: Shown, K: Sink>(
     alloc: Global,
-    texts: &PathTexts<'_, S>,
-    item: ItemRef<'_>,
+    design: &S,
+    item: ItemText<'_>,
     room: Option<u64>,
     page: &mut BufferedSink,
     out: &mut K,
 ) -> bool
-    ensures { GivesItem (Writes K.written K.faults out.old page.old out.new page.new) texts.now room (item_of item.entry) result }
+    ensures { (shown : Item) → IsItemText (S.design design.now) shown item.entry → GivesItem (Writes K.written K.faults out.old page.old out.new page.new) (S.design design.now) room shown result }
 {
     if is_full(room) {
         page.put(b"more\n", out);
         return false;
     }
-    page.put_text(alloc, &Line { texts, item }, out);
+    page.put_text(alloc, &Line { design, item }, out);
     true
 }

@@ -2,18 +2,14 @@
 ghost use Rattle.std.specs.Prelude.{◌≡◌, ◌↔◌, ◌≤◌, ◌++◌, Err, None, OnErr, OnOk, false};
 ghost use Rattle.netdb_outside.specs.Buffered.{Writes};
 ghost use Rattle.netdb_outside.specs.Outside.{Appends, AppendsFront, Rose};
-ghost use Rattle.flat_csv_spec.specs.PinTable.{header as names_of_columns, pin_row as row_of_item, pin_rows, pin_table};
-ghost use Rattle.flat_items.specs.Lent.{item_of};
+ghost use Rattle.flat_csv_spec.specs.PinTable.{header as names_of_columns, pin_rows, pin_table};
 ghost use Rattle.flat_writer.specs.Given.{GivesRow};
 
 use crate::error::{FlatError, outcome};
-use crate::shown::keep_pin;
 use csv_report::{RowSink, put_item};
-use flat_items::ItemRef;
 use netdb_outside::{Sink, WriteError};
 use netlist_schema::Shown;
 use occ_walk::{Walk, WalkError};
-use path_texts::PathTexts;
 use std::alloc::Global;
 
 /// Writes the pin table of a design: the names of the columns, and a row for each pin of its flattening. Items are lent one at a time,
@@ -34,28 +30,26 @@ pub fn write_pin_table<S: Shown, K: Sink>(
     ensures never_falls { K.faults out.old ≤ K.faults out.new }
 {
     match Walk::new(alloc, design) {
-        Ok(mut walk) => outcome(write_left(alloc, design, &mut walk, out)),
+        Ok(mut walk) => outcome(write_left(alloc, &mut walk, out)),
         Err(WalkError::NoTop) => Err(FlatError::NoTop),
         Err(WalkError::NoMemory) => Err(FlatError::NoMemory),
     }
 }
 
 /// Writes the names of the columns and the rows of the items that are left to a walk.
-fn write_left<S: Shown, W: Shown + Drop, K: Sink>(
+fn write_left<W: Shown + Drop, K: Sink>(
     alloc: Global,
-    design: &S,
     walk: &mut Walk<W>,
     out: &mut K,
 ) -> Result<(), WriteError>
-    ensures ok { OnOk result (Appends (K.written out.old) (K.written out.new) (names_of_columns ++ pin_rows (S.design design.now) walk.old.left)) }
-    ensures err { OnErr result (AppendsFront (K.written out.old) (K.written out.new) (names_of_columns ++ pin_rows (S.design design.now) walk.old.left)) }
+    ensures ok { OnOk result (Appends (K.written out.old) (K.written out.new) (names_of_columns ++ pin_rows walk.old.design walk.old.left)) }
+    ensures err { OnErr result (AppendsFront (K.written out.old) (K.written out.new) (names_of_columns ++ pin_rows walk.old.design walk.old.left)) }
     ensures fault { result ≡ Err WriteError.WriteFault → Rose (K.faults out.old) (K.faults out.new) }
     ensures never_falls { K.faults out.old ≤ K.faults out.new }
 {
-    let mut texts = PathTexts::new(alloc, design);
     let mut page = RowSink::new(alloc);
     put_header(&mut page, out);
-    put_left(alloc, &mut texts, walk, &mut page, out);
+    put_left(walk, &mut page, out);
     page.finish(out)
 }
 
@@ -67,18 +61,11 @@ fn put_header<K: Sink>(page: &mut RowSink, out: &mut K)
 }
 
 /// Writes the rows of the items that are left to a walk.
-fn put_left<S: Shown, W: Shown + Drop, K: Sink>(
-    alloc: Global,
-    texts: &mut PathTexts<'_, S>,
-    walk: &mut Walk<W>,
-    page: &mut RowSink,
-    out: &mut K,
-)
-    ensures same { texts.new ≡ texts.old }
-    ensures gives { Writes K.written K.faults out.old page.old out.new page.new (pin_rows texts.old walk.old.left) }
+fn put_left<W: Shown + Drop, K: Sink>(walk: &mut Walk<W>, page: &mut RowSink, out: &mut K)
+    ensures { Writes K.written K.faults out.old page.old out.new page.new (pin_rows walk.old.design walk.old.left) }
 {
     'rows: loop {
-        if !put_next(alloc, texts, walk, page, out) {
+        if !put_next(walk, page, out) {
             return;
         }
     }
@@ -86,21 +73,15 @@ fn put_left<S: Shown, W: Shown + Drop, K: Sink>(
 
 /// Writes the row of the next item that is left to a walk: whether there was one, and nothing failed before.
 #[inline(always)]
-fn put_next<S: Shown, W: Shown + Drop, K: Sink>(
-    alloc: Global,
-    texts: &mut PathTexts<'_, S>,
-    walk: &mut Walk<W>,
-    page: &mut RowSink,
-    out: &mut K,
-) -> bool
-    ensures same { texts.new ≡ texts.old }
-    ensures gives { GivesRow (Writes K.written K.faults out.old page.old out.new page.new) texts.old walk.old.left walk.new.left result }
+fn put_next<W: Shown + Drop, K: Sink>(walk: &mut Walk<W>, page: &mut RowSink, out: &mut K) -> bool
+    ensures same { walk.new.design ≡ walk.old.design }
+    ensures gives { GivesRow (Writes K.written K.faults out.old page.old out.new page.new) walk.old.design walk.old.left walk.new.left result }
 {
     if page.is_stuck() {
         return false;
     }
     match walk.advance() {
-        Ok(true) => put_ahead(alloc, texts, walk, page, out),
+        Ok(true) => put_ahead(walk, page, out),
         Ok(false) => false,
         Err(_) => {
             page.run_out();
@@ -111,22 +92,15 @@ fn put_next<S: Shown, W: Shown + Drop, K: Sink>(
 
 /// The same, where the walk has gone on to its next item.
 #[inline(always)]
-fn put_ahead<S: Shown, W: Shown + Drop, K: Sink>(
-    alloc: Global,
-    texts: &mut PathTexts<'_, S>,
-    walk: &mut Walk<W>,
-    page: &mut RowSink,
-    out: &mut K,
-) -> bool
+fn put_ahead<W: Shown + Drop, K: Sink>(walk: &mut Walk<W>, page: &mut RowSink, out: &mut K) -> bool
     requires { walk.old.over ≡ false }
-    ensures same { texts.new ≡ texts.old }
-    ensures gives { GivesRow (Writes K.written K.faults out.old page.old out.new page.new) texts.old walk.old.left walk.new.left result }
+    ensures same { walk.new.design ≡ walk.old.design }
+    ensures gives { GivesRow (Writes K.written K.faults out.old page.old out.new page.new) walk.old.design walk.old.left walk.new.left result }
 {
-    let Some(item) = walk.current() else {
+    let Some(item) = walk.text() else {
         return false;
     };
-    keep_pin(texts, item);
-    put_item(alloc, texts, item, page, out);
+    put_item(walk.design(), item, page, out);
     walk.skip();
     true
 }

@@ -3,7 +3,7 @@ use Rattle.std.proofs.Common.{◌≡◌, ◌<◌, ◌≤◌, ◌+◌, ℕ, suc, 
 use Rattle.std.specs.Prelude.{◌↔◌, IsSome, option_and_then}
 use Rattle.std.specs.List.{All, AllPairs, Contains}
 use Rattle.std.specs.Option.{option_map_or}
-use Rattle.std.proofs.lemmas.List.{get_or_default}
+use Rattle.std.proofs.lemmas.List.{get_or_default, length-append}
 use Rattle.std.proofs.lemmas.Option.{get_or_from_slice_get, none-some, slice_get_within}
 use Rattle.netlist_schema.specs.Design.{Design, cell_at, insts_of}
 use Rattle.netlist_schema.specs.Hierarchy.{HasInst, insts_at}
@@ -19,6 +19,8 @@ use Rattle.net_classes.specs.declared.joints.Joint.{Joint}
 use Rattle.net_names.specs.Names.{AreHanded, AreNames, AreOwnNames, first_of, name_in}
 use Rattle.net_names.specs.declared.names.NetName.{NetName}
 use Rattle.net_names.proofs.NameLemmas.{handed_are_names, own_are_names}
+use Rattle.path_texts.specs.Texts.{steps_text}
+use Rattle.path_texts.proofs.StepLemmas.{more_text}
 use Rattle.flat_items.specs.declared.notes.PlacedNotes.{PlacedNotes}
 use Rattle.flat_items.specs.Stand.{IsFrame, IsGround, top_of}
 use Rattle.flat_items.specs.declared.place.Frame.{Frame}
@@ -105,10 +107,17 @@ module _ (d : Design) (facts : Facts) (notes : PlacedNotes) (ground : IsGround d
     inner : (k : CellFacts) × (facts_at facts inst.of ≡ Some k) × AreFactsOf d inst.of k
     inner = ground.classes.cells inst.of (reached_below d root inst.of (path ++ step ∷ []) reached)
 
+    text_more : steps_text d root (path ++ step ∷ []) ≡ steps_text d root path ++ 47 ∷ inst.name.id
+    text_more = more_text d root here.cell path step inst frame.reached there
+
+    end_more : (end : ℕ) → end ≡ here.end + 1 + length inst.name.id → end ≡ length (steps_text d root (path ++ step ∷ []))
+    end_more end is = omega (arith, is, frame.end_is, ap length text_more, length-append (steps_text d root path) (47 ∷ inst.name.id))
+
     pub frame_is_below : (on : List Joint) → AreOn step on → (deep_at : ℕ) (new : Frame) → new.cell ≡ inst.of → deep_at ≡ suc (length path)
+        → new.end ≡ here.end + 1 + length inst.name.id
         → AreHanded (first_of facts inst.of) (name_in here.names.items (firsts_in facts here.cell)) deep_at on (length (nets_at d inst.of)) new.names.items
         → IsFrame d (path ++ step ∷ []) new
-    frame_is_below on are deep_at new cell depth_is handed =
+    frame_is_below on are deep_at new cell depth_is end_is handed =
         let names : List NetName = new.names.items in
         let first : AreHanded (λ (j : Joint). first_in inner.0 (record { port = j.port; bit = j.bit })) (name_in here.names.items (firsts_in facts here.cell)) deep_at on (length (nets_at d inst.of)) names =
         subst (λ (o : Option CellFacts). AreHanded (λ (j : Joint). option_and_then (λ (k : CellFacts). first_in k (record { port = j.port; bit = j.bit })) o) (name_in here.names.items (firsts_in facts here.cell)) deep_at on (length (nets_at d inst.of)) names)
@@ -125,13 +134,15 @@ module _ (d : Design) (facts : Facts) (notes : PlacedNotes) (ground : IsGround d
         record {
           reached = subst (λ (c : CellId). Reaches d root (path ++ step ∷ []) c) (sym cell) reached;
           names = subst (λ (c : CellId). AreNames d root (path ++ step ∷ []) c names) (sym cell) are_names;
+          end_is = end_more new.end end_is;
         }
 
 -- the frame of the top
-pub top_is_frame : (d : Design) → IsValid d → (f : Frame) → (top_of d).cell ≡ f.cell → AreOwnNames 0 (length (nets_at d f.cell)) f.names.items → IsFrame d [] f
-top_is_frame d valid f is own =
+pub top_is_frame : (d : Design) → IsValid d → (f : Frame) → (top_of d).cell ≡ f.cell → f.end ≡ 0 → AreOwnNames 0 (length (nets_at d f.cell)) f.names.items → IsFrame d [] f
+top_is_frame d valid f is end_is own =
     let at_root : AreOwnNames 0 (length (nets_at d (top_of d).cell)) f.names.items = subst (λ (c : CellId). AreOwnNames 0 (length (nets_at d c)) f.names.items) (sym is) own in
     record {
       reached = ap Some is;
       names = subst (λ (c : CellId). AreNames d (top_of d).cell [] c f.names.items) is (own_are_names d valid (top_of d).cell f.names.items at_root);
+      end_is = end_is;
     }

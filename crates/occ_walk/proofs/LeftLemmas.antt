@@ -15,15 +15,20 @@ use Rattle.flat_spec.specs.Flattening.{flattening}
 use Rattle.flat_spec.specs.Paths.{Reaches}
 use Rattle.flat_spec.specs.Types.{Item}
 use Rattle.flat_spec.proofs.BelowLemmas.{flattening_is_under_top, items_go_down}
-use Rattle.occ_walk.specs.Below.{IsFrameAt, IsFrameBelow}
+use Rattle.occ_walk.specs.Below.{IsBelow, IsBelowAt}
 use Rattle.occ_walk.specs.Left.{HasPassed, below_from, left, left_above, rest_of}
 use Rattle.occ_walk.specs.Starts.{IsAtStart}
-use Rattle.occ_walk.specs.Walk.{IsLent, IsSettled}
+use Rattle.occ_walk.specs.Walk.{IsLent, IsSettled, IsTextLent}
+use Rattle.occ_walk.specs.declared.frames.Below.{Below}
+use Rattle.path_texts.specs.Texts.{steps_text}
+use Rattle.path_texts.proofs.StepLemmas.{last_cut, more_text}
 use Rattle.flat_items.specs.Left.{GoesOn, IsAhead, is_over, own_left}
 use Rattle.flat_items.specs.Lent.{item_of}
 use Rattle.flat_items.specs.Moves.{HasEntered, HasLeft, going_on}
 use Rattle.flat_items.specs.Stand.{AreAbove, IsFrame, MayStand, Stand, here_of, top_of}
+use Rattle.flat_items.specs.Texts.{IsTextAhead}
 use Rattle.flat_items.specs.declared.lent.ItemRef.{ItemRef}
+use Rattle.flat_items.specs.declared.texts.ItemText.{ItemText}
 use Rattle.flat_items.specs.declared.place.Frame.{Frame}
 use Rattle.flat_items.specs.declared.place.Stage.{Stage}
 use Rattle.flat_items.specs.declared.place.Stage.TheVariants.{Whole, Done}
@@ -63,11 +68,11 @@ none_left_above d start (i ∷ path) = refl
 
 -- the first item is passed over
 pub passed : (d : Design) → IsValid d → (old : Stand) (stage : Stage) → MayStand d old → GoesOn d (here_of old) (drop 1 (own_left d (here_of old) old.stage)) stage
-    → MayStand d (record { above = old.above; here = old.here; stage = stage; path = old.path })
-    × HasPassed d old (record { above = old.above; here = old.here; stage = stage; path = old.path })
-passed d valid old stage stands goes = (record { above = stands.above; here = stands.here; stage = goes.1 }, first)
+    → MayStand d (record { above = old.above; here = old.here; stage = stage; path = old.path; text = old.text })
+    × HasPassed d old (record { above = old.above; here = old.here; stage = stage; path = old.path; text = old.text })
+passed d valid old stage stands goes = (record { above = stands.above; here = stands.here; stage = goes.1; text_is = stands.text_is }, first)
   where
-    first : is_over old.stage ≡ false → left d (record { above = old.above; here = old.here; stage = stage; path = old.path }) ≡ drop 1 (left d old)
+    first : is_over old.stage ≡ false → left d (record { above = old.above; here = old.here; stage = stage; path = old.path; text = old.text }) ≡ drop 1 (left d old)
     first some =
         let rest = below_from d old.path old.here.cell old.here.next ++ left_above d [] old.path old.above in
         let opened = own_opens d valid (here_of old) old.stage stands.stage some in
@@ -75,7 +80,7 @@ passed d valid old stage stands goes = (record { above = stands.above; here = st
 
 -- where no own item is left, none is passed over
 pub none_passed : (d : Design) (old : Stand) (stage : Stage) → GoesOn d (here_of old) (drop 1 (own_left d (here_of old) old.stage)) stage → is_over old.stage ≡ true
-    → left d (record { above = old.above; here = old.here; stage = stage; path = old.path }) ≡ left d old
+    → left d (record { above = old.above; here = old.here; stage = stage; path = old.path; text = old.text }) ≡ left d old
 none_passed d old stage goes over =
     let none = over_left d (here_of old) old.stage over in
     ap (λ v. v ++ (below_from d old.path old.here.cell old.here.next ++ left_above d [] old.path old.above)) (goes.0 ∙ ap (drop 1) none ∙ sym none)
@@ -106,19 +111,32 @@ pub lent_ahead : (d : Design) (s : Stand) (o : Option ItemRef) → IsAhead d (he
 lent_ahead d s None is = is
 lent_ahead d s (Some item) is = (is.0, left_ahead d s (item_of item) is.1)
 
+pub text_lent : (d : Design) (s : Stand) (o : Option ItemText) → IsTextAhead d (here_of s) s.stage o → IsTextLent (rest_of d s) o
+text_lent d s None is = is
+text_lent d s (Some text) is = record { item = is.item; more = is.more; first = left_ahead d s is.item is.first; shown = is.shown }
+
 -- an occurrence is entered
 four : {A : Type 0} (a b c e : List A) → ((a ++ b) ++ c) ++ e ≡ a ++ (b ++ (c ++ e))
 four a b c e = append_assoc (a ++ b) c e ∙ append_assoc a b (c ++ e)
 
-pub entered : (d : Design) → IsValid d → (old : Stand) (frame : Frame) (new : Stand) → MayStand d old → own_left d (here_of old) old.stage ≡ []
-    → IsFrameBelow d old.path old.here.cell old.here.next frame → HasEntered old old.here.next (old.here.next + 1) frame new → MayStand d new × (left d new ≡ left d old)
-entered d valid old frame new stands done below moved =
+pub text_entered : (d : Design) (old : Stand) (b : Below) (step : ℕ) → MayStand d old → IsBelow d old.path old.here.cell step b
+    → old.text ++ 47 ∷ b.name.now ≡ steps_text d (top_of d).cell (old.path ++ step ∷ [])
+text_entered d old b step stands below =
+    ap (λ v. old.text ++ 47 ∷ v) below.name_is
+    ∙ ap (λ v. v ++ 47 ∷ below.inst.name.id) stands.text_is
+    ∙ sym (more_text d (top_of d).cell old.here.cell old.path step below.inst stands.here.reached below.there)
+
+pub entered : (d : Design) → IsValid d → (old : Stand) (b : Below) (new : Stand) → MayStand d old → own_left d (here_of old) old.stage ≡ []
+    → IsBelow d old.path old.here.cell old.here.next b → HasEntered old old.here.next (old.here.next + 1) b.name.now b.frame new → MayStand d new × (left d new ≡ left d old)
+entered d valid old b new stands done below moved =
     let i : ℕ = old.here.next in
+    let frame : Frame = b.frame in
     let path : List ℕ = old.path ++ i ∷ [] in
-    let to : Stand = record { above = old.above ++ going_on old.here (i + 1) frame.upto ∷ []; here = frame; stage = Whole; path = path } in
-    let same : new ≡ to = λ t. record { above = moved.above t; here = moved.here t; stage = moved.stage t; path = moved.path t } in
-    let up : IsFrame d old.path (going_on old.here (i + 1) frame.upto) = record { reached = stands.here.reached; names = stands.here.names } in
-    let may : MayStand d to = record { above = lowest_added d [] old.path i old.above (going_on old.here (i + 1) frame.upto) stands.above up; here = below.is; stage = tt } in
+    let to : Stand = record { above = old.above ++ going_on old.here (i + 1) frame.upto ∷ []; here = frame; stage = Whole; path = path; text = old.text ++ 47 ∷ b.name.now } in
+    let same : new ≡ to = λ t. record { above = moved.above t; here = moved.here t; stage = moved.stage t; path = moved.path t; text = moved.text t } in
+    let up : IsFrame d old.path (going_on old.here (i + 1) frame.upto) = record { reached = stands.here.reached; names = stands.here.names; end_is = stands.here.end_is } in
+    let text = text_entered d old b i stands below in
+    let may : MayStand d to = record { above = lowest_added d [] old.path i old.above (going_on old.here (i + 1) frame.upto) stands.above up; here = below.is; stage = tt; text_is = text } in
     let own = own_left d (record { path = path; cell = below.inst.of }) Whole in
     let inner = below_from d path below.inst.of 0 in
     let others = below_from d old.path old.here.cell (i + 1) in
@@ -160,9 +178,14 @@ gone_back d old new stands done none moved =
     let count : length p ≡ length (p ++ at.1 ∷ []) - 1 = omega (arith, length_push p at.1) in
     let path : new.path ≡ p =
     moved.2 ∙ ap (λ v. take (length v - 1) v) at.2 ∙ take_at p (at.1 ∷ []) (length (p ++ at.1 ∷ []) - 1) count in
-    let to : Stand = record { above = new.above; here = new.here; stage = Done; path = p } in
-    let same : new ≡ to = λ t. record { above = new.above; here = new.here; stage = moved.1 t; path = path t } in
-    let may : MayStand d to = record { above = above; here = here; stage = tt } in
+    let to : Stand = record { above = new.above; here = new.here; stage = Done; path = p; text = new.text } in
+    let same : new ≡ to = λ t. record { above = new.above; here = new.here; stage = moved.1 t; path = path t; text = new.text } in
+    let text : new.text ≡ steps_text d (top_of d).cell p =
+    moved.3
+    ∙ ap (λ n. take n old.text) here.end_is
+    ∙ ap (take (length (steps_text d (top_of d).cell p))) (stands.text_is ∙ ap (steps_text d (top_of d).cell) at.2)
+    ∙ last_cut d (top_of d).cell p at.1 in
+    let may : MayStand d to = record { above = above; here = here; stage = tt; text_is = text } in
     let was : left d old ≡ left d to =
     ap (λ v. v ++ (below_from d old.path old.here.cell old.here.next ++ left_above d [] old.path old.above)) done
     ∙ ap (λ v. v ++ left_above d [] old.path old.above) (below_ended d old.path old.here.cell old.here.next none)
@@ -183,17 +206,17 @@ at_end d old stands done none top =
     ∙ ap (left_above d [] old.path) top
     ∙ none_left_above d [] old.path
 
--- the same, where the frame of the next occurrence is looked up
+-- the same, where the next occurrence is looked up
 module _ (d : Design) (valid : IsValid d) (old : Stand) (stands : MayStand d old) (done : own_left d (here_of old) old.stage ≡ []) (path : List ℕ) (path_is : path ≡ old.path)
-    (o : Option Frame) (at : IsFrameAt d path old.here.cell old.here.next o) where
-  looked_up : (v : Option Frame) → o ≡ v → IsFrameAt d old.path old.here.cell old.here.next v
-  looked_up v is = subst (λ p. IsFrameAt d p old.here.cell old.here.next v) path_is (subst (λ (w : Option Frame). IsFrameAt d path old.here.cell old.here.next w) is at)
+    (o : Option Below) (at : IsBelowAt d path old.here.cell old.here.next o) where
+  looked_up : (v : Option Below) → o ≡ v → IsBelowAt d old.path old.here.cell old.here.next v
+  looked_up v is = subst (λ p. IsBelowAt d p old.here.cell old.here.next v) path_is (subst (λ (w : Option Below). IsBelowAt d path old.here.cell old.here.next w) is at)
 
-  pub next_fits : (frame : Frame) → o ≡ Some frame → old.here.next < 1048576
-  next_fits frame is = let below = looked_up (Some frame) is in next_is_small d valid old.here.cell old.here.next below.inst below.there
+  pub next_fits : (b : Below) → o ≡ Some b → old.here.next < 1048576
+  next_fits b is = let below = looked_up (Some b) is in next_is_small d valid old.here.cell old.here.next below.inst below.there
 
-  pub entered_at : (frame : Frame) → o ≡ Some frame → (new : Stand) → HasEntered old old.here.next (old.here.next + 1) frame new → MayStand d new × (left d new ≡ left d old)
-  entered_at frame is new moved = entered d valid old frame new stands done (looked_up (Some frame) is) moved
+  pub entered_at : (b : Below) → o ≡ Some b → (new : Stand) → HasEntered old old.here.next (old.here.next + 1) b.name.now b.frame new → MayStand d new × (left d new ≡ left d old)
+  entered_at b is new moved = entered d valid old b new stands done (looked_up (Some b) is) moved
 
   pub ended_at : o ≡ None → (new : Stand) → HasLeft old new false → left d new ≡ []
   ended_at is new moved = ap (left d) moved.1 ∙ at_end d old stands done (looked_up None is) moved.0

@@ -14,16 +14,17 @@ use Rattle.flat_spec.specs.Paths.{Reaches, cell_along}
 use Rattle.flat_spec.specs.Types.{Item}
 use Rattle.flat_spec.proofs.PathLemmas.{cell_along-below}
 use Rattle.occ_walk.specs.At.{begins_with, items_below, path_of}
-use Rattle.occ_walk.specs.Below.{IsFrameAt, IsFrameBelow}
+use Rattle.occ_walk.specs.Below.{IsBelow, IsBelowAt}
 use Rattle.occ_walk.specs.Left.{below_from, left, left_above}
 use Rattle.occ_walk.specs.Starts.{IsAtStart}
+use Rattle.occ_walk.specs.declared.frames.Below.{Below}
 use Rattle.flat_items.specs.Moves.{HasEntered, going_on}
 use Rattle.flat_items.specs.Stand.{IsFrame, MayStand, Stand, top_of}
 use Rattle.flat_items.specs.declared.place.Frame.{Frame}
 use Rattle.flat_items.specs.declared.place.Stage.TheVariants.{Whole}
 use Rattle.flat_items.proofs.FrameLemmas.{lowest_added}
 use Rattle.occ_walk.proofs.AtLemmas.{items_below_are_under}
-use Rattle.occ_walk.proofs.LeftLemmas.{above_pushed, start_left}
+use Rattle.occ_walk.proofs.LeftLemmas.{above_pushed, start_left, text_entered}
 
 -- behind the last instance nothing is left
 below_past : (d : Design) (path : List ℕ) (c : CellId) (count : ℕ) → length (insts_at d c) ≤ count → below_from d path c count ≡ []
@@ -31,15 +32,17 @@ below_past d path c count past =
     ap (λ (v : List Inst). flat_map (λ (p : ℕ × Inst). items_under d (top_of d) (path ++ p.0 ∷ []) p.1.of) (enumerate_from count v)) (drop_all count (insts_at d c) past)
 
 -- one step down
-pub went_down : (d : Design) (path : List ℕ) (old : Stand) (step count : ℕ) (frame : Frame) (new : Stand) → IsAtStart d path old
-    → IsFrameBelow d old.path old.here.cell step frame → length (insts_at d old.here.cell) ≤ count → HasEntered old step count frame new
+pub went_down : (d : Design) (path : List ℕ) (old : Stand) (step count : ℕ) (b : Below) (new : Stand) → IsAtStart d path old
+    → IsBelow d old.path old.here.cell step b → length (insts_at d old.here.cell) ≤ count → HasEntered old step count b.name.now b.frame new
     → IsAtStart d (path ++ step ∷ []) new
-went_down d path old step count frame new start below past moved =
+went_down d path old step count b new start below past moved =
+    let frame : Frame = b.frame in
     let up : Frame = going_on old.here count frame.upto in
-    let here : IsFrame d old.path up = record { reached = start.stands.here.reached; names = start.stands.here.names } in
-    let to : Stand = record { above = old.above ++ up ∷ []; here = frame; stage = Whole; path = old.path ++ step ∷ [] } in
-    let same : new ≡ to = λ t. record { above = moved.above t; here = moved.here t; stage = moved.stage t; path = moved.path t } in
-    let may : MayStand d to = record { above = lowest_added d [] old.path step old.above up start.stands.above here; here = below.is; stage = tt } in
+    let here : IsFrame d old.path up = record { reached = start.stands.here.reached; names = start.stands.here.names; end_is = start.stands.here.end_is } in
+    let to : Stand = record { above = old.above ++ up ∷ []; here = frame; stage = Whole; path = old.path ++ step ∷ []; text = old.text ++ 47 ∷ b.name.now } in
+    let same : new ≡ to = λ t. record { above = moved.above t; here = moved.here t; stage = moved.stage t; path = moved.path t; text = moved.text t } in
+    let text = text_entered d old b step start.stands below in
+    let may : MayStand d to = record { above = lowest_added d [] old.path step old.above up start.stands.above here; here = below.is; stage = tt; text_is = text } in
     let none : left_above d [] to.path to.above ≡ [] =
     above_pushed d [] old.path step old.above up start.stands.above
     ∙ ap (λ v. v ++ left_above d [] old.path old.above) (below_past d old.path old.here.cell count past)
@@ -52,21 +55,21 @@ went_down d path old step count frame new start below past moved =
       above_is = ap (λ (s : Stand). left_above d [] s.path s.above) same ∙ none;
     }
 
--- the same, where the frame is looked up
-module _ (d : Design) (old : Stand) (step : ℕ) (there : IsSome (slice_get (insts_at d old.here.cell) step)) (path : List ℕ) (path_is : path ≡ old.path) (o : Option Frame)
-    (at : IsFrameAt d path old.here.cell step o) where
+-- the same, where the occurrence is looked up
+module _ (d : Design) (old : Stand) (step : ℕ) (there : IsSome (slice_get (insts_at d old.here.cell) step)) (path : List ℕ) (path_is : path ≡ old.path) (o : Option Below)
+    (at : IsBelowAt d path old.here.cell step o) where
   pub none_down : o ≡ None → ⊥
   none_down is =
-      let none : slice_get (insts_at d old.here.cell) step ≡ None = subst (λ (v : Option Frame). IsFrameAt d path old.here.cell step v) is at in
+      let none : slice_get (insts_at d old.here.cell) step ≡ None = subst (λ (v : Option Below). IsBelowAt d path old.here.cell step v) is at in
       false≢true (subst (λ (v : Option Inst). IsSome v) none there)
 
-  pub down_at : (from : List ℕ) → IsAtStart d from old → (frame : Frame) → o ≡ Some frame → (insts : List Inst) → insts ≡ insts_at d old.here.cell → (new : Stand)
-      → HasEntered old step (length insts) frame new → IsAtStart d (from ++ step ∷ []) new
-  down_at from start frame is insts are new moved =
-      let found = subst (λ (v : Option Frame). IsFrameAt d path old.here.cell step v) is at in
-      let below : IsFrameBelow d old.path old.here.cell step frame = subst (λ p. IsFrameBelow d p old.here.cell step frame) path_is found in
+  pub down_at : (from : List ℕ) → IsAtStart d from old → (b : Below) → o ≡ Some b → (insts : List Inst) → insts ≡ insts_at d old.here.cell → (new : Stand)
+      → HasEntered old step (length insts) b.name.now b.frame new → IsAtStart d (from ++ step ∷ []) new
+  down_at from start b is insts are new moved =
+      let found = subst (λ (v : Option Below). IsBelowAt d path old.here.cell step v) is at in
+      let below : IsBelow d old.path old.here.cell step b = subst (λ p. IsBelow d p old.here.cell step b) path_is found in
       let same : length insts ≡ length (insts_at d old.here.cell) = ap (λ (v : List Inst). length v) are in
-      went_down d from old step (length insts) frame new start below (omega (arith, same)) moved
+      went_down d from old step (length insts) b new start below (omega (arith, same)) moved
 
 -- the next step of a path that leads on
 some_first : {A B : Type 0} (f : A → Option B) (o : Option A) → IsSome (option_and_then f o) → IsSome o

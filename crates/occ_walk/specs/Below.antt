@@ -1,19 +1,20 @@
--- The frame of an occurrence below another.
+-- The occurrence of an instance below another.
 use Rattle.std.specs.Prelude.{◌≡◌, ℕ, List, [], ◌∷◌, ◌++◌, Option, Some, None, slice_get}
 use Rattle.netlist_schema.specs.Design.{Design}
 use Rattle.netlist_schema.specs.Hierarchy.{insts_at}
 use Rattle.netlist_schema.specs.Types.{CellId, Inst}
 use Rattle.flat_items.specs.Stand.{IsFrame}
-use Rattle.flat_items.specs.declared.place.Frame.{Frame}
+use Rattle.occ_walk.specs.declared.frames.Below.{Below}
 
--- the frame of the occurrence of that instance, none of whose own instances is passed
-pub record IsFrameBelow (d : Design) (path : List ℕ) (cell : CellId) (step : ℕ) (frame : Frame) : Type 0 where
+-- the frame of the occurrence of that instance, none of whose own instances is passed, and the instance's identifier
+pub record IsBelow (d : Design) (path : List ℕ) (cell : CellId) (step : ℕ) (b : Below) : Type 0 where
   pub inst : Inst
   pub there : slice_get (insts_at d cell) step ≡ Some inst
-  pub cell_is : frame.cell ≡ inst.of
-  pub fresh : frame.next ≡ 0
-  pub is : IsFrame d (path ++ step ∷ []) frame
+  pub cell_is : b.frame.cell ≡ inst.of
+  pub fresh : b.frame.next ≡ 0
+  pub is : IsFrame d (path ++ step ∷ []) b.frame
+  pub name_is : b.name.now ≡ inst.name.id
 
-abbrev pub IsFrameAt : Design → List ℕ → CellId → ℕ → Option Frame → Type 0
-IsFrameAt d path cell step None = slice_get (insts_at d cell) step ≡ None
-IsFrameAt d path cell step (Some frame) = IsFrameBelow d path cell step frame
+abbrev pub IsBelowAt : Design → List ℕ → CellId → ℕ → Option Below → Type 0
+IsBelowAt d path cell step None = slice_get (insts_at d cell) step ≡ None
+IsBelowAt d path cell step (Some b) = IsBelow d path cell step b

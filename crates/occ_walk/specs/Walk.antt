@@ -4,7 +4,9 @@ use Rattle.netlist_schema.specs.Design.{Design}
 use Rattle.netlist_schema.specs.declared.memory.NoMemory.{NoMemory}
 use Rattle.flat_spec.specs.Types.{Item}
 use Rattle.flat_items.specs.Lent.{item_of}
+use Rattle.flat_items.specs.Texts.{IsFirstItem}
 use Rattle.flat_items.specs.declared.lent.ItemRef.{ItemRef}
+use Rattle.flat_items.specs.declared.texts.ItemText.{ItemText}
 
 -- the design, the items that are left, and whether all items of the occurrence at which the walk stands were given
 pub record Rest : Type 0 where
@@ -21,6 +23,11 @@ IsSettled w false = w.left ≡ []
 abbrev pub IsLent : Rest → Option ItemRef → Type 0
 IsLent w None = w.over ≡ true
 IsLent w (Some item) = (w.over ≡ false) × (w.left ≡ item_of item ∷ drop 1 w.left)
+
+-- the same, with the texts of its paths
+abbrev pub IsTextLent : Rest → Option ItemText → Type 0
+IsTextLent w None = w.over ≡ true
+IsTextLent w (Some text) = IsFirstItem w.design w.over w.left text
 
 -- the next of a walk as an iterator: none, where nothing is left; the first item, where the others are left; or want of memory, where all
 -- is as before

@@ -7,5 +7,5 @@ mod steps;
 mod walk;
 
 pub use starts::start;
-pub use steps::{advance, current, next_item, skip};
+pub use steps::{advance, current, next_item, skip, text};
 pub use walk::{Walk, WalkError};

@@ -5,7 +5,7 @@ ghost use Rattle.flat_spec.specs.Paths.{cell_along};
 ghost use Rattle.occ_walk.specs.Starts.{IsAtStart};
 ghost use Rattle.flat_items.specs.Stand.{IsGround, stand_of, top_of};
 
-use crate::frames::{frame_at, top_frame};
+use crate::frames::{Below, below_at, top_frame};
 use flat_items::{Ground, Place, Stage, Steps};
 use flat_lookup::insts_at;
 use netlist_schema::{CellId, NoMemory, Shown};
@@ -24,6 +24,7 @@ pub fn start<S: Shown + Drop>(ground: &Ground<S>, top: CellId) -> Result<Place, 
         path: Steps {
             steps: Vec::new(ground.alloc),
         },
+        text: Vec::new(ground.alloc),
     })
 }
 
@@ -40,11 +41,12 @@ fn go_down<S: Shown + Drop>(
     ensures { OnOk result (IsAtStart (S.design ground.now.design) (place.old.path.steps.items ++ step ∷ []) (stand_of place.new)) }
 {
     let count = insts_at(&ground.design, place.here.cell).len() as u32;
-    let below = frame_at(ground, place.path.steps.as_slice(), &place.here, step)?;
-    let Some(frame) = below else {
+    let found = below_at(ground, place.path.steps.as_slice(), &place.here, step)?;
+    let Some(below) = found else {
         return Ok(());
     };
-    place.enter(step, count, frame)?;
+    let Below { frame, name } = below;
+    place.enter(step, count, name, frame)?;
     Ok(())
 }
 

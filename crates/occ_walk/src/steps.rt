@@ -1,12 +1,12 @@
 //! The steps of a walk.
 ghost use Rattle.std.specs.Prelude.{◌≡◌, ◌≢◌, [], IfOk, Ok, OnErr, false, true};
 ghost use Rattle.occ_walk.specs.Left.{HasPassed, IsFirst, left, rest_of};
-ghost use Rattle.occ_walk.specs.Walk.{IsLent, IsSettled};
+ghost use Rattle.occ_walk.specs.Walk.{IsLent, IsSettled, IsTextLent};
 ghost use Rattle.flat_items.specs.Left.{is_over, own_left};
 ghost use Rattle.flat_items.specs.Stand.{IsGround, MayStand, here_of, stand_of};
 
-use crate::frames::frame_at;
-use flat_items::{Ground, ItemRef, Place, item_ahead, stage_behind};
+use crate::frames::{Below, below_at};
+use flat_items::{Ground, ItemRef, ItemText, Place, item_ahead, stage_behind, text_ahead};
 use flat_spec::Item;
 use netlist_schema::{NoMemory, Shown};
 
@@ -22,8 +22,9 @@ fn go_on<S: Shown + Drop>(ground: &Ground<S>, place: &mut Place) -> Result<bool,
 {
     'up: loop {
         let step = place.here.next;
-        if let Some(frame) = frame_at(ground, place.path.steps.as_slice(), &place.here, step)? {
-            place.enter(step, step + 1, frame)?;
+        if let Some(below) = below_at(ground, place.path.steps.as_slice(), &place.here, step)? {
+            let Below { frame, name } = below;
+            place.enter(step, step + 1, name, frame)?;
             return Ok(true);
         }
         if !place.leave() {
@@ -56,6 +57,16 @@ pub fn current<'a, S: Shown + Drop>(ground: &'a Ground<S>, place: &'a Place) -> 
     ensures { IsLent (rest_of (S.design ground.now.design) (stand_of place.now)) result }
 {
     item_ahead(ground, place)
+}
+
+/// Lends the next item of the occurrence with the texts of its paths, where one is left.
+#[inline(always)]
+pub fn text<'a, S: Shown + Drop>(ground: &'a Ground<S>, place: &'a Place) -> Option<ItemText<'a>>
+    requires ground { IsGround (S.design ground.now.design) ground.now.classes ground.now.notes }
+    requires stands { MayStand (S.design ground.now.design) (stand_of place.now) }
+    ensures { IsTextLent (rest_of (S.design ground.now.design) (stand_of place.now)) result }
+{
+    text_ahead(ground, place)
 }
 
 /// Passes over the next item of the occurrence, where one is left.

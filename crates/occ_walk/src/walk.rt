@@ -4,12 +4,12 @@ ghost use Rattle.netlist_schema.specs.Valid.{IsValid};
 ghost use Rattle.flat_spec.specs.Flattening.{flattening};
 ghost use Rattle.flat_spec.specs.Paths.{cell_along};
 ghost use Rattle.occ_walk.specs.At.{items_below};
-ghost use Rattle.occ_walk.specs.Walk.{GivesNext, IsLent, IsSettled};
+ghost use Rattle.occ_walk.specs.Walk.{GivesNext, IsLent, IsSettled, IsTextLent};
 ghost use Rattle.flat_items.specs.Stand.{top_of};
 
 use crate::starts::{go_along, start};
-use crate::steps::{advance, current, next_item, skip};
-use flat_items::{Ground, ItemRef, Place};
+use crate::steps::{advance, current, next_item, skip, text};
+use flat_items::{Ground, ItemRef, ItemText, Place};
 use flat_spec::{Item, Path};
 use netlist_schema::{CellId, NoMemory, Shown};
 use std::alloc::Global;
@@ -120,9 +120,9 @@ impl<S: Shown + Drop> Walk<S> {
 
     /// The next item: `None` exactly where none is left, and from then on. After `NoMemory` the walk stands where it stood.
     ///
-    /// It takes time in proportion to what the item shows, and where an occurrence is entered to its nets, the ends on its instance and
-    /// the occurrences that are left: never to the number of occurrences, cells or notes. A path of at most eight steps takes no
-    /// memory.
+    /// It takes time in proportion to what the item shows, and where an occurrence is entered to its name, its nets, the ends on its
+    /// instance and the occurrences that are left: never to the number of occurrences, cells or notes. A path of at most eight steps
+    /// takes no memory.
     pub fn next(&mut self) -> Result<Option<Item>, NoMemory>
         ensures design { self.new.design ≡ self.old.design }
         ensures none { IfOk result (λ item. IfNone item ((self.old.left ≡ []) × (self.new.left ≡ []))) }
@@ -134,8 +134,8 @@ impl<S: Shown + Drop> Walk<S> {
 
     /// Goes on to the next item: `true` where one is left, `false` where none is. After `NoMemory` the walk stands where it stood.
     ///
-    /// It takes time only where an occurrence is entered: in proportion to its nets, the ends on its instance and the occurrences that
-    /// are left.
+    /// It takes time only where an occurrence is entered: in proportion to its name, its nets, the ends on its instance and the
+    /// occurrences that are left.
     #[inline(always)]
     pub fn advance(&mut self) -> Result<bool, NoMemory>
         ensures design { self.new.design ≡ self.old.design }
@@ -153,6 +153,21 @@ impl<S: Shown + Drop> Walk<S> {
         ensures { IsLent self.now result }
     {
         current(&self.ground, &self.place)
+    }
+
+    /// Lends the next item as `current` does, with the texts of its paths.
+    #[inline(always)]
+    pub fn text(&self) -> Option<ItemText<'_>>
+        ensures { IsTextLent self.now result }
+    {
+        text(&self.ground, &self.place)
+    }
+
+    /// The design.
+    pub fn design(&self) -> &S
+        ensures { S.design result.now ≡ self.now.design }
+    {
+        &self.ground.design
     }
 
     /// Passes over the next item, where the walk has gone on to it; else it leaves what is left. It takes no memory.

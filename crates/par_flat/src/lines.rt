@@ -10,32 +10,27 @@ ghost use Rattle.par_flat.specs.Lines.{GivesLine, IsPart};
 
 use crate::desks::{Desk, Most, Seat, place_at};
 use flat_items::Place;
-use flat_report::{keep_path, kept_text};
+use flat_report::text_line;
 use netlist_schema::{NoMemory, Shown};
 use par_parts::CountedGround;
-use path_texts::PathTexts;
 
 /// Adds the line of the next item, where the place has gone on to one.
 #[inline(always)]
 fn add_ahead<S: Shown + Drop>(
     ground: &CountedGround<S>,
-    texts: &mut PathTexts<'_, S>,
     place: &mut Place,
     text: &mut Vec<u8>,
 ) -> Result<bool, NoMemory>
-    requires same { texts.old ≡ ground.now }
     requires stands { MayStand ground.now (stand_of place.old) }
     requires some { is_over place.old.stage ≡ false }
-    ensures same { texts.new ≡ texts.old }
     ensures stands { MayStand ground.now (stand_of place.new) }
     ensures given { IfOk result (GivesLine ground.now (left ground.now (stand_of place.old)) text.old.items
         (left ground.now (stand_of place.new)) text.new.items) }
 {
-    let Some(item) = ground.current(place) else {
+    let Some(item) = ground.text(place) else {
         return Ok(false);
     };
-    keep_path(texts, item);
-    kept_text(ground.alloc(), texts, item, text)?;
+    text_line(ground.alloc(), ground.design(), item, text)?;
     ground.skip(place);
     Ok(true)
 }
@@ -44,13 +39,10 @@ fn add_ahead<S: Shown + Drop>(
 #[inline(always)]
 fn add_line<S: Shown + Drop>(
     ground: &CountedGround<S>,
-    texts: &mut PathTexts<'_, S>,
     place: &mut Place,
     text: &mut Vec<u8>,
 ) -> Result<bool, NoMemory>
-    requires same { texts.old ≡ ground.now }
     requires stands { MayStand ground.now (stand_of place.old) }
-    ensures same { texts.new ≡ texts.old }
     ensures stands { MayStand ground.now (stand_of place.new) }
     ensures given { IfOk result (GivesLine ground.now (left ground.now (stand_of place.old)) text.old.items
         (left ground.now (stand_of place.new)) text.new.items) }
@@ -58,18 +50,16 @@ fn add_line<S: Shown + Drop>(
     if !ground.advance(place)? {
         return Ok(false);
     }
-    add_ahead(ground, texts, place, text)
+    add_ahead(ground, place, text)
 }
 
 /// Adds the lines of the items that are left, no more than so many, and none behind a text that is so long. Returns how many it added.
 fn add_lines<S: Shown + Drop>(
     ground: &CountedGround<S>,
-    texts: &mut PathTexts<'_, S>,
     place: &mut Place,
     most: Most,
     text: &mut Vec<u8>,
 ) -> Result<u64, NoMemory>
-    requires same { texts.old ≡ ground.now }
     requires stands { MayStand ground.now (stand_of place.old) }
     requires empty { text.old.items ≡ [] }
     ensures stands { OnOk result (MayStand ground.now (stand_of place.new)) }
@@ -78,7 +68,7 @@ fn add_lines<S: Shown + Drop>(
 {
     let mut count = 0;
     'lines: while count < most.items && text.len() < most.bytes {
-        if !add_line(ground, texts, place, text)? {
+        if !add_line(ground, place, text)? {
             return Ok(count);
         }
         count += 1;
@@ -87,7 +77,7 @@ fn add_lines<S: Shown + Drop>(
 }
 
 /// Makes the lines of the items behind the first so many, in place of those that the worker made before: of how many items. It goes on
-/// from where the worker stands, and makes the text of a path from the one before.
+/// from where the worker stands.
 pub fn make_lines<S: Shown + Drop>(
     ground: &CountedGround<S>,
     desk: &mut Desk,
@@ -102,9 +92,7 @@ pub fn make_lines<S: Shown + Drop>(
 {
     desk.lines.text.clear();
     let mut place = place_at(ground, desk.seat.take(), first)?;
-    let mut texts = PathTexts::new(ground.alloc(), ground.design());
-    texts.keep(place.path.steps.as_slice());
-    let count = add_lines(ground, &mut texts, &mut place, most, &mut desk.lines.text)?;
+    let count = add_lines(ground, &mut place, most, &mut desk.lines.text)?;
     desk.seat = Some(Seat {
         before: first + count,
         place,

@@ -36,7 +36,7 @@ own_passed d count more first old new some one gone same = drop_one_less (left d
 
 -- the place at a net of the same occurrence
 abbrev at_net : Stand → ℕ → Stand
-at_net s n = record { above = s.above; here = s.here; stage = Nets n; path = s.path }
+at_net s n = record { above = s.above; here = s.here; stage = Nets n; path = s.path; text = s.text }
 
 nets_passed : (d : Design) → IsValid d → (s : Stand) (n m : ℕ) → MayStand d (at_net s n) → n + m < length (nets_at d s.here.cell)
     → MayStand d (at_net s (n + m)) × (left d (at_net s (n + m)) ≡ drop m (left d (at_net s n)))
@@ -59,7 +59,7 @@ nets_passed d valid s n (suc m) stands fits =
 pub nets_gone : (d : Design) → IsValid d → (old new : Stand) (net gone count : ℕ) → MayStand d old → old.stage ≡ Nets net → net + gone < length (nets_at d old.here.cell)
     → gone ≤ count → new ≡ at_net old (net + gone) → MayStand d new × (drop (count - gone) (left d new) ≡ drop count (left d old))
 nets_gone d valid old new net gone count stands stage_is fits few is =
-    let old_is : old ≡ at_net old net = ap (λ (stage : Stage). record { above = old.above; here = old.here; stage = stage; path = old.path }) stage_is in
+    let old_is : old ≡ at_net old net = ap (λ (stage : Stage). record { above = old.above; here = old.here; stage = stage; path = old.path; text = old.text }) stage_is in
     let there = nets_passed d valid old net gone (subst (MayStand d) old_is stands) fits in
     let same : left d new ≡ drop gone (left d old) = ap (left d) is ∙ there.1 ∙ ap (λ (s : Stand). drop gone (left d s)) (sym old_is) in
     let e : gone + (count - gone) ≡ count = omega (arith, few) in (
@@ -93,10 +93,10 @@ module _ (d : Design) (facts : Facts) (notes : PlacedNotes) (counts : ItemCounts
   -- the next instance is passed over
   pub inst_passed : (old new : Stand) (inst : Inst) (count gone : ℕ) → MayStand d old → is_over old.stage ≡ true → slice_get (insts_at d old.here.cell) old.here.next ≡ Some inst
       → IsFitting counts inst.of count gone
-      → new ≡ record { above = old.above; here = going_on old.here (old.here.next + 1) old.here.near; stage = old.stage; path = old.path } → IsBehindInst d count old new (count - gone)
+      → new ≡ record { above = old.above; here = going_on old.here (old.here.next + 1) old.here.near; stage = old.stage; path = old.path; text = old.text } → IsBehindInst d count old new (count - gone)
   inst_passed old new inst count gone stands over there fits is =
       subst (λ v. IsBehindInst d count old v (count - gone)) (sym is) record {
-        stands = record { above = stands.above; here = record { reached = stands.here.reached; names = stands.here.names }; stage = stands.stage };
+        stands = record { above = stands.above; here = record { reached = stands.here.reached; names = stands.here.names; end_is = stands.here.end_is }; stage = stands.stage; text_is = stands.text_is };
         over = over;
         cell_is = refl;
         next_is = refl;

@@ -3,18 +3,18 @@ ghost use Rattle.std.specs.Prelude.{◌≡◌, ◌↔◌, ◌+◌, ◌-◌, ◌^
 ghost use Rattle.netlist_schema.specs.Valid.{IsValid};
 ghost use Rattle.flat_spec.specs.Flattening.{flattening};
 ghost use Rattle.occ_walk.specs.Left.{HasPassed, IsFirst, left, rest_of};
-ghost use Rattle.occ_walk.specs.Walk.{IsLent, IsSettled};
+ghost use Rattle.occ_walk.specs.Walk.{IsLent, IsSettled, IsTextLent};
 ghost use Rattle.flat_items.specs.Left.{is_over};
 ghost use Rattle.flat_items.specs.Stand.{MayStand, stand_of, top_of};
 ghost use Rattle.par_parts.specs.Skip.{HasPassedInst, IsFitting};
 
 use crate::count::count_top;
 use crate::{ItemCounts, count_items};
-use flat_items::{Ground, ItemRef, Place, Stage};
+use flat_items::{Ground, ItemRef, ItemText, Place, Stage};
 use flat_lookup::inst_at;
 use flat_spec::Item;
 use netlist_schema::{CellId, NoMemory, Shown};
-use occ_walk::{WalkError, advance, current, next_item, skip, start};
+use occ_walk::{WalkError, advance, current, next_item, skip, start, text};
 use std::alloc::Global;
 use std::marker::Model;
 
@@ -153,6 +153,15 @@ impl<S: Shown + Drop> CountedGround<S> {
         ensures { IsLent (rest_of self.now (stand_of place.now)) result }
     {
         current(&self.ground, place)
+    }
+
+    /// Lends the next item of the occurrence with the texts of its paths, where one is left.
+    #[inline(always)]
+    pub fn text<'a>(&'a self, place: &'a Place) -> Option<ItemText<'a>>
+        requires { MayStand self.now (stand_of place.now) }
+        ensures { IsTextLent (rest_of self.now (stand_of place.now)) result }
+    {
+        text(&self.ground, place)
     }
 
     /// Passes over the next item of the occurrence, where one is left.

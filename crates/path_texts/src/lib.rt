@@ -1,9 +1,8 @@
-//! The texts of paths, each made from the one before: what two paths have in common is not made again.
+//! The texts of paths, made from their steps.
 #![tactic(auto)]
 
-mod kept;
 mod made;
-mod marks;
+mod text;
 
-pub use kept::{PathText, PathTexts};
 pub use made::push_path;
+pub use text::{PathText, or_slash};

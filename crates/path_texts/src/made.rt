@@ -1,4 +1,4 @@
-//! The text of any path, of the kept one or made anew.
+//! The text of any path.
 ghost use Rattle.std.specs.Prelude.{◌≡◌, ◌++◌, [], ℕ, IfOk, List, OnOk};
 ghost use Rattle.std.specs.Option.{option_map_or};
 ghost use Rattle.flat_spec.specs.Effective.{names_along};
@@ -6,7 +6,6 @@ ghost use Rattle.flat_spec.specs.Paths.{cell_along, cell_below_top};
 ghost use Rattle.flat_lines_spec.specs.Lines.{path_text};
 ghost use Rattle.path_texts.specs.Texts.{behind_slashes};
 
-use crate::kept::PathTexts;
 use flat_lookup::inst_at;
 use netlist_schema::{CellId, NoMemory, Shown};
 
@@ -51,9 +50,9 @@ fn push_names<S: Shown>(
     push_steps(design, top.cell, path, out)
 }
 
-/// Makes the text of a path behind other bytes, `/` alone where it names no instance, and returns the cell that it reaches. After
-/// `NoMemory` some bytes may stand behind those before.
-fn make_path<S: Shown>(
+/// Appends the text of a path, and returns the cell that it reaches: none where a step leads nowhere, which is then the last one of the
+/// text, and where the design has no top. After `NoMemory` some bytes may stand behind those before.
+pub fn push_path<S: Shown>(
     design: &S,
     path: &[u32],
     out: &mut Vec<u8>,
@@ -69,23 +68,4 @@ fn make_path<S: Shown>(
     }
     out.push(b'/')?;
     Ok(cell)
-}
-
-/// Appends the text of a path, that of the kept one where it is a front of it, and returns the cell that it reaches: none where a step leads
-/// nowhere, which is then the last one of the text, and where the design has no top. After `NoMemory` some bytes may stand behind those
-/// before.
-pub fn push_path<S: Shown>(
-    texts: &PathTexts<'_, S>,
-    path: &[u32],
-    out: &mut Vec<u8>,
-) -> Result<Option<CellId>, NoMemory>
-    ensures cell { IfOk result (λ cell. cell ≡ cell_below_top texts.now path.now) }
-    ensures text { OnOk result (out.new.items ≡ out.old.items ++ path_text texts.now path.now) }
-    ensures grows { (more : List ℕ) × (out.new.items ≡ out.old.items ++ more) }
-{
-    let Some(found) = texts.find(path) else {
-        return make_path(texts.design(), path, out);
-    };
-    out.extend_from_slice(found.text)?;
-    Ok(Some(found.cell))
 }

@@ -5,10 +5,9 @@ ghost use Rattle.flat_lines_spec.specs.Lines.{flattening_text, item_lines, last_
 ghost use Rattle.script_say.specs.Items.{IsLeft, SaysNext};
 
 use crate::bytes::push_bytes;
-use flat_report::{keep_path, kept_text};
+use flat_report::text_line;
 use netlist_schema::{NoMemory, Shown};
 use occ_walk::Walk;
-use path_texts::PathTexts;
 use std::alloc::Global;
 
 /// Says the items of the flattening of a design, each in a line, at most so many where there is a limit, and behind them `end`, or
@@ -31,49 +30,49 @@ pub fn say_walk<S: Shown + Drop>(
     let Ok(mut walk) = Walk::new(alloc, walked) else {
         return Err(NoMemory);
     };
-    let mut texts = PathTexts::new(alloc, design);
     match limit {
-        Some(limit) => say_most(alloc, &mut walk, &mut texts, limit, out),
-        None => say_all(alloc, &mut walk, &mut texts, out),
+        Some(limit) => say_most(alloc, &mut walk, design, limit, out),
+        None => say_all(alloc, &mut walk, design, out),
     }
 }
 
 /// Says the next item, where the walk has gone on to it: whether there was one.
-fn say_ahead<S: Shown + Drop>(
+fn say_ahead<W: Shown + Drop, S: Shown>(
     alloc: Global,
-    walk: &mut Walk<S>,
-    texts: &mut PathTexts<'_, S>,
+    walk: &mut Walk<W>,
+    design: &S,
     out: &mut Vec<u8>,
 ) -> Result<bool, NoMemory>
-    requires { walk.old.over ≡ false }
-    ensures same { texts.new ≡ texts.old }
-    ensures next { IfOk result (SaysNext texts.old walk.old.left walk.new.left out.old.items out.new.items) }
+    requires same { walk.old.design ≡ S.design design.now }
+    requires more { walk.old.over ≡ false }
+    ensures same { walk.new.design ≡ walk.old.design }
+    ensures next { IfOk result (SaysNext (S.design design.now) walk.old.left walk.new.left out.old.items out.new.items) }
     ensures grows { Grows out.old.items out.new.items }
 {
-    let Some(item) = walk.current() else {
+    let Some(item) = walk.text() else {
         return Ok(false);
     };
-    keep_path(texts, item);
-    kept_text(alloc, texts, item, out)?;
+    text_line(alloc, design, item, out)?;
     walk.skip();
     Ok(true)
 }
 
 /// Says the next item, where one is left: whether there was one.
-fn say_next<S: Shown + Drop>(
+fn say_next<W: Shown + Drop, S: Shown>(
     alloc: Global,
-    walk: &mut Walk<S>,
-    texts: &mut PathTexts<'_, S>,
+    walk: &mut Walk<W>,
+    design: &S,
     out: &mut Vec<u8>,
 ) -> Result<bool, NoMemory>
-    ensures same { texts.new ≡ texts.old }
-    ensures next { IfOk result (SaysNext texts.old walk.old.left walk.new.left out.old.items out.new.items) }
+    requires { walk.old.design ≡ S.design design.now }
+    ensures same { walk.new.design ≡ walk.old.design }
+    ensures next { IfOk result (SaysNext (S.design design.now) walk.old.left walk.new.left out.old.items out.new.items) }
     ensures grows { Grows out.old.items out.new.items }
 {
     if !walk.advance()? {
         return Ok(false);
     }
-    say_ahead(alloc, walk, texts, out)
+    say_ahead(alloc, walk, design, out)
 }
 
 /// Whether an item is left.
@@ -87,36 +86,38 @@ fn is_left<S: Shown + Drop>(walk: &mut Walk<S>) -> Result<bool, NoMemory>
 }
 
 /// Says all items that are left, and `end`.
-fn say_all<S: Shown + Drop>(
+fn say_all<W: Shown + Drop, S: Shown>(
     alloc: Global,
-    walk: &mut Walk<S>,
-    texts: &mut PathTexts<'_, S>,
+    walk: &mut Walk<W>,
+    design: &S,
     out: &mut Vec<u8>,
 ) -> Result<(), NoMemory>
-    ensures ok { OnOk result (out.new.items ≡ out.old.items ++ (item_lines texts.old walk.old.left ++ last_line None walk.old.left)) }
+    requires { walk.old.design ≡ S.design design.now }
+    ensures ok { OnOk result (out.new.items ≡ out.old.items ++ (item_lines (S.design design.now) walk.old.left ++ last_line None walk.old.left)) }
     ensures grows { Grows out.old.items out.new.items }
 {
     'items: loop {
-        if !say_next(alloc, walk, texts, out)? {
+        if !say_next(alloc, walk, design, out)? {
             return push_bytes(b"end\n", out);
         }
     }
 }
 
 /// Says at most so many of the items that are left, and `end`, or `more` where items are left then.
-fn say_most<S: Shown + Drop>(
+fn say_most<W: Shown + Drop, S: Shown>(
     alloc: Global,
-    walk: &mut Walk<S>,
-    texts: &mut PathTexts<'_, S>,
+    walk: &mut Walk<W>,
+    design: &S,
     limit: u64,
     out: &mut Vec<u8>,
 ) -> Result<(), NoMemory>
+    requires { walk.old.design ≡ S.design design.now }
     ensures ok { OnOk result (out.new.items
-        ≡ out.old.items ++ (item_lines texts.old (shown_items (Some limit) walk.old.left) ++ last_line (Some limit) walk.old.left)) }
+        ≡ out.old.items ++ (item_lines (S.design design.now) (shown_items (Some limit) walk.old.left) ++ last_line (Some limit) walk.old.left)) }
     ensures grows { Grows out.old.items out.new.items }
 {
     for _told in 0..limit {
-        if !say_next(alloc, walk, texts, out)? {
+        if !say_next(alloc, walk, design, out)? {
             return push_bytes(b"end\n", out);
         }
     }

@@ -14,5 +14,5 @@ returns g c =
     let d = g.S.Shown.design c.args.ground.now.design in
     let o : Occurrence = here_of (stand_of c.args.place.now) in
     net_ahead d o c.args.net (refs.Net c.as_slice-path.result c.args.net c.first_of.result) c.requires.net
-    (ap (λ (r : NetAt). items.Net c.as_slice-path.result.now c.args.net r) c.first_of.ensures
+    (ap (λ (r : NetAt). items.Net c.as_slice-path.result.now c.args.net r) c.first_of.ensures.net
     ∙ ap (λ p. net_item d (top_of d).cell (at_path p c.args.net)) c.as_slice-path.ensures.value)

@@ -20,16 +20,16 @@ first_of-requires-clause-net g c =
     c.args.parent.step b c.joints-joints.result.now c.joints-joints.ensures (Some c.in-Some.net) c.in-Some.ensures in
     Joins-net d c.args.parent.frame.now.cell (at_root c.in-Some.net) (on c.args.parent.step b) (outside.joins c.in-Some.net refl)
 
-pub returns-in-Some : goal.returns-in-Some
-returns-in-Some g c =
+pub returns-in-Some-clause-net : goal.returns-in-Some-clause-net
+returns-in-Some-clause-net g c =
     let d = g.S.Shown.design c.args.ground.now.design in
     let b : Bit = record { port = c.args.pin.port; bit = c.args.pin.bit } in
     let outside = pin_outside d c.args.ground.now.classes c.args.ground.now.notes c.requires.ground c.args.parent.path.now c.args.parent.frame.now c.requires.parent
     c.args.parent.step b c.joints-joints.result.now c.joints-joints.ensures (Some c.in-Some.net) c.in-Some.ensures in
-    ap Some c.first_of.ensures ∙ ap (option_map (representative d (top_of d).cell)) (sym outside.pin)
+    ap Some c.first_of.ensures.net ∙ ap (option_map (representative d (top_of d).cell)) (sym outside.pin)
 
-pub returns-in-None : goal.returns-in-None
-returns-in-None g c =
+pub returns-in-None-clause-net : goal.returns-in-None-clause-net
+returns-in-None-clause-net g c =
     let d = g.S.Shown.design c.args.ground.now.design in
     let b : Bit = record { port = c.args.pin.port; bit = c.args.pin.bit } in
     let outside = pin_outside d c.args.ground.now.classes c.args.ground.now.notes c.requires.ground c.args.parent.path.now c.args.parent.frame.now c.requires.parent

@@ -27,6 +27,6 @@ returns g c =
     let port = port_of_pin (ports_shown d o) c.args.pin.port c.requires.pin.1 in
     let b : Bit = record { port = c.args.pin.port; bit = c.args.pin.bit } in
     pin_ahead d c.requires.ground.valid o c.args.pin port.0 (refs.Pin c.as_slice.result c.args.pin.port c.args.pin.bit c.first_at.result) port.1 c.requires.pin.0
-    (ap (λ (r : Option NetAt). items.Pin c.as_slice.result.now c.args.pin.port c.args.pin.bit r) c.first_at.ensures
+    (ap (λ (r : Option NetAt). items.Pin c.as_slice.result.now c.args.pin.port c.args.pin.bit r) c.first_at.ensures.net
     ∙ ap (λ p. items.Pin p c.args.pin.port c.args.pin.bit (option_map (representative d (top_of d).cell) (net_at_pin d (top_of d).cell c.args.place.now.path.steps.items b)))
     c.as_slice.ensures.value)

@@ -14,7 +14,7 @@ use Rattle.flat_report.proofs.items.push_pin.Goals as goal
 
 pub returns-clause-ok : goal.returns-clause-ok
 returns-clause-ok g c =
-    let d = c.args.texts.now in
+    let d = g.S.Shown.design c.args.design.now in
     let old = c.args.out.now.items in
     let begun = c.extend_from_slice.new.self.items in
     let placed = c.push_place.new.out.items in
@@ -25,7 +25,7 @@ returns-clause-ok g c =
     let bit = decimal c.args.bit in
     let joined = option_map_or (net_words d) (option_map net_of c.args.first) (codes "-" ∷ []) in
     let named_in = λ (of : Design) (cell : Option CellId). option_map_or (λ (p : Port). p.name.id) (port_of_cell of cell c.args.port) [] in
-    let is = c.port_name.ensures ∙ (ap (λ of. named_in of c.in_ok-cell.cell) c.design.ensures ∙ ap (λ cell. named_in d cell) c.in_ok-cell.ensures.cell) in
+    let is = c.port_name.ensures ∙ ap (λ cell. named_in d cell) c.in_ok-cell.ensures.cell in
     let place = more_words old begun placed (codes "pin") [] (path ∷ []) c.in_ok-extend_from_slice.ensures.items (c.in_ok-cell.ensures.text ∙ ap (λ text. begun ++ text) (one_word path)) in
     let names = more_words old placed named (codes "pin") (path ∷ []) (port ∷ bit ∷ []) place (c.in_ok-push_bit.ensures.ok ∙ ap (λ name. placed ++ behind_blanks (name ∷ bit ∷ [])) is) in
     on_ok_weaker c.push_joined.result

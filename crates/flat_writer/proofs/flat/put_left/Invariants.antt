@@ -5,8 +5,8 @@ use Rattle.flat_writer.proofs.flat.put_left.Given as goal
 
 abbrev pub invariant-lines : goal.invariant-lines
 invariant-lines g l = record {
-  same : l.texts ≡ l.fn.texts;
-  given : AreGiven (Writes g.K.Sink.written g.K.Sink.faults l.fn.out l.fn.page l.out l.page) l.fn.texts l.fn.limit l.room l.fn.walk.left l.walk.left;
+  same : l.walk.design ≡ l.fn.walk.design;
+  given : AreGiven (Writes g.K.Sink.written g.K.Sink.faults l.fn.out l.fn.page l.out l.page) l.fn.walk.design l.fn.limit l.room l.fn.walk.left l.walk.left;
 }
 
 abbrev pub decreases-lines : goal.decreases-lines

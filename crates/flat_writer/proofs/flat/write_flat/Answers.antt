@@ -1,6 +1,8 @@
 use Rattle.std.proofs.Common.{List, sym, subst, ◌∙◌}
 use Rattle.std.specs.Prelude.{OnErr, OnOk}
 use Rattle.netdb_outside.specs.Outside.{Appends, AppendsFront, Rose}
+use Rattle.netlist_schema.specs.Design.{Design}
+use Rattle.flat_spec.specs.Flattening.{flattening}
 use Rattle.flat_spec.specs.Types.{Item}
 use Rattle.flat_writer.specs.Given.{text_of_items}
 use Rattle.flat_writer.proofs.OutcomeLemmas.{fault_has_cause, ill_done, not_topless, well_done}
@@ -20,16 +22,16 @@ returns-in-Ok-clause-ok g c =
     let d = g.S.Shown.design c.args.design.now in
     let old = g.K.Sink.written c.args.out.now in
     let new = g.K.Sink.written c.write_left.new.out in
-    let P : List Item → Type 0 = λ items. OnOk c.write_left.result (Appends old new (text_of_items d c.args.limit items)) in
-    rw c.outcome.ensures (well_done c.write_left.result _ (subst P c.in-Ok.ensures.left c.write_left.ensures.ok))
+    let P : Design → List Item → Type 0 = λ e items. OnOk c.write_left.result (Appends old new (text_of_items e c.args.limit items)) in
+    rw c.outcome.ensures (well_done c.write_left.result _ (subst (λ e. P e (flattening d)) c.in-Ok.ensures.design (subst (P c.in-Ok.walk.design) c.in-Ok.ensures.left c.write_left.ensures.ok)))
 
 pub returns-in-Ok-clause-err : goal.returns-in-Ok-clause-err
 returns-in-Ok-clause-err g c =
     let d = g.S.Shown.design c.args.design.now in
     let old = g.K.Sink.written c.args.out.now in
     let new = g.K.Sink.written c.write_left.new.out in
-    let P : List Item → Type 0 = λ items. OnErr c.write_left.result (AppendsFront old new (text_of_items d c.args.limit items)) in
-    rw c.outcome.ensures (ill_done c.write_left.result _ (subst P c.in-Ok.ensures.left c.write_left.ensures.err))
+    let P : Design → List Item → Type 0 = λ e items. OnErr c.write_left.result (AppendsFront old new (text_of_items e c.args.limit items)) in
+    rw c.outcome.ensures (ill_done c.write_left.result _ (subst (λ e. P e (flattening d)) c.in-Ok.ensures.design (subst (P c.in-Ok.walk.design) c.in-Ok.ensures.left c.write_left.ensures.err)))
 
 pub returns-in-Ok-clause-fault : goal.returns-in-Ok-clause-fault
 returns-in-Ok-clause-fault g c = λ is.

@@ -5,12 +5,12 @@ use Rattle.flat_writer.proofs.flat.write_left.Goals as goal
 
 pub returns-clause-ok : goal.returns-clause-ok
 returns-clause-ok g c =
-    let text = text_of_items (g.S.Shown.design c.args.design.now) c.args.limit c.args.walk.now.left in
-    let given = writes_same (append-nil text) (writes_then (rw c.new-texts.ensures at c.put_left.ensures.gives) c.finish.ensures.written) in
+    let text = text_of_items c.args.walk.now.design c.args.limit c.args.walk.now.left in
+    let given = writes_same (append-nil text) (writes_then {x = text} c.put_left.ensures c.finish.ensures.written) in
     finished_well c.finish.result given c.new-page.ensures c.finish.ensures.ok
 
 pub returns-clause-err : goal.returns-clause-err
 returns-clause-err g c =
-    let text = text_of_items (g.S.Shown.design c.args.design.now) c.args.limit c.args.walk.now.left in
-    let given = writes_same (append-nil text) (writes_then (rw c.new-texts.ensures at c.put_left.ensures.gives) c.finish.ensures.written) in
+    let text = text_of_items c.args.walk.now.design c.args.limit c.args.walk.now.left in
+    let given = writes_same (append-nil text) (writes_then {x = text} c.put_left.ensures c.finish.ensures.written) in
     finished_badly c.finish.result given c.new-page.ensures c.finish.ensures.err

@@ -5,8 +5,8 @@ use Rattle.flat_writer.proofs.table.put_left.Given as goal
 
 abbrev pub invariant-rows : goal.invariant-rows
 invariant-rows g l = record {
-  same : l.texts ≡ l.fn.texts;
-  given : AreRowsGiven (Writes g.K.Sink.written g.K.Sink.faults l.fn.out l.fn.page l.out l.page) l.fn.texts l.fn.walk.left l.walk.left;
+  same : l.walk.design ≡ l.fn.walk.design;
+  given : AreRowsGiven (Writes g.K.Sink.written g.K.Sink.faults l.fn.out l.fn.page l.out l.page) l.fn.walk.design l.fn.walk.left l.walk.left;
 }
 
 abbrev pub decreases-rows : goal.decreases-rows

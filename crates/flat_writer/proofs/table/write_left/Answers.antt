@@ -5,14 +5,14 @@ use Rattle.flat_writer.proofs.table.write_left.Goals as goal
 
 pub returns-clause-ok : goal.returns-clause-ok
 returns-clause-ok g c =
-    let rows = pin_rows (g.S.Shown.design c.args.design.now) c.args.walk.now.left in
+    let rows = pin_rows c.args.walk.now.design c.args.walk.now.left in
     let given = writes_same (ap (λ v. header ++ v) (append-nil rows))
-    (writes_then c.put_header.ensures (writes_then (rw c.new-texts.ensures at c.put_left.ensures.gives) c.finish.ensures.written)) in
+    (writes_then c.put_header.ensures (writes_then c.put_left.ensures c.finish.ensures.written)) in
     finished_well c.finish.result given c.new-page.ensures c.finish.ensures.ok
 
 pub returns-clause-err : goal.returns-clause-err
 returns-clause-err g c =
-    let rows = pin_rows (g.S.Shown.design c.args.design.now) c.args.walk.now.left in
+    let rows = pin_rows c.args.walk.now.design c.args.walk.now.left in
     let given = writes_same (ap (λ v. header ++ v) (append-nil rows))
-    (writes_then c.put_header.ensures (writes_then (rw c.new-texts.ensures at c.put_left.ensures.gives) c.finish.ensures.written)) in
+    (writes_then c.put_header.ensures (writes_then c.put_left.ensures c.finish.ensures.written)) in
     finished_badly c.finish.result given c.new-page.ensures c.finish.ensures.err

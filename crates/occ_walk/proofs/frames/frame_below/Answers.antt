@@ -1,7 +1,7 @@
-use Rattle.std.proofs.Common.{◌≡◌, ◌+◌, ℕ, List, length, arith, sym, subst}
+use Rattle.std.proofs.Common.{◌≡◌, ◌+◌, ℕ, List, length, arith, refl, sym, ap, subst, ◌∙◌}
 use Rattle.std.specs.Prelude.{◌↔◌, IsSome}
 use Rattle.std.specs.List.{All, AllPairs, Contains}
-use Rattle.netlist_schema.specs.Types.{CellId}
+use Rattle.netlist_schema.specs.Types.{Inst}
 use Rattle.flat_spec.specs.Paths.{nets_at}
 use Rattle.net_classes.specs.Joints.{IsNotBehind}
 use Rattle.net_classes.specs.declared.joints.Joint.{Joint}
@@ -19,7 +19,7 @@ joints_on-run-requires-clause-order g c =
 
 pub joints_on-run-requires-clause-room : goal.joints_on-run-requires-clause-room
 joints_on-run-requires-clause-room g c =
-    let small = next_is_small (g.S.Shown.design c.args.ground.now.design) c.requires.ground.valid c.args.here.now.cell c.args.step c.requires.inst.0 c.requires.inst.1 in
+    let small = next_is_small (g.S.Shown.design c.args.ground.now.design) c.requires.ground.valid c.args.here.now.cell c.args.step c.args.inst.now c.requires.inst in
     omega (arith, small)
 
 pub overflow_cast-path : goal.overflow_cast-path
@@ -51,12 +51,12 @@ returns-clause-frame g c =
     let facts = c.args.ground.now.classes in
     let on : List Joint = c.joints_on-run.result.joints.now in
     let here : Frame = c.args.here.now in
-    let inst = c.requires.inst in
+    let inst : Inst = c.args.inst.now in
     let are = subst (λ js. (j : Joint) → Contains on j ↔ (Contains js j × (j.inst ≡ c.args.step))) c.joints.ensures c.joints_on-run.ensures in
     let names : List NetName = c.in_ok-names.names.items in
+    let end_is = c.in-Some.ensures ∙ ap (λ (v : List ℕ). here.end + 1 + length v) c.as_slice-2.ensures.value in
     let deep : ℕ = length c.args.path.now + 1 in
-    let with_names = subst (λ (v : List NetName). AreHanded (first_of facts c.args.of) (name_in v c.firsts.result.now) deep on (length (nets_at d c.args.of)) names) c.as_slice.ensures.value c.in_ok-names.ensures in
-    let with_firsts = subst (λ v. AreHanded (first_of facts c.args.of) (name_in here.names.items v) deep on (length (nets_at d c.args.of)) names) c.firsts.ensures with_names in
-    let of_inst = subst (λ (v : CellId). AreHanded (first_of facts v) (name_in here.names.items (firsts_in facts here.cell)) deep on (length (nets_at d v)) names) (sym inst.2) with_firsts in
-    frame_is_below d facts c.args.ground.now.notes c.requires.ground c.args.path.now here c.requires.frame inst.0 c.args.step inst.1 on are deep
-    (record { cell = c.args.of; next = 0; from = c.joints_on-run.result.from; upto = c.joints_on-run.result.upto; near = 0; names = c.in_ok-names.names }) (sym inst.2) (omega arith) of_inst
+    let with_names = subst (λ (v : List NetName). AreHanded (first_of facts inst.of) (name_in v c.firsts.result.now) deep on (length (nets_at d inst.of)) names) c.as_slice.ensures.value c.in_ok-names.ensures in
+    let with_firsts = subst (λ v. AreHanded (first_of facts inst.of) (name_in here.names.items v) deep on (length (nets_at d inst.of)) names) c.firsts.ensures with_names in
+    frame_is_below d facts c.args.ground.now.notes c.requires.ground c.args.path.now here c.requires.frame inst c.args.step c.requires.inst on are deep
+    (record { cell = inst.of; next = 0; from = c.joints_on-run.result.from; upto = c.joints_on-run.result.upto; near = 0; end = c.in-Some.end; names = c.in_ok-names.names }) refl (omega arith) end_is with_firsts

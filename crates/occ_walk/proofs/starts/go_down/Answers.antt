@@ -4,12 +4,12 @@ use Rattle.occ_walk.proofs.starts.go_down.Goals as goal
 
 pub returns-in_default : goal.returns-in_default
 returns-in_default g c =
-    absurd (none_down (g.S.Shown.design c.args.ground.now.design) (stand_of c.args.place.now) c.args.step c.requires.there c.as_slice.result.now c.as_slice.ensures.value c.in_ok-below.below
-    c.in_ok-below.ensures
+    absurd (none_down (g.S.Shown.design c.args.ground.now.design) (stand_of c.args.place.now) c.args.step c.requires.there c.as_slice.result.now c.as_slice.ensures.value c.in_ok-found.found
+    c.in_ok-found.ensures
     c.in_default.is)
 
 pub returns : goal.returns
 returns g c =
-    down_at (g.S.Shown.design c.args.ground.now.design) (stand_of c.args.place.now) c.args.step c.requires.there c.as_slice.result.now c.as_slice.ensures.value c.in_ok-below.below
-    c.in_ok-below.ensures
-    c.args.place.now.path.steps.items c.requires.start c.in-Some.frame c.in-Some.is c.insts_at.result.now c.insts_at.ensures.value (stand_of c.enter.new.self) c.in_ok-enter.ensures.ok
+    down_at (g.S.Shown.design c.args.ground.now.design) (stand_of c.args.place.now) c.args.step c.requires.there c.as_slice.result.now c.as_slice.ensures.value c.in_ok-found.found
+    c.in_ok-found.ensures
+    c.args.place.now.path.steps.items c.requires.start c.in-Some.below c.in-Some.is c.insts_at.result.now c.insts_at.ensures.value (stand_of c.enter.new.self) c.in_ok-enter.ensures.ok

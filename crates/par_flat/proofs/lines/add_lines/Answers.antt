@@ -1,4 +1,4 @@
-use Rattle.std.proofs.Common.{List, Bool, subst, arith, ◌∙◌}
+use Rattle.std.proofs.Common.{List, Bool, subst, arith}
 use Rattle.flat_spec.specs.Types.{Item}
 use Rattle.occ_walk.specs.Left.{left}
 use Rattle.flat_items.specs.Stand.{stand_of}
@@ -28,7 +28,6 @@ pub lines-init : goal.lines-init
 lines-init g c =
     let d = c.args.ground.now in
     record {
-      same = c.requires.same;
       stands = c.requires.stands;
       made = none_made d (left d (stand_of c.args.place.now)) c.args.most c.args.text.now.items c.requires.empty;
     }
@@ -41,7 +40,6 @@ lines-preserved g c =
     let new : List Item = left d (stand_of c.add_line.new.place) in
     let given = subst (λ (b : Bool). GivesLine d old c.lines.text.items new c.add_line.new.text.items b) c.if-not-branch.false c.in_ok-add_line.ensures.given in
     record {
-      same = c.in_ok-add_line.ensures.same ∙ c.lines.invariant.same;
       stands = c.in_ok-add_line.ensures.stands;
       made = one_made d all c.args.most c.lines.count c.lines.text.items c.add_line.new.text.items old new c.lines.invariant.made c.lines-test.true
           (let short = c.if-len-most.true in let long = c.len.ensures in let ok = c.lines.text.ok in omega (arith, short, long)) given;

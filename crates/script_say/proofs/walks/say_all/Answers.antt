@@ -5,8 +5,8 @@ use Rattle.script_say.proofs.walks.say_all.Goals as goal
 
 pub items-preserved : goal.items-preserved
 items-preserved g c =
-    let d = c.args.texts.now in
-    let next = rw c.items.invariant.same at (rw c.if-not-branch.false at c.in_ok-say_next.ensures.next) in
+    let d = g.S.Shown.design c.args.design.now in
+    let next = rw c.if-not-branch.false at c.in_ok-say_next.ensures.next in
     record {
       same = c.say_next.ensures.same ∙ c.items.invariant.same;
       whole = one_more d c.items.out.items c.say_next.new.out.items (c.args.out.now.items ++ item_lines d c.args.walk.now.left) next.0 c.items.walk.left c.say_next.new.walk.left

@@ -6,8 +6,8 @@ use Rattle.script_say.proofs.walks.say_all.Given as goal
 -- the design is the same, and what was said and what is left to say are the whole
 abbrev pub invariant-items : goal.invariant-items
 invariant-items g l = record {
-  same : l.texts ≡ l.fn.texts;
-  whole : l.out.items ++ item_lines l.fn.texts l.walk.left ≡ l.fn.out.items ++ item_lines l.fn.texts l.fn.walk.left;
+  same : l.walk.design ≡ g.S.Shown.design l.design;
+  whole : l.out.items ++ item_lines (g.S.Shown.design l.design) l.walk.left ≡ l.fn.out.items ++ item_lines (g.S.Shown.design l.design) l.fn.walk.left;
   grows : Grows l.fn.out.items l.out.items;
 }
 

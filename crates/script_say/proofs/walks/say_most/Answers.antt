@@ -5,8 +5,8 @@ use Rattle.script_say.proofs.walks.say_most.Goals as goal
 
 pub loop-told-preserved : goal.loop-told-preserved
 loop-told-preserved g c =
-    let d = c.args.texts.now in
-    let next = rw c.loop-told.invariant.same at (rw c.if-not-branch.false at c.in_ok-say_next.ensures.next) in
+    let d = g.S.Shown.design c.args.design.now in
+    let next = rw c.if-not-branch.false at c.in_ok-say_next.ensures.next in
     record {
       same = c.say_next.ensures.same ∙ c.loop-told.invariant.same;
       whole = one_more_within d c.loop-told.out.items c.say_next.new.out.items (c.args.out.now.items ++ item_lines d (take c.args.limit c.args.walk.now.left)) next.0 c.loop-told.walk.left c.say_next.new.walk.left

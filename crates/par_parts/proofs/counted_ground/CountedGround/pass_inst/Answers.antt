@@ -20,7 +20,7 @@ pub returns : goal.returns
 returns g c =
     let d = g.S.Shown.design c.self.inside.ground.design in
     let old : Stand = stand_of c.args.place.now in
-    let new : Stand = record { above = old.above; here = going_on old.here (old.here.next + 1) old.here.near; stage = old.stage; path = old.path } in
+    let new : Stand = record { above = old.above; here = going_on old.here (old.here.next + 1) old.here.near; stage = old.stage; path = old.path; text = old.text } in
     let there : slice_get (insts_at d c.args.place.now.here.cell) c.args.place.now.here.next ≡ Some c.in_ok-inst.inst.now = sym c.inst_at.ensures ∙ ap option_copied c.in_ok-inst.was in
     let stands = subst (λ (v : Design). MayStand v old) (sym c.self.view_is) c.requires.stands in
     subst (λ (v : Design). IsBehindInst v c.args.count old new (c.args.count - c.in_ok-passed.passed)) c.self.view_is

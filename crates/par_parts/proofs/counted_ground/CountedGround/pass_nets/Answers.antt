@@ -28,7 +28,7 @@ returns-clause-left g c =
     let old : Stand = stand_of c.args.place.now in
     let net : ℕ = c.in-Nets.net in
     let gone : ℕ = c.before_last-passed.result in
-    let new : Stand = record { above = old.above; here = old.here; stage = Nets (net + gone); path = old.path } in
+    let new : Stand = record { above = old.above; here = old.here; stage = Nets (net + gone); path = old.path; text = old.text } in
     let fits : net + gone < length (nets_at d old.here.cell) =
     omega (arith, c.before_last-passed.ensures.within, c.len.ensures, c.requires.here.names.long, c.args.place.now.here.names.ok.0) in
     let same : gone ≡ c.from.result = search rules in
