@@ -1,4 +1,3 @@
 mod Opens
 mod Others
-mod Saying
 mod Writing

@@ -1,11 +1,11 @@
 //! The calls on a view.
 ghost use Rattle.std.specs.Prelude.{◌≡◌};
 ghost use Rattle.netdb_calls.specs.Fields.{field_at};
-ghost use Rattle.netdb_calls.specs.Answers.{AnswersView, HasShown, SaysField, SaysLine, told_of_begin_at, told_of_walk};
+ghost use Rattle.netdb_calls.specs.Answers.{AnswersView, HasShown, SaysField, told_of_begin_at, told_of_walk};
 
 use crate::calls::ViewCall;
 use call_status::{Status, Told};
-use netdb_view::{BeginError, Field, Step, View};
+use netdb_view::{BeginError, Field, LineStep, View};
 use netlist_schema::NoMemory;
 use occ_walk::WalkError;
 
@@ -68,22 +68,12 @@ pub(crate) fn answer_view(view: &mut View, call: ViewCall<'_>, text: &mut Vec<u8
 fn next(view: &mut View, text: &mut Vec<u8>) -> Told
     ensures { HasShown view.old view.new text.old.items text.new.items result }
 {
-    match view.next() {
-        Step::Shown => say_line(view, text),
-        Step::End => Told::only(Status::End),
-        Step::NoWalk => Told::only(Status::WrongUse),
-        Step::NoMemory => Told::only(Status::NoMemory),
-    }
-}
-
-/// Says the line of the item that is shown.
-fn say_line(view: &View, text: &mut Vec<u8>) -> Told
-    ensures { SaysLine view.now text.new.items result }
-{
-    text.clear();
-    match view.line(text) {
-        Ok(()) => Told::only(Status::Done),
-        Err(NoMemory) => Told::only(Status::TextLost),
+    match view.next_line(text) {
+        LineStep::Shown => Told::only(Status::Done),
+        LineStep::Lost => Told::only(Status::TextLost),
+        LineStep::End => Told::only(Status::End),
+        LineStep::NoWalk => Told::only(Status::WrongUse),
+        LineStep::NoMemory => Told::only(Status::NoMemory),
     }
 }
 

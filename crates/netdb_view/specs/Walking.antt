@@ -1,5 +1,8 @@
 -- What a walk of a view shows.
-use Rattle.std.specs.Prelude.{◌≡◌, ◌≢◌, ℕ, List, [], ◌∷◌, Some, None, Result, Ok, Err}
+use Rattle.std.specs.Prelude.{◌≡◌, ◌≢◌, ℕ, Bool, List, [], ◌∷◌, Some, None, Result, Ok, Err, drop, if◌then◌else◌}
+use Rattle.std.specs.Option.{option_map_or}
+use Rattle.netlist_schema.specs.Design.{Design}
+use Rattle.flat_lines_spec.specs.Lines.{item_line}
 use Rattle.flat_spec.specs.Flattening.{flattening}
 use Rattle.flat_spec.specs.Paths.{cell_below_top}
 use Rattle.flat_spec.specs.Types.{Item}
@@ -9,6 +12,9 @@ use Rattle.occ_walk.specs.declared.walk.WalkError.TheVariants as walk
 use Rattle.netdb_view.specs.Facts.{ViewFacts}
 use Rattle.netdb_view.specs.declared.view.BeginError.{BeginError}
 use Rattle.netdb_view.specs.declared.view.BeginError.TheVariants.{NoTop, NoPath, NoMemory}
+use Rattle.netdb_view.specs.declared.view.Given.{Given}
+use Rattle.netdb_view.specs.declared.view.LineStep.{LineStep}
+use Rattle.netdb_view.specs.declared.view.LineStep.TheVariants as line
 use Rattle.netdb_view.specs.declared.view.Step.{Step}
 use Rattle.netdb_view.specs.declared.view.Step.TheVariants as step
 
@@ -42,3 +48,23 @@ StepsOn old new step.Shown = Shows old new
 StepsOn old new step.End = (old.left ≡ Some []) × (new ≡ record { version = old.version; left = Some []; shown = None })
 StepsOn old new step.NoWalk = (old.left ≡ None) × (new ≡ old)
 StepsOn old new step.NoMemory = (new ≡ old) × (old.left ≢ None)
+
+-- the line of the item that is shown, nothing where none is
+abbrev pub line_shown : ViewFacts → List ℕ
+line_shown view = option_map_or (item_line view.version.design) view.shown []
+
+-- the next item is shown, and the text is its line, or empty; or no item came to be shown, and the text stays
+abbrev pub StepsOnto : ViewFacts → ViewFacts → List ℕ → List ℕ → LineStep → Type 0
+StepsOnto old new before after line.Shown = StepsOn old new step.Shown × (after ≡ line_shown new)
+StepsOnto old new before after line.Lost = StepsOn old new step.Shown × (after ≡ [])
+StepsOnto old new before after line.End = StepsOn old new step.End × (after ≡ before)
+StepsOnto old new before after line.NoWalk = StepsOn old new step.NoWalk × (after ≡ before)
+StepsOnto old new before after line.NoMemory = StepsOn old new step.NoMemory × (after ≡ before)
+
+-- the text is the line of the first item, where it was said; else it is empty
+abbrev pub IsSaid : Design → List Item → List ℕ → Bool → Type 0
+IsSaid design items text said = (item : Item) × (items ≡ item ∷ drop 1 items) × (text ≡ (if said then item_line design item else []))
+
+-- the first item was given, the others are left, and the text is its line, where it was said; else it is empty
+abbrev pub Gives : Design → List Item → List Item → List ℕ → Given → Type 0
+Gives design before after text given = (before ≡ given.item ∷ after) × (text ≡ (if given.said then item_line design given.item else []))

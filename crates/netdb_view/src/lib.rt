@@ -8,4 +8,4 @@ mod view;
 pub use fields::Field;
 pub use flat_writer::FlatError;
 pub use netdb_outside::WriteError;
-pub use view::{BeginError, Step, View};
+pub use view::{BeginError, LineStep, Step, View};

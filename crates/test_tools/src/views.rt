@@ -2,7 +2,7 @@
 use crate::designs::{NO_TOP, PAIR};
 use netdb_desk::Desk;
 use netdb_outside::MemSink;
-use netdb_view::{BeginError, Field, FlatError, Step, View};
+use netdb_view::{BeginError, Field, FlatError, LineStep, Step, View};
 use occ_walk::WalkError;
 use std::alloc::Global;
 use std::test::Fail;
@@ -48,6 +48,26 @@ fn a_walk_shows_each_item(rt: HostRuntime) -> Result<(), Fail> {
     }
     assert_eq!(rt; view.next(), Step::End);
     assert_eq!(rt; view.next(), Step::End);
+    Ok(())
+}
+
+#[test]
+fn a_step_with_its_line_makes_the_text_that_line(rt: HostRuntime) -> Result<(), Fail> {
+    let mut view = view_of(rt.alloc(), PAIR)?;
+    let mut text = Vec::new(rt.alloc());
+    text.extend_from_slice(b"before")?;
+    assert_eq!(rt; view.next_line(&mut text), LineStep::NoWalk);
+    assert_eq!(rt; text.as_slice(), b"before".as_slice());
+    assert_eq!(rt; view.begin_at(&[0]), Ok(()));
+    let lines: [&[u8]; 2] = [b"inst /i w L\n", b"pin /i a 0 / n\n"];
+    for line in lines.iter() {
+        assert_eq!(rt; view.next_line(&mut text), LineStep::Shown);
+        assert_eq!(rt; text.as_slice(), *line);
+        assert_eq!(rt; line_of(rt.alloc(), &view)?.as_slice(), *line);
+    }
+    assert_eq!(rt; view.next_line(&mut text), LineStep::End);
+    assert_eq!(rt; text.as_slice(), b"pin /i a 0 / n\n".as_slice());
+    assert!(rt; view.shown().is_none());
     Ok(())
 }
 
