@@ -1,3 +1,4 @@
 pub mod Facts
 pub mod Fields
+pub mod Kept
 pub mod Walking

@@ -1,5 +1,5 @@
 -- What a walk of a view shows.
-use Rattle.std.specs.Prelude.{◌≡◌, ◌≢◌, ℕ, Bool, List, [], ◌∷◌, Some, None, Result, Ok, Err, drop, if◌then◌else◌}
+use Rattle.std.specs.Prelude.{◌≡◌, ◌≢◌, ℕ, Bool, List, [], ◌∷◌, Option, Some, None, Result, Ok, Err, drop, if◌then◌else◌}
 use Rattle.std.specs.Option.{option_map_or}
 use Rattle.netlist_schema.specs.Design.{Design}
 use Rattle.flat_lines_spec.specs.Lines.{item_line}
@@ -12,7 +12,6 @@ use Rattle.occ_walk.specs.declared.walk.WalkError.TheVariants as walk
 use Rattle.netdb_view.specs.Facts.{ViewFacts}
 use Rattle.netdb_view.specs.declared.view.BeginError.{BeginError}
 use Rattle.netdb_view.specs.declared.view.BeginError.TheVariants.{NoTop, NoPath, NoMemory}
-use Rattle.netdb_view.specs.declared.view.Given.{Given}
 use Rattle.netdb_view.specs.declared.view.LineStep.{LineStep}
 use Rattle.netdb_view.specs.declared.view.LineStep.TheVariants as line
 use Rattle.netdb_view.specs.declared.view.Step.{Step}
@@ -65,6 +64,6 @@ StepsOnto old new before after line.NoMemory = StepsOn old new step.NoMemory × 
 abbrev pub IsSaid : Design → List Item → List ℕ → Bool → Type 0
 IsSaid design items text said = (item : Item) × (items ≡ item ∷ drop 1 items) × (text ≡ (if said then item_line design item else []))
 
--- the first item was given, the others are left, and the text is its line, where it was said; else it is empty
-abbrev pub Gives : Design → List Item → List Item → List ℕ → Given → Type 0
-Gives design before after text given = (before ≡ given.item ∷ after) × (text ≡ (if given.said then item_line design given.item else []))
+-- the first of the items is shown
+abbrev pub IsShown : List Item → Option Item → Type 0
+IsShown items shown = (item : Item) × (items ≡ item ∷ drop 1 items) × (shown ≡ Some item)

@@ -1,6 +1,7 @@
 //! The fields of the item that is shown.
 ghost use Rattle.std.specs.Prelude.{◌≡◌, Some};
-ghost use Rattle.std.specs.Option.{option_and_then, option_copied};
+ghost use Rattle.std.specs.Option.{option_and_then, option_map};
+ghost use Rattle.flat_items.specs.Lent.{item_of, net_of};
 ghost use Rattle.netlist_schema.specs.Design.{Design};
 ghost use Rattle.flat_lines_spec.specs.Lines.{cell_text, lib_text, path_text};
 ghost use Rattle.occ_walk.specs.At.{path_of};
@@ -9,9 +10,8 @@ ghost use Rattle.netdb_view.specs.declared.fields.Field.TheVariants as field;
 
 use crate::view::View;
 use csv_report::{net_name, path_bytes, port_name};
-use flat_items::NetRef;
+use flat_items::{ItemRef, NetRef};
 use flat_lookup::cell_along;
-use flat_spec::{Item, NetAt};
 use itoa::Buffer;
 use netlist_schema::{CellId, Direction, NoMemory, Shown};
 use std::alloc::Global;
@@ -59,11 +59,11 @@ impl View {
 fn item_field<S: Shown>(
     alloc: Global,
     design: &S,
-    item: &Item,
+    item: ItemRef<'_>,
     which: Field,
     out: &mut Vec<u8>,
 ) -> Result<bool, NoMemory>
-    ensures { Adds (field_text (S.design design.now) item.now which) out.old.items out.new.items result }
+    ensures { Adds (field_text (S.design design.now) (item_of item.entry) which) out.old.items out.new.items result }
 {
     match which {
         Field::Kind => add(kind_of(item), out),
@@ -75,11 +75,11 @@ fn item_field<S: Shown>(
         Field::Bit => add_bit(item, out),
         Field::Direction => add_direction(design, item, out),
         Field::FirstPath => match first_of(item) {
-            Some(first) => add_path(alloc, design, first.path.as_slice(), out),
+            Some(first) => add_path(alloc, design, first.path, out),
             None => Ok(false),
         },
         Field::FirstNet => match first_of(item) {
-            Some(first) => add(net_name(design, NetRef::of(first)), out),
+            Some(first) => add(net_name(design, first), out),
             None => Ok(false),
         },
     }
@@ -107,38 +107,35 @@ fn add_path<S: Shown>(
 }
 
 /// The word for what an item is.
-fn kind_of(item: &Item) -> &'static [u8]
-    ensures { result.now ≡ kind_text item.now }
+fn kind_of(item: ItemRef<'_>) -> &'static [u8]
+    ensures { result.now ≡ kind_text (item_of item.entry) }
 {
     match item {
-        Item::Enter { .. } => b"inst",
-        Item::Net { .. } => b"net",
-        Item::Pin { .. } => b"pin",
+        ItemRef::Enter { .. } => b"inst",
+        ItemRef::Net { .. } => b"net",
+        ItemRef::Pin { .. } => b"pin",
     }
 }
 
 /// The path of an item's occurrence.
-fn path_of(item: &Item) -> &[u32]
-    ensures { result.now ≡ path_of item.now }
+fn path_of(item: ItemRef<'_>) -> &[u32]
+    ensures { result.now ≡ path_of (item_of item.entry) }
 {
     match item {
-        Item::Enter { path, .. } => path.as_slice(),
-        Item::Net { path, .. } => path.as_slice(),
-        Item::Pin { path, .. } => path.as_slice(),
+        ItemRef::Enter { path, .. } => path,
+        ItemRef::Net { path, .. } => path,
+        ItemRef::Pin { path, .. } => path,
     }
 }
 
 /// The first net that is connected with an item's, where there is one.
-fn first_of(item: &Item) -> Option<&NetAt>
-    ensures { option_copied result ≡ first_of item.now }
+fn first_of(item: ItemRef<'_>) -> Option<NetRef<'_>>
+    ensures { option_map net_of result ≡ first_of (item_of item.entry) }
 {
     match item {
-        Item::Enter { .. } => None,
-        Item::Net { first, .. } => Some(first),
-        Item::Pin { first, .. } => match first {
-            Some(net) => Some(net),
-            None => None,
-        },
+        ItemRef::Enter { .. } => None,
+        ItemRef::Net { first, .. } => Some(first),
+        ItemRef::Pin { first, .. } => first,
     }
 }
 
@@ -163,61 +160,58 @@ fn cell_name<S: Shown>(design: &S, id: CellId) -> &[u8]
 }
 
 /// Appends the identifier of an occurrence's library.
-fn add_library<S: Shown>(design: &S, item: &Item, out: &mut Vec<u8>) -> Result<bool, NoMemory>
-    ensures { Adds (field_text (S.design design.now) item.now field.Library) out.old.items out.new.items result }
+fn add_library<S: Shown>(design: &S, item: ItemRef<'_>, out: &mut Vec<u8>) -> Result<bool, NoMemory>
+    ensures { Adds (field_text (S.design design.now) (item_of item.entry) field.Library) out.old.items out.new.items result }
 {
     match item {
-        Item::Enter { cell, .. } => add(lib_name(design, *cell), out),
-        Item::Net { .. } | Item::Pin { .. } => Ok(false),
+        ItemRef::Enter { cell, .. } => add(lib_name(design, cell), out),
+        ItemRef::Net { .. } | ItemRef::Pin { .. } => Ok(false),
     }
 }
 
 /// Appends the identifier of an occurrence's cell.
-fn add_cell<S: Shown>(design: &S, item: &Item, out: &mut Vec<u8>) -> Result<bool, NoMemory>
-    ensures { Adds (field_text (S.design design.now) item.now field.Cell) out.old.items out.new.items result }
+fn add_cell<S: Shown>(design: &S, item: ItemRef<'_>, out: &mut Vec<u8>) -> Result<bool, NoMemory>
+    ensures { Adds (field_text (S.design design.now) (item_of item.entry) field.Cell) out.old.items out.new.items result }
 {
     match item {
-        Item::Enter { cell, .. } => add(cell_name(design, *cell), out),
-        Item::Net { .. } | Item::Pin { .. } => Ok(false),
+        ItemRef::Enter { cell, .. } => add(cell_name(design, cell), out),
+        ItemRef::Net { .. } | ItemRef::Pin { .. } => Ok(false),
     }
 }
 
 /// Appends the identifier of a net.
-fn add_net<S: Shown>(design: &S, item: &Item, out: &mut Vec<u8>) -> Result<bool, NoMemory>
-    ensures { Adds (field_text (S.design design.now) item.now field.Net) out.old.items out.new.items result }
+fn add_net<S: Shown>(design: &S, item: ItemRef<'_>, out: &mut Vec<u8>) -> Result<bool, NoMemory>
+    ensures { Adds (field_text (S.design design.now) (item_of item.entry) field.Net) out.old.items out.new.items result }
 {
     match item {
-        Item::Net { path, net, .. } => {
-            let at = NetRef {
-                path: path.as_slice(),
-                net: *net,
-            };
+        ItemRef::Net { path, net, .. } => {
+            let at = NetRef { path, net };
             add(net_name(design, at), out)
         }
-        Item::Enter { .. } | Item::Pin { .. } => Ok(false),
+        ItemRef::Enter { .. } | ItemRef::Pin { .. } => Ok(false),
     }
 }
 
 /// Appends the identifier of a pin's port.
-fn add_port<S: Shown>(design: &S, item: &Item, out: &mut Vec<u8>) -> Result<bool, NoMemory>
-    ensures { Adds (field_text (S.design design.now) item.now field.Port) out.old.items out.new.items result }
+fn add_port<S: Shown>(design: &S, item: ItemRef<'_>, out: &mut Vec<u8>) -> Result<bool, NoMemory>
+    ensures { Adds (field_text (S.design design.now) (item_of item.entry) field.Port) out.old.items out.new.items result }
 {
     match item {
-        Item::Pin { path, port, .. } => add(port_name(design, path.as_slice(), *port), out),
-        Item::Enter { .. } | Item::Net { .. } => Ok(false),
+        ItemRef::Pin { path, port, .. } => add(port_name(design, path, port), out),
+        ItemRef::Enter { .. } | ItemRef::Net { .. } => Ok(false),
     }
 }
 
 /// Appends a pin's bit.
-fn add_bit(item: &Item, out: &mut Vec<u8>) -> Result<bool, NoMemory>
-    ensures { (d : Design) → Adds (field_text d item.now field.Bit) out.old.items out.new.items result }
+fn add_bit(item: ItemRef<'_>, out: &mut Vec<u8>) -> Result<bool, NoMemory>
+    ensures { (d : Design) → Adds (field_text d (item_of item.entry) field.Bit) out.old.items out.new.items result }
 {
     match item {
-        Item::Pin { bit, .. } => {
+        ItemRef::Pin { bit, .. } => {
             let mut digits = Buffer::new();
-            add(digits.format(*bit).as_bytes(), out)
+            add(digits.format(bit).as_bytes(), out)
         }
-        Item::Enter { .. } | Item::Net { .. } => Ok(false),
+        ItemRef::Enter { .. } | ItemRef::Net { .. } => Ok(false),
     }
 }
 
@@ -246,14 +240,18 @@ fn way_word(way: Direction) -> &'static [u8]
 }
 
 /// Appends the direction of a pin's port.
-fn add_direction<S: Shown>(design: &S, item: &Item, out: &mut Vec<u8>) -> Result<bool, NoMemory>
-    ensures { Adds (field_text (S.design design.now) item.now field.Direction) out.old.items out.new.items result }
+fn add_direction<S: Shown>(
+    design: &S,
+    item: ItemRef<'_>,
+    out: &mut Vec<u8>,
+) -> Result<bool, NoMemory>
+    ensures { Adds (field_text (S.design design.now) (item_of item.entry) field.Direction) out.old.items out.new.items result }
 {
     match item {
-        Item::Pin { path, port, .. } => match way_at(design, path.as_slice(), *port) {
+        ItemRef::Pin { path, port, .. } => match way_at(design, path, port) {
             Some(way) => add(way_word(way), out),
             None => Ok(false),
         },
-        Item::Enter { .. } | Item::Net { .. } => Ok(false),
+        ItemRef::Enter { .. } | ItemRef::Net { .. } => Ok(false),
     }
 }

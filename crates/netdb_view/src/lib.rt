@@ -2,6 +2,7 @@
 #![tactic(auto)]
 
 mod fields;
+mod kept;
 mod texts;
 mod view;
 

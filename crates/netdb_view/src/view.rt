@@ -1,12 +1,16 @@
 //! `View`: a version, and a walk over it.
-ghost use Rattle.std.specs.Prelude.{◌≡◌, ◌≢◌, ◌++◌, None, OnErr, OnOk, IfNone, IfOk, IfSome, false};
+ghost use Rattle.std.specs.Prelude.{◌≡◌, ◌≢◌, ◌++◌, None, OnErr, OnOk, IfNone, IfSome, false};
 ghost use Rattle.flat_lines_spec.specs.Lines.{item_line};
-ghost use Rattle.netdb_view.specs.Walking.{Begins, BeginsAt, Gives, IsSaid, StepsOn, StepsOnto};
+ghost use Rattle.std.specs.Option.{option_map};
+ghost use Rattle.flat_items.specs.Lent.{item_of};
+ghost use Rattle.netdb_view.specs.Walking.{Begins, BeginsAt, IsSaid, IsShown, StepsOn, StepsOnto};
 
+use crate::kept::{Kept, keep};
 use edit_tx::Snapshot;
+use flat_items::ItemRef;
 use flat_lookup::cell_along;
-use flat_report::{item_text, text_line};
-use flat_spec::{Item, Path};
+use flat_report::{lent_text, text_line};
+use flat_spec::Path;
 use netlist_schema::{NoMemory, Shown};
 use occ_walk::{Walk, WalkError};
 use std::alloc::Global;
@@ -55,19 +59,13 @@ pub enum LineStep {
     NoMemory,
 }
 
-/// An item that a walk gave, and whether the text became its line.
-struct Given {
-    item: Item,
-    said: bool,
-}
-
 /// A version of a design, with a walk over its flattening where one was begun. It stays readable when the database is gone and when the
 /// version is dropped there. Contracts see the version, the items that are left, and the item that is shown.
 pub struct View {
     alloc: Global,
     version: Snapshot,
     walk: Option<Walk<Snapshot>>,
-    shown: Option<Item>,
+    shown: Option<Kept>,
 }
 
 impl Drop for View {
@@ -108,24 +106,20 @@ fn say_ahead<S: Shown + Drop>(alloc: Global, walk: &Walk<S>, text: &mut Vec<u8>)
     }
 }
 
-/// Steps over the item to which a walk has gone on, and makes the text its line. At an error nothing was changed.
-fn give<S: Shown + Drop>(
+/// Keeps the item to which a walk has gone on. At an error nothing was changed.
+fn keep_ahead<S: Shown + Drop>(
     alloc: Global,
-    walk: &mut Walk<S>,
-    text: &mut Vec<u8>,
-) -> Result<Given, NoMemory>
-    requires { walk.old.over ≡ false }
-    ensures same { walk.new.design ≡ walk.old.design }
-    ensures ok { IfOk result (Gives walk.old.design walk.old.left walk.new.left text.new.items) }
-    ensures err { OnErr result ((walk.new.left ≡ walk.old.left) × (text.new.items ≡ text.old.items)) }
+    walk: &Walk<S>,
+    shown: &mut Option<Kept>,
+) -> Result<(), NoMemory>
+    requires { walk.now.over ≡ false }
+    ensures ok { OnOk result (IsShown walk.now.left shown.new) }
+    ensures err { OnErr result (shown.new ≡ shown.old) }
 {
     let Some(item) = walk.current() else {
         unreachable!()
     };
-    let item = item.made(alloc)?;
-    let said = say_ahead(alloc, walk, text);
-    walk.skip();
-    Ok(Given { item, said })
+    keep(alloc, shown, item)
 }
 
 impl View {
@@ -205,17 +199,19 @@ impl View {
         let Some(walk) = &mut self.walk else {
             return Step::NoWalk;
         };
-        match walk.next() {
-            Ok(Some(item)) => {
-                self.shown = Some(item);
-                Step::Shown
-            }
-            Ok(None) => {
+        match walk.advance() {
+            Ok(true) => {}
+            Ok(false) => {
                 self.shown = None;
-                Step::End
+                return Step::End;
             }
-            Err(NoMemory) => Step::NoMemory,
+            Err(NoMemory) => return Step::NoMemory,
         }
+        let Ok(()) = keep_ahead(self.alloc, walk, &mut self.shown) else {
+            return Step::NoMemory;
+        };
+        walk.skip();
+        Step::Shown
     }
 
     /// Shows the next item of the walk, as `next` does, and makes the text its line; where there is no memory for the line the text is
@@ -235,10 +231,11 @@ impl View {
             }
             Err(NoMemory) => return LineStep::NoMemory,
         }
-        let Ok(Given { item, said }) = give(self.alloc, walk, text) else {
+        let Ok(()) = keep_ahead(self.alloc, walk, &mut self.shown) else {
             return LineStep::NoMemory;
         };
-        self.shown = Some(item);
+        let said = say_ahead(self.alloc, walk, text);
+        walk.skip();
         if said {
             return LineStep::Shown;
         }
@@ -246,10 +243,13 @@ impl View {
     }
 
     /// Lends the item that is shown. Takes no memory.
-    pub fn shown(&self) -> &Option<Item>
-        ensures { result.now ≡ self.now.shown }
+    pub fn shown(&self) -> Option<ItemRef<'_>>
+        ensures { option_map item_of result ≡ self.now.shown }
     {
-        &self.shown
+        match &self.shown {
+            Some(kept) => Some(kept.lent()),
+            None => None,
+        }
     }
 
     /// Appends the line of the item that is shown; nothing where none is. After `NoMemory`, which comes only where one is, the bytes are as
@@ -259,8 +259,8 @@ impl View {
         ensures ok { IfSome self.now.shown (λ item. OnOk result (out.new.items ≡ out.old.items ++ item_line self.now.version.design item)) }
         ensures err { OnErr result ((out.new.items ≡ out.old.items) × (self.now.shown ≢ None)) }
     {
-        match &self.shown {
-            Some(item) => item_text(self.alloc, &self.version, item, out),
+        match self.shown() {
+            Some(item) => lent_text(self.alloc, &self.version, item, out),
             None => Ok(()),
         }
     }
