@@ -1,11 +1,14 @@
 //! How many items are made into lines at once.
-ghost use Rattle.std.specs.Prelude.{◌≡◌, ◌<◌, ◌≤◌, ◌+◌, ◌*◌, ◌/◌, min};
+ghost use Rattle.std.specs.Prelude.{◌≡◌, ◌<◌, ◌≤◌, ◌+◌, ◌*◌, ◌/◌, false, max, min, true};
 ghost use Rattle.par_flat.specs.declared.limits.TheConstants.{MOST_WORKERS};
 
 use crate::desks::Most;
 
+/// How many items are made into lines in the first round, where so many are there.
+pub const FIRST_AT_ONCE: u64 = 131_072;
+
 /// The most items that are made into lines in one round, but for those by which equal shares are rounded up.
-pub const MOST_AT_ONCE: u64 = 131_072;
+pub const MOST_AT_ONCE: u64 = 1_048_576;
 
 /// The most bytes of text that are made in one round, but for a line of each worker. The texts of two rounds stand in memory.
 pub const MOST_BYTES: usize = 16_777_216;
@@ -41,19 +44,21 @@ pub fn share_of(workers: u32, left: u64) -> Most
     }
 }
 
-/// How many items are made at once behind a round in which so many of those that were wanted were written. Where those were too many
-/// for the bytes, as many as were written; else twice as many as before.
-pub fn next_at_once(at_once: u64, wanted: u64, made: u64) -> u64
-    requires some { (1 ≤ at_once) × (1 ≤ made) }
-    requires few { at_once ≤ MOST_AT_ONCE }
-    requires wanted { wanted ≤ at_once }
-    ensures early { made < wanted → result ≡ made }
-    ensures whole { wanted ≤ made → result ≡ min (at_once * 2) MOST_AT_ONCE }
+/// How many items are made at once behind a round of so many: half as many, but one at least, where a worker stopped early, since its text
+/// was too long; as many where all of the text was long; else twice as many.
+pub fn next_at_once(at_once: u64, whole: bool, long: bool) -> u64
+    requires { (1 ≤ at_once) × (at_once ≤ MOST_AT_ONCE) }
+    ensures early { whole ≡ false → result ≡ max (at_once / 2) 1 }
+    ensures long { whole ≡ true → long ≡ true → result ≡ at_once }
+    ensures short { whole ≡ true → long ≡ false → result ≡ min (at_once * 2) MOST_AT_ONCE }
     ensures some { 1 ≤ result }
     ensures few { result ≤ MOST_AT_ONCE }
 {
-    if made < wanted {
-        return made;
+    if !whole {
+        return (at_once / 2).max(1);
+    }
+    if long {
+        return at_once;
     }
     (at_once * 2).min(MOST_AT_ONCE)
 }

@@ -14,7 +14,7 @@ ghost use Rattle.par_flat.specs.declared.limits.TheConstants.{MOST_WORKERS};
 use crate::crew::{Crew, crew_of, ready_of, take_lines};
 use crate::desks::{Desk, Lines};
 use crate::lines::make_lines;
-use crate::rounds::{MOST_AT_ONCE, Round, are_few, next_at_once, share_of};
+use crate::rounds::{FIRST_AT_ONCE, MOST_BYTES, Round, are_few, next_at_once, share_of};
 use flat_writer::{FlatError, outcome, write_flat};
 use netdb_outside::{Gate, Put, Sink, WriteError};
 use netlist_schema::Shown;
@@ -202,6 +202,15 @@ fn new_crew(alloc: Global, workers: u32) -> Result<Crew, WriteError>
     }
 }
 
+/// Whether the text of a round is longer than half of what it may be.
+fn is_long(ready: &[Lines]) -> bool {
+    let mut bytes = 0usize;
+    for lines in ready {
+        bytes = bytes.saturating_add(lines.text.len());
+    }
+    bytes > MOST_BYTES / 2
+}
+
 /// Puts the lines of all items, which are that many.
 fn put_items<R: Threads + Sync, S: Shown + Drop + Sync, G: Gate + Sync, K: Sink>(
     rt: &R,
@@ -221,7 +230,7 @@ fn put_items<R: Threads + Sync, S: Shown + Drop + Sync, G: Gate + Sync, K: Sink>
 {
     let threads = gate.may_hold() || !are_few(workers, count);
     let mut first = 0;
-    let mut at_once = MOST_AT_ONCE;
+    let mut at_once = FIRST_AT_ONCE;
     let mut crew = new_crew(ground.alloc(), workers)?;
     'rounds: while first < count {
         let wanted = at_once.min(count - first);
@@ -232,7 +241,8 @@ fn put_items<R: Threads + Sync, S: Shown + Drop + Sync, G: Gate + Sync, K: Sink>
             most: share_of(workers, wanted),
         };
         let made = next_round(rt, ground, round, gate, &mut crew, out)?;
-        at_once = next_at_once(at_once, wanted, made);
+        let long = is_long(ready_of(crew.waiting.as_slice(), crew.ready));
+        at_once = next_at_once(at_once, made >= wanted, long);
         first += made;
     }
     put_lines(ready_of(crew.waiting.as_slice(), crew.ready), out)
@@ -286,11 +296,12 @@ fn write_counted<R: Threads + Sync, S: Shown, W: Shown + Drop + Sync, G: Gate + 
 /// Writes the lines of a design's flattening, and behind them `end`, as `write_flat` does without a limit, where 1 to 64 workers make them
 /// beside each other, each in a thread, or where one can't be started, here. Where the gate holds nobody and there are no more than 1,024
 /// items a worker, no thread is started, and they make their lines one behind the other. They work in rounds, in each of which all have the
-/// same share, but that at the end there may be fewer items. A round makes the lines of no more than 131,072 items (and of fewer more than
-/// there are workers, where their number does not divide that), and no more than 16 MiB of text and a line of each worker: a worker with so
-/// much text stops, and the next round begins behind the first that did. The lines of one round are put here while those of the next are
-/// made in threads, so the texts of two rounds stand in memory, which take no more than twice their length. A worker goes on from where it
-/// stood in the round before, so what it passes over it passes over once, unless another one stopped.
+/// same share, but that at the end there may be fewer items. A round makes the lines of no more than 1,048,576 items (and of fewer more
+/// than there are workers, where their number does not divide that), and no more than 16 MiB of text and a line of each worker: a worker
+/// with so much text stops, and the next round begins behind the first that did. The first round has 131,072 items; the next one has twice
+/// as many where the text was no longer than 8 MiB, and half as many where a worker stopped. The lines of one round are put here while
+/// those of the next are made in threads, so the texts of two rounds stand in memory, which take no more than twice their length. A worker
+/// goes on from where it stood in the round before, so what it passes over it passes over once, unless another one stopped.
 ///
 /// In each round each worker, also one with no item, calls the gate with its number and 1 before its first line, and with 2 behind its
 /// last one.

@@ -37,8 +37,8 @@ rounds-init g c = record {
 pub returns-clause-err : goal.returns-clause-err
 returns-clause-err g c =
     let d = c.args.ground.now in
-    let held : c.as_slice.result.now ≡ c.rounds.crew.waiting.items = search rules in
-    let same : text_of c.ready_of.result.now ≡ waiting_text c.rounds.crew = ap text_of (c.ready_of.ensures ∙ ap (take c.rounds.crew.ready) held) in
+    let held : c.as_slice-2.result.now ≡ c.rounds.crew.waiting.items = search rules in
+    let same : text_of c.ready_of-2.result.now ≡ waiting_text c.rounds.crew = ap text_of (c.ready_of-2.ensures ∙ ap (take c.rounds.crew.ready) held) in
     on_err_weaker c.put_lines.result
     (λ front.
     ahead_front d (flattening d) c.rounds.first (g.K.Sink.written c.args.out.now) (g.K.Sink.written c.rounds.out) (g.K.Sink.written c.put_lines.new.out) (waiting_text c.rounds.crew)

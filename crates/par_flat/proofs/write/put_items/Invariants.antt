@@ -10,7 +10,7 @@ invariant-rounds g l = record {
   ahead : IsAhead (g.K.Sink.written l.fn.out) (g.K.Sink.written l.out) (waiting_text l.crew) (item_lines l.ground (take l.first (flattening l.ground)));
   never_falls : g.K.Sink.faults l.fn.out ≤ g.K.Sink.faults l.out;
   some : 1 ≤ l.at_once;
-  few : l.at_once ≤ 131072;
+  few : l.at_once ≤ 1048576;
   crew : IsCrew l.ground l.workers l.crew;
 }
 
