@@ -87,9 +87,12 @@ void netdb_close(netdb *db) {
 
 size_t netdb_text(const netdb *db, char *room, size_t length) {
     netdb *of = (netdb *)db;
-    size_t whole = of ? netdb_c_text_length(of) : 0;
-    if (whole && room && length) netdb_c_text(of, (uint8_t *)room, length);
-    return whole;
+    if (!of) return 0;
+    if (room && length) {
+        size_t copied = netdb_c_text(of, (uint8_t *)room, length);
+        if (copied < length) return copied; /* the whole text, since there was room for more */
+    }
+    return netdb_c_text_length(of);
 }
 
 netdb_status netdb_pin(netdb *db, uint32_t seat, uint64_t *version) {
