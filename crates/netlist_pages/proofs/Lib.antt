@@ -1,0 +1,5 @@
+pub mod Going
+mod PageLemmas
+pub mod Places
+mod RestLemmas
+mod StepLemmas
