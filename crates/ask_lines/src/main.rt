@@ -231,14 +231,14 @@ fn answer_path<W: Write>(
         "fan-out" => write_fan_out(out, ask, path)?,
         "insts" => {
             write!(out, "insts")?;
-            for inst in ask.insts_of(path) {
+            for inst in ask.insts_of(path).iter() {
                 write!(out, " {}/{}", inst.of.lib.0, inst.of.slot)?;
             }
             writeln!(out)?;
         }
         _ => {
             write!(out, "nets")?;
-            for net in ask.nets_of(path) {
+            for net in ask.nets_of(path).iter() {
                 write!(out, " {}", net.ends.as_slice().len())?;
             }
             writeln!(out)?;

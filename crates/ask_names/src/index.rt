@@ -65,9 +65,9 @@ fn orders_of<S: Shown>(alloc: Global, design: &S, cell: CellId) -> Result<Orders
     ensures { IfOk result (AreOrdersOf (S.design design.now) cell) }
 {
     design_is_valid(design);
-    let insts = order_of(alloc, insts_at(design, cell))?;
-    let nets = order_of(alloc, nets_at(design, cell))?;
-    let ports = order_of(alloc, ports_at(design, cell))?;
+    let insts = order_of(alloc, &insts_at(design, cell))?;
+    let nets = order_of(alloc, &nets_at(design, cell))?;
+    let ports = order_of(alloc, &ports_at(design, cell))?;
     Ok(Orders { insts, nets, ports })
 }
 

@@ -33,7 +33,7 @@ pub(crate) fn inst_in<S: Shown>(design: &S, index: &Index, cell: CellId, name: &
     ensures { result ≡ inst_place name.now (insts_at (S.design design.now) cell) }
 {
     match orders_at(design, index, cell) {
-        Some(orders) => place_in(insts_at(design, cell), orders.insts.as_slice(), name),
+        Some(orders) => place_in(&insts_at(design, cell), orders.insts.as_slice(), name),
         None => None,
     }
 }
@@ -44,7 +44,7 @@ pub(crate) fn net_in<S: Shown>(design: &S, index: &Index, cell: CellId, name: &[
     ensures { result ≡ net_place name.now (nets_at (S.design design.now) cell) }
 {
     match orders_at(design, index, cell) {
-        Some(orders) => place_in(nets_at(design, cell), orders.nets.as_slice(), name),
+        Some(orders) => place_in(&nets_at(design, cell), orders.nets.as_slice(), name),
         None => None,
     }
 }
@@ -55,7 +55,7 @@ pub(crate) fn port_in<S: Shown>(design: &S, index: &Index, cell: CellId, name: &
     ensures { result ≡ port_place name.now (ports_at (S.design design.now) cell) }
 {
     match orders_at(design, index, cell) {
-        Some(orders) => place_in(ports_at(design, cell), orders.ports.as_slice(), name),
+        Some(orders) => place_in(&ports_at(design, cell), orders.ports.as_slice(), name),
         None => None,
     }
 }

@@ -5,73 +5,81 @@ ghost use Rattle.netlist_schema.specs.Names.{AreDistinct};
 ghost use Rattle.edit_rules_spec.specs.Find.{place_of};
 ghost use Rattle.ask_names.specs.Orders.{AreInOrder, ArePlaces, IsSearched, cmp_at, cmp_to, name_at};
 
-use netlist_schema::{Inst, Net, NoMemory, Port, Shared};
+use netlist_schema::{Inst, Listed, Net, NoMemory, PartsRef, Port};
 use std::alloc::Global;
 use std::cmp::Ordering;
 
-/// What has an identifier in a cell.
+/// What has identifiers in a cell, in a row.
 pub(crate) trait Named {
-    /// The identifier.
-    ghost named: { Self → List ℕ };
+    /// The identifiers.
+    ghost names: { Self → List (List ℕ) };
 
-    /// Lends the identifier.
-    fn name(&self) -> &[u8]
-        ensures { result.now ≡ named self.now };
+    /// How many there are.
+    fn count(&self) -> usize
+        ensures { result ≡ length (names self.now) };
+
+    /// Lends the identifier at a place: no bytes where there is none.
+    fn name_at(&self, place: u32) -> &[u8]
+        ensures { result.now ≡ name_at (names self.now) place };
 }
 
-impl Named for Shared<Inst> {
-    ghost named = { λ inst. inst.name.id };
+impl<'a> Named for PartsRef<'a, Listed<Inst>> {
+    ghost names = { λ insts. map (λ inst. inst.name.id) insts };
 
-    fn name(&self) -> &[u8] {
-        self.get().name.id.as_slice()
+    fn count(&self) -> usize {
+        self.len()
+    }
+
+    fn name_at(&self, place: u32) -> &[u8] {
+        match self.get(place as usize) {
+            Some(inst) => inst.get().name.id.as_slice(),
+            None => &[],
+        }
     }
 }
 
-impl Named for Shared<Net> {
-    ghost named = { λ net. net.name.id };
+impl<'a> Named for PartsRef<'a, Listed<Net>> {
+    ghost names = { λ nets. map (λ net. net.name.id) nets };
 
-    fn name(&self) -> &[u8] {
-        self.get().name.id.as_slice()
+    fn count(&self) -> usize {
+        self.len()
+    }
+
+    fn name_at(&self, place: u32) -> &[u8] {
+        match self.get(place as usize) {
+            Some(net) => net.get().name.id.as_slice(),
+            None => &[],
+        }
     }
 }
 
-impl Named for Port {
-    ghost named = { λ port. port.name.id };
+impl<'a> Named for &'a [Port] {
+    ghost names = { λ ports. map (λ port. port.name.id) ports.now };
 
-    fn name(&self) -> &[u8] {
-        self.name.id.as_slice()
+    fn count(&self) -> usize {
+        self.len()
     }
-}
 
-/// The item at a place, where there is one.
-fn item_at<T>(items: &[T], place: u32) -> Option<&T>
-    ensures { option_copied result ≡ slice_get items.now place }
-{
-    items.get(place as usize)
-}
-
-/// The name at a place: no bytes where there is none.
-fn name_at<T: Named>(items: &[T], place: u32) -> &[u8]
-    ensures { result.now ≡ name_at (map T.named items.now) place }
-{
-    match item_at(items, place) {
-        Some(item) => item.name(),
-        None => &[],
+    fn name_at(&self, place: u32) -> &[u8] {
+        match self.get(place as usize) {
+            Some(port) => port.name.id.as_slice(),
+            None => &[],
+        }
     }
 }
 
 /// How the name at a place stands to a name.
-fn cmp_to<T: Named>(items: &[T], place: u32, name: &[u8]) -> Ordering
-    ensures { result ≡ cmp_to (map T.named items.now) name.now place }
+fn cmp_to<R: Named>(items: &R, place: u32, name: &[u8]) -> Ordering
+    ensures { result ≡ cmp_to (R.names items.now) name.now place }
 {
-    name_at(items, place).cmp(name)
+    items.name_at(place).cmp(name)
 }
 
 /// How the names at two places stand to each other.
-fn cmp_at<T: Named>(items: &[T], one: u32, other: u32) -> Ordering
-    ensures { result ≡ cmp_at (map T.named items.now) one other }
+fn cmp_at<R: Named>(items: &R, one: u32, other: u32) -> Ordering
+    ensures { result ≡ cmp_at (R.names items.now) one other }
 {
-    cmp_to(items, one, name_at(items, other))
+    cmp_to(items, one, items.name_at(other))
 }
 
 /// So many places, from 0 on.
@@ -86,29 +94,29 @@ fn places(alloc: Global, count: u32) -> Result<Vec<u32>, NoMemory>
 }
 
 /// Puts places in the order of the names there.
-fn put_in_order<T: Named>(items: &[T], places: &mut Vec<u32>)
-    requires differ { AreDistinct (map T.named items.now) }
-    requires places { ArePlaces (length items.now) places.old.items }
-    ensures { AreInOrder (map T.named items.now) places.new.items }
+fn put_in_order<R: Named>(items: &R, places: &mut Vec<u32>)
+    requires differ { AreDistinct (R.names items.now) }
+    requires places { ArePlaces (length (R.names items.now)) places.old.items }
+    ensures { AreInOrder (R.names items.now) places.new.items }
 {
     places.sort_unstable_by(|one, other| cmp_at(items, *one, *other));
 }
 
 /// The places of items in the order of their names.
-pub(crate) fn order_of<T: Named>(alloc: Global, items: &[T]) -> Result<Vec<u32>, NoMemory>
-    requires few { length items.now < 2 ^ 32 }
-    requires differ { AreDistinct (map T.named items.now) }
-    ensures { IfOk result (λ order. AreInOrder (map T.named items.now) order.items) }
+pub(crate) fn order_of<R: Named>(alloc: Global, items: &R) -> Result<Vec<u32>, NoMemory>
+    requires few { length (R.names items.now) < 2 ^ 32 }
+    requires differ { AreDistinct (R.names items.now) }
+    ensures { IfOk result (λ order. AreInOrder (R.names items.now) order.items) }
 {
-    let mut order = places(alloc, items.len() as u32)?;
+    let mut order = places(alloc, items.count() as u32)?;
     put_in_order(items, &mut order);
     Ok(order)
 }
 
 /// Where a name stands among the places in order.
-fn find<T: Named>(items: &[T], order: &[u32], name: &[u8]) -> Result<usize, usize>
-    requires { AreInOrder (map T.named items.now) order.now }
-    ensures { IsSearched (map T.named items.now) name.now order.now result }
+fn find<R: Named>(items: &R, order: &[u32], name: &[u8]) -> Result<usize, usize>
+    requires { AreInOrder (R.names items.now) order.now }
+    ensures { IsSearched (R.names items.now) name.now order.now result }
 {
     order.binary_search_by(|place| cmp_to(items, *place, name))
 }
@@ -122,9 +130,9 @@ fn place_at(order: &[u32], at: usize) -> Option<u32>
 
 /// The place of a name, by the places in order: `None` exactly where there is none. It takes time in proportion to the logarithm of the
 /// number of items, and no memory.
-pub(crate) fn place_in<T: Named>(items: &[T], order: &[u32], name: &[u8]) -> Option<u32>
-    requires { AreInOrder (map T.named items.now) order.now }
-    ensures { result ≡ place_of name.now (map T.named items.now) }
+pub(crate) fn place_in<R: Named>(items: &R, order: &[u32], name: &[u8]) -> Option<u32>
+    requires { AreInOrder (R.names items.now) order.now }
+    ensures { result ≡ place_of name.now (R.names items.now) }
 {
     match find(items, order, name) {
         Ok(at) => place_at(order, at),

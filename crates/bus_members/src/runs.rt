@@ -11,14 +11,16 @@ ghost use Rattle.netlist_bus_spec.specs.Runs.{are_members, is_bit, is_member, ru
 ghost use Rattle.netlist_bus_spec.specs.Same.{same_name};
 
 use crate::members::is_numbered;
-use netlist_schema::{CellBody, CellId, End, Inst, MOST_WIDTH, Net, Port, Shared, Shown, Text};
+use netlist_schema::{
+    CellBody, CellId, Each, End, Inst, Listed, MOST_WIDTH, Net, PartsRef, Port, Shown, Text,
+};
 
 /// What the ends of the nets of a cell are judged by: the design, the cell's ports and its instances.
 #[derive(Clone, Copy)]
 struct Inside<'a, S> {
     design: &'a S,
     own: &'a [Port],
-    insts: &'a [Shared<Inst>],
+    insts: &'a PartsRef<'a, Listed<Inst>>,
 }
 
 /// The port of an end: of the cell itself, or of the cell of an instance. Takes no memory.
@@ -126,14 +128,19 @@ fn is_member<S: Shown>(inside: &Inside<S>, width: u32, first: &Net, k: u32, net:
 }
 
 /// How many of the first nets, at most `width`, are in the run of this width that begins with the first of them. Takes no memory.
-fn members<S: Shown>(inside: &Inside<S>, width: u32, first: &Net, nets: &[Shared<Net>]) -> u32
+fn members<S: Shown>(
+    inside: &Inside<S>,
+    width: u32,
+    first: &Net,
+    nets: &Each<'_, Listed<Net>>,
+) -> u32
     ensures most { result ≤ width }
     ensures within { result ≤ length nets.now }
     ensures members { are_members (ports_among (S.design inside.now.design.now) inside.now.own.now inside.now.insts.now) width first.now 0 (take result nets.now) ≡ true }
     ensures greatest { (v : ℕ) → v ≤ width → v ≤ length nets.now → are_members (ports_among (S.design inside.now.design.now) inside.now.own.now inside.now.insts.now) width first.now 0 (take v nets.now) ≡ true → v ≤ result }
 {
     let mut count = 0;
-    for net in nets {
+    for net in nets.again() {
         if count >= width || !is_member(inside, width, first, count, net) {
             return count;
         }
@@ -143,7 +150,7 @@ fn members<S: Shown>(inside: &Inside<S>, width: u32, first: &Net, nets: &[Shared
 }
 
 /// The first of these nets.
-fn first_of(nets: &[Shared<Net>]) -> Option<&Net>
+fn first_of<'a>(nets: &Each<'a, Listed<Net>>) -> Option<&'a Net>
     ensures value { option_copied result ≡ slice_get nets.now 0 }
 {
     match nets.first() {
@@ -157,8 +164,8 @@ fn first_of(nets: &[Shared<Net>]) -> Option<&Net>
 pub fn run_from<S: Shown>(
     design: &S,
     own: &[Port],
-    insts: &[Shared<Inst>],
-    nets: &[Shared<Net>],
+    insts: &PartsRef<'_, Listed<Inst>>,
+    nets: &Each<'_, Listed<Net>>,
 ) -> u32
     ensures { result ≡ run_width (ports_among (S.design design.now) own.now insts.now) nets.now }
 {
@@ -183,23 +190,23 @@ pub fn run_from<S: Shown>(
 }
 
 /// The nets of a cell: none of a leaf.
-fn nets_of(body: &CellBody) -> &[Shared<Net>]
-    ensures { result.now ≡ nets_of body.now }
+fn nets_of(body: &CellBody) -> PartsRef<'_, Listed<Net>>
+    ensures { result ≡ nets_of body.now }
 {
-    match &body.contents {
-        Some(contents) => contents.nets.as_slice(),
-        None => &[],
-    }
+    let Some(contents) = &body.contents else {
+        return PartsRef::none();
+    };
+    contents.nets.lent()
 }
 
 /// The instances of a cell: none of a leaf.
-fn insts_of(body: &CellBody) -> &[Shared<Inst>]
-    ensures { result.now ≡ insts_of body.now }
+fn insts_of(body: &CellBody) -> PartsRef<'_, Listed<Inst>>
+    ensures { result ≡ insts_of body.now }
 {
-    match &body.contents {
-        Some(contents) => contents.insts.as_slice(),
-        None => &[],
-    }
+    let Some(contents) = &body.contents else {
+        return PartsRef::none();
+    };
+    contents.insts.lent()
 }
 
 /// The greatest width of the runs that begin at a net of a cell, and 1 where none does. Takes no memory.
@@ -214,7 +221,7 @@ pub fn run_at<S: Shown>(design: &S, cell: CellId, net: u32) -> u32
     run_from(
         design,
         body.ports.as_slice(),
-        insts_of(body),
-        &nets[net as usize..],
+        &insts_of(body),
+        &nets.iter_from(net as usize),
     )
 }

@@ -8,8 +8,8 @@ ghost use Rattle.gen_spec.specs.declared.limits.TheConstants.{MOST_SIZE};
 
 use crate::parts::{cell, inst, letters, name, net, numbered};
 use netlist_schema::{
-    CellBody, CellId, Contents, Design, End, Inst, Lib, LibHead, LibId, Net, NoMemory, Row, Shared,
-    TopHead,
+    CellBody, CellId, Contents, Design, End, Inst, Lib, LibHead, LibId, Listed, Net, NoMemory,
+    Parts, Row, TopHead,
 };
 use std::alloc::Global;
 
@@ -56,19 +56,19 @@ fn right_end(count: u32, number: u32) -> End
 }
 
 /// The inverters of the row.
-fn inverters(alloc: Global, count: u32) -> Result<Vec<Shared<Inst>>, NoMemory>
+fn inverters(alloc: Global, count: u32) -> Result<Vec<Listed<Inst>>, NoMemory>
     ensures { IfOk result (λ made. made.items ≡ inverters count) }
 {
     let mut made = Vec::new(alloc);
     for number in 0..count {
         let id = numbered(alloc, b'i', number)?;
-        made.push(Shared::of(alloc, inst(alloc, id, 0))?)?;
+        made.push(Listed::of(alloc, inst(alloc, id, 0))?)?;
     }
     Ok(made)
 }
 
 /// The nets of the row.
-fn row_nets(alloc: Global, count: u32) -> Result<Vec<Shared<Net>>, NoMemory>
+fn row_nets(alloc: Global, count: u32) -> Result<Vec<Listed<Net>>, NoMemory>
     requires { count ≤ MOST_SIZE }
     ensures { IfOk result (λ made. made.items ≡ row_nets count) }
 {
@@ -76,7 +76,7 @@ fn row_nets(alloc: Global, count: u32) -> Result<Vec<Shared<Net>>, NoMemory>
     for number in 0..count + 1 {
         let id = numbered(alloc, b'n', number)?;
         let net = net(alloc, id, left_end(number), right_end(count, number))?;
-        made.push(Shared::of(alloc, net)?)?;
+        made.push(Listed::of(alloc, net)?)?;
     }
     Ok(made)
 }
@@ -86,35 +86,37 @@ fn row(alloc: Global, count: u32) -> Result<CellBody, NoMemory>
     requires { count ≤ MOST_SIZE }
     ensures { IfOk result (λ made. made ≡ row count) }
 {
-    let insts = Row::of(inverters(alloc, count)?);
-    let nets = Row::of(row_nets(alloc, count)?);
+    let insts = Parts::of(alloc, inverters(alloc, count)?)?;
+    let nets = Parts::of(alloc, row_nets(alloc, count)?)?;
     cell(alloc, b"row", Some(Contents { insts, nets }))
 }
 
 /// The two rows in the pair.
-fn pair_insts(alloc: Global) -> Result<Row<Shared<Inst>>, NoMemory>
+fn pair_insts(alloc: Global) -> Result<Parts<Listed<Inst>>, NoMemory>
     ensures { IfOk result (λ made. made ≡ insts_of pair) }
 {
     let first = letters(alloc, b"r0")?;
     let second = letters(alloc, b"r1")?;
     let mut made = Vec::new(alloc);
-    made.push(Shared::of(alloc, inst(alloc, first, 1))?)?;
-    made.push(Shared::of(alloc, inst(alloc, second, 1))?)?;
-    Ok(Row::of(made))
+    made.push(Listed::of(alloc, inst(alloc, first, 1))?)?;
+    made.push(Listed::of(alloc, inst(alloc, second, 1))?)?;
+    let insts = Parts::of(alloc, made)?;
+    Ok(insts)
 }
 
 /// The nets of the pair.
-fn pair_nets(alloc: Global) -> Result<Row<Shared<Net>>, NoMemory>
+fn pair_nets(alloc: Global) -> Result<Parts<Listed<Net>>, NoMemory>
     ensures { IfOk result (λ made. made ≡ nets_of pair) }
 {
     let a = letters(alloc, b"a")?;
     let m = letters(alloc, b"m")?;
     let y = letters(alloc, b"y")?;
     let mut made = Vec::new(alloc);
-    made.push(Shared::of(alloc, net(alloc, a, own_port(0), on_port(0, 0))?)?)?;
-    made.push(Shared::of(alloc, net(alloc, m, on_port(0, 1), on_port(1, 0))?)?)?;
-    made.push(Shared::of(alloc, net(alloc, y, on_port(1, 1), own_port(1))?)?)?;
-    Ok(Row::of(made))
+    made.push(Listed::of(alloc, net(alloc, a, own_port(0), on_port(0, 0))?)?)?;
+    made.push(Listed::of(alloc, net(alloc, m, on_port(0, 1), on_port(1, 0))?)?)?;
+    made.push(Listed::of(alloc, net(alloc, y, on_port(1, 1), own_port(1))?)?)?;
+    let nets = Parts::of(alloc, made)?;
+    Ok(nets)
 }
 
 /// The top: a row behind a row.

@@ -45,8 +45,8 @@ fn place_joining<S: Shown>(design: &S, cell: CellId, end: End) -> Option<u32>
     ensures { result ≡ position (λ net. has_end net.ends end) (nets_at (S.design design.now) cell) }
 {
     let nets = nets_at(design, cell);
-    for (place, net) in nets.iter().enumerate() {
-        if has_end(net.ends.as_slice(), end) {
+    for place in 0..nets.len() {
+        if has_end(nets.at(place).ends.as_slice(), end) {
             return Some(place as u32);
         }
     }

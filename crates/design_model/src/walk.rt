@@ -72,7 +72,8 @@ fn list_below<S: Shown>(
     let here = Path::of(alloc, path)?;
     found.push(Occurrence::of(here, cell))?;
     let insts = insts_at(design, cell);
-    for (i, inst) in insts.iter().enumerate() {
+    for i in 0..insts.len() {
+        let inst = insts.at(i);
         let longer = extended(alloc, path, i as u32)?;
         list_below(alloc, design, longer.as_slice(), inst.of, found)?;
     }

@@ -1,12 +1,10 @@
 -- How many ends there are, and ports that are not there.
-use Rattle.std.proofs.Common.{◌≡◌, ◌<◌, ◌≤◌, ◌+◌, ◌++◌, ℕ, arith, List, [], ◌∷◌, length, take, get_or, length-append, Option, Some, None, refl, sym, ap, ◌∙◌}
+use Rattle.std.proofs.Common.{◌≡◌, ◌+◌, ℕ, List, [], ◌∷◌, length, length-append, Option, Some, None, refl, sym, ap, ◌∙◌}
 use Rattle.std.specs.List.{flat_map}
-use Rattle.std.proofs.lemmas.List.{take_more}
-use Rattle.std.proofs.lemmas.List.Folds.{length-flat_map-take}
 use Rattle.std.specs.Prelude.{is_none, slice_get}
 use Rattle.std.specs.Option.{option_and_then, option_map, option_or}
 use Rattle.netlist_schema.specs.Design.{port_width}
-use Rattle.netlist_schema.specs.Types.{End, Net, Port}
+use Rattle.netlist_schema.specs.Types.{Net, Port}
 use Rattle.netlist_schema.proofs.Lists.{get_there}
 use Rattle.edit_spec.specs.Ends.{bad_bit, no_port}
 use Rattle.edit_rules_spec.specs.Rule.{first, refuse}
@@ -15,28 +13,9 @@ use Rattle.edit_rules_spec.specs.declared.reply.Reply.TheVariants.{NoPort}
 use Rattle.eco_ops.specs.Ends.{PortSeen, port_in}
 use Rattle.eco_reads.proofs.Within.{place_within}
 
--- the ends of the nets so far, and of one more
-flat_joined : (xs ys : List Net) → flat_map (λ (net : Net). net.ends) (xs ++ ys) ≡ flat_map (λ (net : Net). net.ends) xs ++ flat_map (λ (net : Net). net.ends) ys
-flat_joined [] ys = refl
-flat_joined (x ∷ xs) ys = ap (λ (l : List End). x.ends ++ l) (flat_joined xs ys) ∙ sym (front x.ends (flat_map (λ (net : Net). net.ends) xs) (flat_map (λ (net : Net). net.ends) ys))
-  where
-    front : (a b c : List End) → (a ++ b) ++ c ≡ a ++ (b ++ c)
-    front [] b c = refl
-    front (e ∷ a) b c = ap (λ (l : List End). e ∷ l) (front a b c)
-
-pub ends_more : (nets : List Net) (i : ℕ) (net : Net) → i < length nets → net ≡ get_or nets i net → length (flat_map (λ (n : Net). n.ends) (take (i + 1) nets)) ≡ length (flat_map (λ (n : Net). n.ends) (take i nets)) + length net.ends
-ends_more nets i net within is =
-    let longer : take (i + 1) nets ≡ take i nets ++ net ∷ [] = take_more nets i net within ∙ ap (λ (n : Net). take i nets ++ n ∷ []) (sym is) in
-    let joined = ap (λ (ns : List Net). length (flat_map (λ (n : Net). n.ends) ns)) longer ∙ ap length (flat_joined (take i nets) (net ∷ [])) in
-    let sum = length-append (flat_map (λ (n : Net). n.ends) (take i nets)) (net.ends ++ []) in
-    let last = length-append net.ends [] in
-    omega arith
-
-pub ends_within : (nets : List Net) (i : ℕ) (net : Net) → i < length nets → net ≡ get_or nets i net → length (flat_map (λ (n : Net). n.ends) (take i nets)) + length net.ends ≤ length (flat_map (λ (n : Net). n.ends) nets)
-ends_within nets i net within is =
-    let all = length-flat_map-take (λ (n : Net). n.ends) nets i net within in
-    let same : length net.ends ≡ length (get_or nets i net).ends = ap (λ (n : Net). length n.ends) is in
-    omega arith
+-- the ends of the next net, and of those behind it
+pub ends_left : (left rest : List Net) (net : Net) → left ≡ net ∷ rest → length (flat_map (λ (n : Net). n.ends) left) ≡ length net.ends + length (flat_map (λ (n : Net). n.ends) rest)
+ends_left left rest net is = ap (λ (nets : List Net). length (flat_map (λ (n : Net). n.ends) nets)) is ∙ length-append net.ends (flat_map (λ (n : Net). n.ends) rest)
 
 no_place : (name : List ℕ) (ports : List Port) → port_in name ports ≡ None → port_place name ports ≡ None
 no_place name ports none = at (port_place name ports) refl none

@@ -6,3 +6,5 @@ pub mod EndsKept
 pub mod InstOps
 pub mod InstsPlanned
 pub mod Joined
+pub mod MarkedEnds
+pub mod NetsTurned

@@ -1,5 +1,5 @@
 //! Ends that are planned.
-ghost use Rattle.std.specs.Prelude.{◌≡◌, ◌≤◌, ◌<◌, ◌⊎◌, ◌++◌, [], ◌∷◌, filter, not, OnOk, None, IfOk, IfSome, List, MatchResult, Option, Some, length, option_map, option_and_then, position};
+ghost use Rattle.std.specs.Prelude.{◌≡◌, ◌≤◌, ◌<◌, ◌⊎◌, ◌++◌, [], ◌∷◌, filter, not, OnOk, None, IfOk, IfSome, List, MatchResult, Option, Some, length, option_map, option_and_then, position, false};
 ghost use Rattle.std.specs.List.{flat_map};
 ghost use Rattle.std.specs.Option.{option_copied};
 ghost use Rattle.netlist_schema.specs.Design.{insts_in, nets_in};
@@ -25,7 +25,9 @@ ghost use Rattle.eco_ops.specs.Ends.{IsFaceAt, cell_of_end, end_ports_at, no_mor
 use eco_reads::{OpError, Plan, inst_place, net_place, port_place};
 use edit_cells::Face;
 use edit_spec::{EndName, Reply};
-use netlist_schema::{CellId, Contents, Copied, End, Ident, MOST_ENDS, Net, NoMemory, Row, Shared};
+use netlist_schema::{
+    CellId, Contents, Copied, End, Ident, Listed, MOST_ENDS, Net, NoMemory, Parts, Row, end_bit,
+};
 use std::alloc::Global;
 
 /// A port, by its place and its width.
@@ -48,7 +50,7 @@ pub(crate) fn cell_of_end(
     };
     let contents = contents?;
     let place = inst_place(&contents.insts, name)?;
-    Some(contents.insts.as_slice()[place].of)
+    Some(contents.insts.at(place).of)
 }
 
 /// The port with this name.
@@ -84,14 +86,29 @@ fn has_end(net: &Net, end: &End) -> bool
         .any(|other| is_same_end(end, other))
 }
 
-fn net_position(nets: &Row<Shared<Net>>, end: &End) -> Option<usize>
+/// Whether a net may have an end, by its mark: most nets that have it not are told without a look at their ends.
+#[tactic(auto, using(crate::proofs::MarkedEnds::none_had))]
+fn may_have(net: &Listed<Net>, end: &End) -> bool
+    ensures { result ≡ false → joins_end end.now net.now ≡ false }
+{
+    net.mark().bits & end_bit(end) != 0
+}
+
+/// Whether a net has an end.
+fn joins(net: &Listed<Net>, end: &End) -> bool
+    ensures { result ≡ joins_end end.now net.now }
+{
+    may_have(net, end) && has_end(net, end)
+}
+
+fn net_position(nets: &Parts<Listed<Net>>, end: &End) -> Option<usize>
     ensures { result ≡ position (joins_end end.now) nets.now }
 {
-    nets.as_slice().iter().position(|net| has_end(net, end))
+    nets.iter().position(|net| joins(net, end))
 }
 
 /// The place of the first net that has an end.
-fn net_of_end(nets: &Row<Shared<Net>>, end: &End) -> Option<usize>
+fn net_of_end(nets: &Parts<Listed<Net>>, end: &End) -> Option<usize>
     ensures value { result ≡ position (joins_end end.now) nets.now }
     ensures within { IfSome result (λ place. place < length nets.now) }
 {
@@ -99,14 +116,13 @@ fn net_of_end(nets: &Row<Shared<Net>>, end: &End) -> Option<usize>
 }
 
 /// The number of ends of all nets.
-#[tactic(auto, using(crate::proofs::Counts::ends_more, crate::proofs::Counts::ends_within))]
-fn end_count(nets: &Row<Shared<Net>>) -> usize
+fn end_count(nets: &Parts<Listed<Net>>) -> usize
     requires { length (flat_map (λ net. net.ends) nets.now) ≤ MOST_ENDS }
     ensures { result ≡ length (flat_map (λ net. net.ends) nets.now) }
 {
     let mut count = 0usize;
-    for net in nets.as_slice() {
-        count += net.ends.as_slice().len();
+    for net in nets.iter() {
+        count += net.mark().ends as usize;
     }
     count
 }
@@ -193,7 +209,7 @@ fn plan_end(alloc: Global, contents: &Contents, place: usize, at: End) -> Result
 {
     if let Some(joined) = net_of_end(&contents.nets, &at) {
         return Err(OpError::Refused(Reply::AlreadyJoined {
-            net: contents.nets.as_slice()[joined].name.id.copy(alloc)?,
+            net: contents.nets.at(joined).name.id.copy(alloc)?,
         }));
     }
     if end_count(&contents.nets) >= MOST_ENDS {
@@ -201,7 +217,7 @@ fn plan_end(alloc: Global, contents: &Contents, place: usize, at: End) -> Result
             limit: MOST_ENDS as u64,
         }));
     }
-    let net = net_joined(alloc, &contents.nets.as_slice()[place], at)?;
+    let net = net_joined(alloc, contents.nets.at(place), at)?;
     Ok(Plan::Net {
         place: place as u32,
         net,
@@ -276,7 +292,7 @@ fn plan_without(alloc: Global, contents: &Contents, at: End) -> Result<Plan, OpE
     let Some(place) = net_of_end(&contents.nets, &at) else {
         return Err(OpError::Refused(Reply::NotJoined));
     };
-    let net = net_cut(alloc, &contents.nets.as_slice()[place], &at)?;
+    let net = net_cut(alloc, contents.nets.at(place), &at)?;
     Ok(Plan::Net {
         place: place as u32,
         net,

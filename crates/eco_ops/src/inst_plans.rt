@@ -1,5 +1,5 @@
 //! Instances that are planned, and contents without one.
-ghost use Rattle.std.specs.Prelude.{◌≡◌, ◌++◌, [], ◌∷◌, false, filter, OnOk, IfOk, IfSome, List, MatchResult, Some, option_map, option_to_list};
+ghost use Rattle.std.specs.Prelude.{◌≡◌, ◌++◌, [], ◌∷◌, false, filter, OnOk, IfOk, IfSome, List, MatchResult, Some, map, option_map, option_to_list, slice_get, slice_set};
 ghost use Rattle.std.specs.Option.{option_copied};
 ghost use Rattle.netlist_schema.specs.Design.{insts_in, nets_in};
 ghost use Rattle.netlist_schema.specs.declared.ids.Object.TheVariants.{Notes};
@@ -20,7 +20,7 @@ ghost use Rattle.eco_reads.specs.Plan.{IsPlanned};
 use eco_reads::{OpError, Plan, inst_place, is_inst_taken};
 use edit_spec::Reply;
 use netlist_schema::{
-    CellId, Contents, Copied, End, Ident, Inst, MOST_INSTS, Name, Net, NoMemory, Row, Shared,
+    CellId, Contents, Copied, End, Ident, Inst, Listed, MOST_INSTS, Name, Net, NoMemory, Parts, Row,
 };
 use std::alloc::Global;
 
@@ -64,7 +64,7 @@ pub(crate) fn plan_inst(
     if cyclic {
         return Err(OpError::Refused(Reply::IsCyclic));
     }
-    let place = contents.insts.as_slice().len();
+    let place = contents.insts.len();
     if place >= MOST_INSTS {
         return Err(OpError::Refused(Reply::TooMany {
             limit: MOST_INSTS as u64,
@@ -127,9 +127,13 @@ fn is_from(place: u32, end: &End) -> bool
 }
 
 /// Whether the net has an end at an instance from this place on: without one it stays as it is, where the instance is gone.
-fn has_end_from(place: u32, net: &Net) -> bool
+#[tactic(auto, using(crate::proofs::MarkedEnds::stay_before))]
+fn has_end_from(place: u32, net: &Listed<Net>) -> bool
     ensures { result ≡ false → net_without_inst place net.now ≡ net.now }
 {
+    if net.mark().last < place {
+        return false;
+    }
     for end in net.ends.as_slice() {
         if is_from(place, end) {
             return true;
@@ -138,14 +142,37 @@ fn has_end_from(place: u32, net: &Net) -> bool
     false
 }
 
-/// The net without the ends at an instance. A net with no end at that instance or a later one is shared.
-fn shared_without(alloc: Global, place: u32, net: &Shared<Net>) -> Result<Shared<Net>, NoMemory>
-    ensures { IfOk result (λ made. made ≡ net_without_inst place net.now) }
+/// Takes the ends at an instance out of the net at a place. A net with no end at that instance or a later one stays.
+fn put_without(
+    alloc: Global,
+    inst: u32,
+    nets: &mut Parts<Listed<Net>>,
+    place: usize,
+    net: &Listed<Net>,
+) -> Result<(), NoMemory>
+    requires { slice_get nets.old place ≡ Some net.now }
+    ensures { OnOk result (nets.new ≡ slice_set nets.old place (net_without_inst inst net.now)) }
 {
-    if has_end_from(place, net.get()) {
-        return Shared::of(alloc, net_without(alloc, place, net.get())?);
+    if !has_end_from(inst, net) {
+        return Ok(());
     }
-    net.share()
+    let made = Listed::of(alloc, net_without(alloc, inst, net)?)?;
+    nets.put(alloc, place, made)
+}
+
+/// The nets without the ends at an instance. Nets with no end at that instance or a later one are shared, page by page.
+fn nets_without(
+    alloc: Global,
+    inst: u32,
+    nets: &Parts<Listed<Net>>,
+) -> Result<Parts<Listed<Net>>, NoMemory>
+    ensures { IfOk result (λ made. made ≡ map (net_without_inst inst) nets.now) }
+{
+    let mut made = nets.copy(alloc)?;
+    for place in 0..nets.len() {
+        put_without(alloc, inst, &mut made, place, nets.at(place))?;
+    }
+    Ok(made)
 }
 
 /// The contents without an instance, or why there are none. Nets that stay as they are are shared.
@@ -164,14 +191,8 @@ pub(crate) fn without_inst(
     let Some(place) = inst_place(&contents.insts, inst) else {
         return Err(OpError::Refused(Reply::NoInst));
     };
-    let mut insts = contents.insts.copy(alloc)?.into_vec();
-    let _gone = insts.remove(place);
-    let mut nets = Vec::new(alloc);
-    for net in contents.nets.as_slice() {
-        nets.push(shared_without(alloc, place as u32, net)?)?;
-    }
-    Ok(Plan::Whole(Contents {
-        insts: Row::of(insts),
-        nets: Row::of(nets),
-    }))
+    let mut insts = contents.insts.copy(alloc)?;
+    let _gone = insts.remove(alloc, place)?;
+    let nets = nets_without(alloc, place as u32, &contents.nets)?;
+    Ok(Plan::Whole(Contents { insts, nets }))
 }

@@ -16,7 +16,7 @@ use edit_cells::is_same;
 use edit_spec::{PortDecl, Reply};
 use netlist_schema::{
     CellBody, CellKind, Contents, Copied, Ident, MOST_BITS, MOST_CELLS, MOST_PORTS, Name, NoMemory,
-    Port, Row, Shared,
+    Parts, Port, Row, Shared,
 };
 use std::alloc::Global;
 
@@ -121,8 +121,8 @@ fn new_cell(
         None
     } else {
         Some(Contents {
-            insts: Row::of(Vec::new(alloc)),
-            nets: Row::of(Vec::new(alloc)),
+            insts: Parts::new(alloc),
+            nets: Parts::new(alloc),
         })
     };
     Ok(CellBody {

@@ -46,7 +46,7 @@ pub(crate) fn plan_net(
     if is_net_taken(&contents.nets, net) {
         return Err(OpError::Refused(Reply::Taken));
     }
-    let place = contents.nets.as_slice().len();
+    let place = contents.nets.len();
     if place >= MOST_NETS {
         return Err(OpError::Refused(Reply::TooMany {
             limit: MOST_NETS as u64,
@@ -75,11 +75,8 @@ pub(crate) fn without_net(
     let Some(place) = net_place(&contents.nets, net) else {
         return Err(OpError::Refused(Reply::NoNet));
     };
-    let mut nets = contents.nets.copy(alloc)?.into_vec();
-    let _gone = nets.remove(place);
+    let mut nets = contents.nets.copy(alloc)?;
+    let _gone = nets.remove(alloc, place)?;
     let insts = contents.insts.copy(alloc)?;
-    Ok(Plan::Whole(Contents {
-        insts,
-        nets: Row::of(nets),
-    }))
+    Ok(Plan::Whole(Contents { insts, nets }))
 }

@@ -86,7 +86,7 @@ pub(crate) fn plan_inst_property(
     let Some(place) = inst_place(&contents.insts, inst) else {
         return Err(OpError::Refused(Reply::NoInst));
     };
-    let inst = inst_with(alloc, &contents.insts.as_slice()[place], property)?;
+    let inst = inst_with(alloc, contents.insts.at(place), property)?;
     Ok(Plan::Inst {
         place: place as u32,
         inst,
@@ -111,7 +111,7 @@ pub(crate) fn plan_net_property(
     let Some(place) = net_place(&contents.nets, net) else {
         return Err(OpError::Refused(Reply::NoNet));
     };
-    let net = net_with(alloc, &contents.nets.as_slice()[place], property)?;
+    let net = net_with(alloc, contents.nets.at(place), property)?;
     Ok(Plan::Net {
         place: place as u32,
         net,

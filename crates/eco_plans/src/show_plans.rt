@@ -40,8 +40,8 @@ pub(crate) fn shown(ports: u32, contents: Option<&Contents>) -> Reply
     match contents {
         Some(inside) => Reply::Cell {
             ports,
-            insts: inside.insts.as_slice().len() as u32,
-            nets: inside.nets.as_slice().len() as u32,
+            insts: inside.insts.len() as u32,
+            nets: inside.nets.len() as u32,
             leaf: false,
         },
         None => Reply::Cell {
@@ -79,7 +79,7 @@ fn end_at(
             of: id,
         }));
     };
-    match contents.insts.as_slice().get(place as usize) {
+    match contents.insts.get(place as usize) {
         Some(inst) => Ok(Some(EndAt {
             port: end.port,
             bit: end.bit,
@@ -141,7 +141,7 @@ pub(crate) fn ends_of(
     let Some(place) = net_place(&contents.nets, net) else {
         return Ok(None);
     };
-    let ends = ends_at(alloc, contents, id, &contents.nets.as_slice()[place].ends)?;
+    let ends = ends_at(alloc, contents, id, &contents.nets.at(place).ends)?;
     Ok(Some(ends))
 }
 
@@ -176,7 +176,7 @@ pub(crate) fn inst_of(
     let Some(place) = inst_place(&contents.insts, inst) else {
         return Ok(None);
     };
-    let inst = &contents.insts.as_slice()[place];
+    let inst = contents.insts.at(place);
     Ok(Some((inst.of, inst.properties.copy(alloc)?)))
 }
 

@@ -8,3 +8,4 @@ pub mod Within
 pub mod Reading
 pub mod NamedLemmas
 pub mod PlaceLemmas
+pub mod Numbered

@@ -14,7 +14,7 @@ use crate::find::inst_place;
 use crate::places::places_by_name;
 use edit_cells::Cells;
 use indexmap::IndexMap;
-use netlist_schema::{CellId, Contents, Ident, Inst, NoMemory, Row, Shared};
+use netlist_schema::{CellId, Contents, Ident, Inst, Listed, NoMemory, Parts};
 use std::alloc::Global;
 use std::collections::BTreeMap;
 
@@ -36,20 +36,20 @@ impl Drop for NamedInsts {
 }
 
 /// The cell of the instance at a place.
-fn cell_at_place(insts: &Row<Shared<Inst>>, place: Option<u32>) -> Option<CellId>
+fn cell_at_place(insts: &Parts<Listed<Inst>>, place: Option<u32>) -> Option<CellId>
     ensures { result ≡ option_map (λ inst. inst.of) (option_and_then (slice_get insts.now) place) }
 {
     let place = place?;
-    let inst = insts.as_slice().get(place as usize)?;
+    let inst = insts.get(place as usize)?;
     Some(inst.of)
 }
 
 /// The cell of the first instance with this name.
-fn cell_named(insts: &Row<Shared<Inst>>, name: &Ident) -> Option<CellId>
+fn cell_named(insts: &Parts<Listed<Inst>>, name: &Ident) -> Option<CellId>
     ensures { result ≡ option_map (λ inst. inst.of) (inst_named name.now insts.now) }
 {
     let place = inst_place(insts, name)?;
-    Some(insts.as_slice()[place].of)
+    Some(insts.at(place).of)
 }
 
 impl NamedInsts {
@@ -69,7 +69,7 @@ impl NamedInsts {
         &mut self,
         alloc: Global,
         cell: CellId,
-        insts: &Row<Shared<Inst>>,
+        insts: &Parts<Listed<Inst>>,
         name: &Ident,
     ) -> Result<Option<CellId>, NoMemory>
         requires { length insts.now ≤ MOST_INSTS }
@@ -83,7 +83,7 @@ impl NamedInsts {
             self.asked += 1;
             return Ok(cell_named(insts, name));
         }
-        let places = places_by_name(alloc, insts.as_slice())?;
+        let places = places_by_name(alloc, insts)?;
         let place = places.get(name).copied();
         self.cells.insert(cell, places)?;
         Ok(cell_at_place(insts, place))

@@ -7,7 +7,7 @@ ghost use Rattle.indexmap.specs.IndexMap.{get};
 ghost use Rattle.eco_reads.specs.Places.{place_added};
 
 use indexmap::IndexMap;
-use netlist_schema::{Ident, Inst, NoMemory, Shared};
+use netlist_schema::{Ident, Inst, Listed, NoMemory, Parts};
 use std::alloc::Global;
 
 /// Adds the place of a name, unless the name is there.
@@ -29,13 +29,14 @@ fn add_place(
 /// For each name the place of the first instance with it.
 pub fn places_by_name(
     alloc: Global,
-    insts: &[Shared<Inst>],
+    insts: &Parts<Listed<Inst>>,
 ) -> Result<IndexMap<Ident, u32>, NoMemory>
     requires { length insts.now ≤ MOST_INSTS }
     ensures { IfOk result (λ places. (name : List ℕ) → get (pointwise nat_eq) places name ≡ inst_place name insts.now) }
 {
     let mut places = IndexMap::new(alloc);
-    for (place, inst) in insts.iter().enumerate() {
+    for place in 0..insts.len() {
+        let inst = insts.at(place);
         add_place(alloc, &mut places, &inst.name.id, place as u32)?;
     }
     Ok(places)

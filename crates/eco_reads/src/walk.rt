@@ -15,7 +15,7 @@ ghost use Rattle.eco_reads.specs.Walk.{GoesOn, IsAtOrBelow, IsInsideBelow, IsLis
 use crate::find::inst_place;
 use crate::named::NamedInsts;
 use edit_cells::Cells;
-use netlist_schema::{CellId, Contents, Ident, Inst, NoMemory, Row, Shared};
+use netlist_schema::{CellId, Contents, Ident, Inst, Listed, NoMemory, Parts, Row};
 use std::alloc::Global;
 use std::collections::BTreeSet;
 
@@ -41,7 +41,7 @@ fn add_cell(
 
 /// Puts the cells of the instances on the list, where they were not seen yet.
 fn add_insts(
-    insts: &Row<Shared<Inst>>,
+    insts: &Parts<Listed<Inst>>,
     seen: &mut BTreeSet<CellId>,
     order: &mut Vec<CellId>,
 ) -> Result<(), NoMemory>
@@ -49,8 +49,8 @@ fn add_insts(
     ensures listed { OnOk result (IsListed seen.new.keys order.new.items) }
     ensures grows { OnOk result (GoesOn order.old.items order.new.items (IsPlaced insts.now)) }
 {
-    for inst in insts.as_slice() {
-        add_cell(seen, order, inst.of)?;
+    for place in 0..insts.len() {
+        add_cell(seen, order, insts.at(place).of)?;
     }
     Ok(())
 }
@@ -140,7 +140,7 @@ fn cell_of_inst(contents: Option<&Contents>, name: &Ident) -> Option<CellId>
 {
     let contents = contents?;
     let place = inst_place(&contents.insts, name)?;
-    Some(contents.insts.as_slice()[place].of)
+    Some(contents.insts.at(place).of)
 }
 
 /// Reads what is inside the cells that a path reaches, as far as it leads, and answers whether it leads to its end.

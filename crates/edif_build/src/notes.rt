@@ -17,7 +17,9 @@ use edif_parts::{EdifError, bad_form, clash, fault_at, is_word, over_limit, read
 use edif_spec::{ClashKind, Keyword, Kind};
 use edif_tree::{Node, Nodes, Shape};
 use indexmap::IndexMap;
-use netlist_schema::{CellId, Copied, Ident, Inst, MOST_NOTES, NoMemory, Note, Row, Shared};
+use netlist_schema::{
+    CellId, Copied, Ident, Inst, Listed, MOST_NOTES, NoMemory, Note, PartsRef, Row,
+};
 use std::alloc::Global;
 use std::marker::Model;
 
@@ -132,16 +134,16 @@ fn note_parts(node: Node<'_>) -> Result<NoteParts<'_>, EdifError>
 }
 
 /// The instances of a cell, none where there is no such cell. Takes no memory.
-fn insts_at(libs: &Libraries, id: CellId) -> &[Shared<Inst>]
-    ensures { result.now ≡ design.insts_at libs.now.libs id }
+fn insts_at(libs: &Libraries, id: CellId) -> PartsRef<'_, Listed<Inst>>
+    ensures { result ≡ design.insts_at libs.now.libs id }
 {
     let Some(cell) = libs.body(id) else {
-        return &[];
+        return PartsRef::none();
     };
-    match &cell.contents {
-        Some(contents) => contents.insts.as_slice(),
-        None => &[],
-    }
+    let Some(contents) = &cell.contents else {
+        return PartsRef::none();
+    };
+    contents.insts.lent()
 }
 
 /// The instance that the step at a node means, in a cell. Takes no memory.

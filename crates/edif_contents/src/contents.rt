@@ -17,7 +17,7 @@ use crate::nets::read_nets;
 use edif_parts::{EdifError, Names, read_parts};
 use edif_spec::Keyword;
 use edif_tree::Node;
-use netlist_schema::{Contents, Port, Row, Shared};
+use netlist_schema::{Contents, Parts, Port, Shared};
 use std::alloc::Global;
 
 /// What contents say.
@@ -53,8 +53,9 @@ pub fn read_contents(
     };
     let nets = read_nets(alloc, parts.inner, &around)?;
     let Insts { list, names } = insts;
+    let placed = Parts::of(alloc, list)?;
     let contents = Contents {
-        insts: Row::of(list),
+        insts: placed,
         nets,
     };
     Ok(Inside {

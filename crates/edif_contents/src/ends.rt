@@ -21,7 +21,7 @@ use edif_names::Meant;
 use edif_parts::{EdifError, Names, fault_at, integer_at, read_parts};
 use edif_spec::{Keyword, Kind, Stretch};
 use edif_tree::{Node, Nodes, Shape};
-use netlist_schema::{Ident, Inst, Port, Shared};
+use netlist_schema::{Ident, Inst, Listed, Port};
 use std::alloc::Global;
 
 /// What the ends of nets are judged by: the libraries, the ports of the cell and its instances, with their names.
@@ -34,7 +34,7 @@ pub struct Surroundings<'a> {
     /// Their names.
     pub port_names: &'a Names,
     /// The instances of the cell.
-    pub insts: &'a [Shared<Inst>],
+    pub insts: &'a [Listed<Inst>],
     /// Their names.
     pub inst_names: &'a Names,
 }

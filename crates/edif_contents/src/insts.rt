@@ -19,7 +19,7 @@ use edif_parts::{
 };
 use edif_spec::Keyword;
 use edif_tree::{Node, Nodes};
-use netlist_schema::{Inst, MOST_INSTS, Property, Row, Shared, Text};
+use netlist_schema::{Inst, Listed, MOST_INSTS, Property, Row, Text};
 use std::alloc::Global;
 
 /// An instance, and where its name stands.
@@ -80,7 +80,7 @@ fn read_inst(
 #[derive(Drop)]
 pub struct Insts {
     /// The instances.
-    pub list: Vec<Shared<Inst>>,
+    pub list: Vec<Listed<Inst>>,
     /// Their names.
     pub names: Names,
 }
@@ -90,12 +90,12 @@ fn add_inst(
     alloc: Global,
     read: InstAt,
     names: &mut Names,
-    list: &mut Vec<Shared<Inst>>,
+    list: &mut Vec<Listed<Inst>>,
 ) -> Result<(), EdifError>
     ensures { Answers (λ _. InstAdded read names.old list.old.items names.new list.new.items) (IsAgain names.old read.inst.name.id read.place) result }
 {
     names.add(&read.inst.name.id, read.place)?;
-    list.push(Shared::of(alloc, read.inst)?)?;
+    list.push(Listed::of(alloc, read.inst)?)?;
     Ok(())
 }
 
@@ -106,7 +106,7 @@ fn take_inst(
     libs: &Libraries,
     own: Option<u32>,
     names: &mut Names,
-    list: &mut Vec<Shared<Inst>>,
+    list: &mut Vec<Listed<Inst>>,
 ) -> Result<(), EdifError>
     requires { has_keyword Instance (bare (here node)) ≡ true }
     ensures { Answers (λ _. InstTaken libs.now.libs own (here node.entry) names.old list.old.items names.new list.new.items) (InstTakenFault libs.now.libs own (here node.entry) names.old list.old.items) result }
@@ -123,7 +123,7 @@ fn take_insts(
     libs: &Libraries,
     own: Option<u32>,
     names: &mut Names,
-) -> Result<Vec<Shared<Inst>>, EdifError>
+) -> Result<Vec<Listed<Inst>>, EdifError>
     requires { names.old ≡ [] }
     ensures { Answers (λ list. ReadInsts libs.now.libs own (all inner.entry) (record { list = list; names = names.new })) (InstsFault libs.now.libs own (those_of Instance (all inner.entry))) result }
 {

@@ -25,7 +25,7 @@ use edif_nets::{
 use edif_parts::{BusName, EdifError, fault_at, read_bus_name, read_parts, read_properties};
 use edif_spec::{Keyword, Kind, NetForm, Stretch};
 use edif_tree::{Node, Nodes};
-use netlist_schema::{Net, NoMemory, Property, Row, Shared, SharedRow, Width};
+use netlist_schema::{Listed, Net, NoMemory, Parts, Property, Row, SharedRow, Width};
 use std::alloc::Global;
 
 /// What a net joins, and the nodes of its ends.
@@ -244,12 +244,13 @@ pub(crate) fn read_nets(
     alloc: Global,
     inner: Nodes<'_>,
     around: &Surroundings,
-) -> Result<Row<Shared<Net>>, EdifError>
+) -> Result<Parts<Listed<Net>>, EdifError>
     requires { AreNamed around.now }
     ensures { Answers (ReadNets around.now (all inner.entry)) (NetsFaultIn around.now (those_of NetWord (all inner.entry))) result }
 {
     let list = take_nets(alloc, inner, around)?;
     check_ends(alloc, &list)?;
     check_names(alloc, &list)?;
-    Ok(list.into_nets())
+    let nets = list.into_nets(alloc)?;
+    Ok(nets)
 }

@@ -24,7 +24,7 @@ use std::marker::Model;
 const PART: usize = 4_096;
 
 /// For how many tokens of a part there is room at once. Mostly a part has fewer.
-const TOKENS: usize = 2_048;
+const TOKENS: usize = 1_024;
 
 /// Reads a design file whose bytes come in pieces. It keeps neither the bytes nor their tokens, but the tree that they make.
 #[derive(Drop)]

@@ -306,6 +306,11 @@ impl Lexer {
         if is_paren(rest[0]) {
             return self.one_byte(rest, out);
         }
+        let passed = self.passed(rest);
+        if passed > 0 {
+            self.pass(passed as u64)?;
+            return Ok(passed);
+        }
         let word = self.whole(rest);
         if word > 0 {
             self.word_before(&rest[..word], rest[word], out)?;
@@ -315,11 +320,6 @@ impl Lexer {
         if kept > 0 {
             self.keep_all(&rest[..kept])?;
             return Ok(kept);
-        }
-        let passed = self.passed(rest);
-        if passed > 0 {
-            self.pass(passed as u64)?;
-            return Ok(passed);
         }
         self.one_byte(rest, out)
     }

@@ -3,11 +3,13 @@ use Rattle.std.proofs.Common.{nat_eq, eq-eqb, eqb-true, ◌≡◌, ◌+◌, ◌<
 use Rattle.std.specs.Prelude.{IfSome}
 use Rattle.std.specs.List.{list_any}
 use Rattle.indexmap.specs.IndexMap.{get}
+use Rattle.netlist_schema.specs.Marks.{hash_of}
 use Rattle.netlist_schema.proofs.Lists.{get_behind, get_front, same_test}
+use Rattle.netlist_schema.proofs.MarkLemmas as marks
 use Rattle.edif_spec.specs.Keyword.{same}
 use Rattle.edif_names.specs.declared.folded.Folded.{Folded}
 use Rattle.edif_names.specs.declared.folded.Spot.{Spot}
-use Rattle.edif_names.specs.Folded.{AreSpotsOf, Numbered, noted, noted_after, noted_at, noted_by, one_more, hash_of, hash_from}
+use Rattle.edif_names.specs.Folded.{AreSpotsOf, Numbered, noted, noted_after, noted_at, noted_by, one_more}
 use Rattle.edif_spec.proofs.SameLemmas.{same_says, says_same}
 
 -- two names that are the same are the same as the same names
@@ -19,8 +21,7 @@ same_as a b h x = let e = same_says a b h in
 
 -- so they have one hash
 pub same_hash : (a b : List ℕ) → same a b ≡ true → hash_of a ≡ hash_of b
-unfolding hash_of
-same_hash a b h = ap (hash_from 0) (same_says a b h)
+same_hash a b h = marks.same_hash a b (same_says a b h)
 
 any_push : (q : List ℕ) (ns : List Numbered) (n : Numbered) → list_any (λ m. same q m.name) (ns ++ n ∷ []) ≡ (list_any (λ m. same q m.name) ns || same q n.name)
 any_push q [] n = by (same q n.name)

@@ -1,2 +1,3 @@
 mod FoldedLemmas
+mod PlainLemmas
 mod ScopeLemmas

@@ -1,7 +1,7 @@
 -- Names of a scope that are equal when the case of ASCII letters is ignored.
-use Rattle.std.specs.Prelude.{◌≡◌, ℕ, ◌+◌, ◌*◌, ◌%◌, ◌^◌, ◌<◌, Bool, true, false, not, List, [], ◌∷◌, map, length, nat_eq, slice_get, Option, None, Some, IfSome, if◌then◌else◌}
+use Rattle.std.specs.Prelude.{◌≡◌, ℕ, ◌<◌, true, false, not, List, [], ◌∷◌, length, nat_eq, slice_get, Option, None, Some, IfSome, if◌then◌else◌}
 use Rattle.std.specs.List.{list_any}
-use Rattle.std.specs.Char.{to_ascii_lowercase}
+use Rattle.netlist_schema.specs.Marks.{hash_of}
 use Rattle.edif_spec.specs.Keyword.{same}
 use Rattle.edif_names.specs.declared.folded.Noted.{Noted}
 use Rattle.edif_names.specs.declared.folded.Spot.{Spot}
@@ -31,15 +31,6 @@ one_more id (Some n) = Some (record { id = n.id; is_only = false })
 -- with one more name, the same or not
 abbrev pub noted_after : List ℕ → List ℕ → ℕ → Option Noted → Option Noted
 noted_after name added id old = if same name added then one_more id old else old
-
--- a number of 64 bits for a list of bytes, from a number on
-abbrev pub hash_from : ℕ → List ℕ → ℕ
-hash_from h [] = h
-hash_from h (b ∷ bs) = hash_from ((h * 1099511628211 % 2 ^ 64 + b) % 2 ^ 64) bs
-
--- the number for a name, the same for names that are the same ignoring case
-unfoldable pub hash_of : List ℕ → ℕ
-hash_of name = hash_from 0 (map to_ascii_lowercase name)
 
 -- what is noted of a name where at most this one is the same
 abbrev pub noted_at : List ℕ → Option Numbered → Option Noted

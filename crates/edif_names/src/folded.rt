@@ -1,10 +1,11 @@
 //! Names of a scope, looked up ignoring case.
 ghost use Rattle.std.specs.Prelude.{◌≡◌, ◌∷◌, ◌++◌, [], List, ℕ, OnErr, OnOk, length, nat_eq};
 ghost use Rattle.indexmap.specs.IndexMap.{get};
-ghost use Rattle.edif_names.specs.Folded.{AreSpotsOf, Numbered, hash_of};
+ghost use Rattle.netlist_schema.specs.Marks.{hash_of};
+ghost use Rattle.edif_names.specs.Folded.{AreSpotsOf, Numbered};
 
 use indexmap::IndexMap;
-use netlist_schema::{Ident, NoMemory};
+use netlist_schema::{Ident, NoMemory, hash_of};
 use std::alloc::Global;
 
 /// Of the names of one hash the first, by its place in the list of names, and whether it is the only one.
@@ -70,17 +71,4 @@ impl Folded {
     {
         self.spots.get(&hash_of(name.as_slice())).copied()
     }
-}
-
-/// A number for a name, the same for names that are the same ignoring case.
-#[tactic(auto, unfolding(crate::specs::Folded::hash_of))]
-fn hash_of(name: &[u8]) -> u64
-    ensures { result ≡ hash_of name.now }
-{
-    let mut hash: u64 = 0;
-    for byte in name {
-        let letter = u64::from(byte.to_ascii_lowercase());
-        hash = hash.wrapping_mul(1_099_511_628_211).wrapping_add(letter);
-    }
-    hash
 }

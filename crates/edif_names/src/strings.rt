@@ -1,5 +1,6 @@
 //! Strings, as they are spelled.
 ghost use Rattle.std.specs.Prelude.{◌≡◌, [], ◌∷◌, ◌++◌, List, ℕ, IfOk, OnErr, OnOk, decimal};
+ghost use Rattle.std.specs.List.{list_all};
 ghost use Rattle.edif_spec.specs.Canonical.{is_plain, string_text};
 ghost use Rattle.edif_names.specs.Parts.{Grows, body_text};
 
@@ -23,16 +24,31 @@ pub fn write_string(_alloc: Global, text: &Text, out: &mut Vec<u8>) -> Result<()
 }
 
 /// Appends a string. After `NoMemory` some bytes may stand behind those before.
+#[tactic(auto, using(crate::proofs::PlainLemmas::plain_same))]
 fn push_string(text: &[u8], out: &mut Vec<u8>) -> Result<(), NoMemory>
     ensures ok { OnOk result (out.new.items ≡ out.old.items ++ string_text text.now) }
     ensures err { OnErr result (Grows out.old.items out.new.items) }
 {
+    if are_plain(text) {
+        return push_plain(text, out);
+    }
     out.push(b'"')?;
     let mut is_coded = false;
     for byte in text {
         is_coded = push_byte(*byte, is_coded, out)?;
     }
     push_end(is_coded, out)
+}
+
+/// Appends a string of bytes that stand for themselves. After `NoMemory` some bytes may stand behind those before.
+fn push_plain(text: &[u8], out: &mut Vec<u8>) -> Result<(), NoMemory>
+    ensures ok { OnOk result (out.new.items ≡ out.old.items ++ 34 ∷ (text.now ++ 34 ∷ [])) }
+    ensures grows { Grows out.old.items out.new.items }
+{
+    out.push(b'"')?;
+    out.extend_from_slice(text)?;
+    out.push(b'"')?;
+    Ok(())
 }
 
 /// Ends a string, where the last byte was written as a code or not.
@@ -68,6 +84,13 @@ fn is_plain(byte: u8) -> bool
     ensures { result ≡ is_plain byte }
 {
     32 <= byte && byte <= 126 && byte != b'"' && byte != b'%'
+}
+
+/// Whether all bytes stand for themselves in a string.
+fn are_plain(text: &[u8]) -> bool
+    ensures { result ≡ list_all is_plain text.now }
+{
+    text.iter().all(|byte| is_plain(*byte))
 }
 
 /// Appends a mark and the decimal code of a byte.

@@ -16,7 +16,7 @@ use edif_parts::{EdifError, clash};
 use edif_spec::ClashKind;
 use edif_tree::Nodes;
 use indexmap::IndexMap;
-use netlist_schema::{End, Net, NoMemory, Shared};
+use netlist_schema::{End, Listed, Net, NoMemory};
 use std::alloc::Global;
 use std::marker::Model;
 
@@ -97,7 +97,7 @@ pub fn row_places(nodes: Nodes<'_>, size: u32, places: &mut Vec<u32>) -> Result<
 }
 
 /// The ends of nets, which are so many, in order.
-fn all_ends(alloc: Global, nets: &[Shared<Net>], count: usize) -> Result<Vec<End>, NoMemory>
+fn all_ends(alloc: Global, nets: &[Listed<Net>], count: usize) -> Result<Vec<End>, NoMemory>
     ensures { IfOk result (λ ends. ends.items ≡ ends_of nets.now) }
 {
     let mut ends = Vec::with_capacity(alloc, count)?;
@@ -148,7 +148,7 @@ fn net_keys(ends: &[End], keys: &mut Vec<u64>) -> Result<(), NoMemory>
 }
 
 /// The numbers of the bits that the ends of nets join, which are so many, in order.
-fn end_keys(alloc: Global, nets: &[Shared<Net>], count: usize) -> Result<Vec<u64>, NoMemory>
+fn end_keys(alloc: Global, nets: &[Listed<Net>], count: usize) -> Result<Vec<u64>, NoMemory>
     ensures { IfOk result (λ keys. keys.items ≡ map end_key (ends_of nets.now)) }
 {
     let mut keys = Vec::with_capacity(alloc, count)?;
@@ -159,7 +159,7 @@ fn end_keys(alloc: Global, nets: &[Shared<Net>], count: usize) -> Result<Vec<u64
 }
 
 /// Whether no two of the ends of nets, which are so many, have bits of one number.
-fn ends_apart(alloc: Global, nets: &[Shared<Net>], count: usize) -> Result<bool, NoMemory>
+fn ends_apart(alloc: Global, nets: &[Listed<Net>], count: usize) -> Result<bool, NoMemory>
     ensures { IfOk result (λ apart. IsTrue apart → AreDistinct (ends_of nets.now)) }
 {
     let mut keys = end_keys(alloc, nets, count)?;

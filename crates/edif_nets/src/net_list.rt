@@ -12,13 +12,13 @@ use crate::limits::small;
 use edif_parts::{EdifError, OwnNames, room_for};
 use edif_spec::Keyword;
 use edif_tree::Nodes;
-use netlist_schema::{Net, NoMemory, Row, Shared};
+use netlist_schema::{Listed, Net, NoMemory, Parts};
 use std::alloc::Global;
 
 /// Nets, in order, and where their names and their ends stand.
 pub struct NetList {
     /// The nets.
-    pub nets: Vec<Shared<Net>>,
+    pub nets: Vec<Listed<Net>>,
     /// Of each the number of bytes before the identifier of its name.
     pub places: Vec<u32>,
     /// Of each end of them, net by net, the number of bytes before its form.
@@ -52,26 +52,26 @@ impl NetList {
         ensures { OnOk result (NetAdded net place self.old self.new) }
     {
         let place = small(place)?;
-        self.nets.push(Shared::of(alloc, net)?)?;
+        self.nets.push(Listed::of(alloc, net)?)?;
         self.places.push(place)?;
         Ok(())
     }
 
     /// The nets.
-    pub fn into_nets(self) -> Row<Shared<Net>>
-        ensures { result ≡ self.nets.items }
+    pub fn into_nets(self, alloc: Global) -> Result<Parts<Listed<Net>>, NoMemory>
+        ensures { IfOk result (λ nets. nets ≡ self.nets.items) }
     {
         let NetList {
             nets,
             places: _,
             ends: _,
         } = self;
-        Row::of(nets)
+        Parts::of(alloc, nets)
     }
 }
 
 /// Adds the name of a net, which stands at this place and is not there yet; else the error says that it is.
-fn add_name(net: &Shared<Net>, place: u32, names: &mut OwnNames) -> Result<(), EdifError>
+fn add_name(net: &Listed<Net>, place: u32, names: &mut OwnNames) -> Result<(), EdifError>
     ensures { Answers (λ _. DefinesName names.old net.now.name.id place names.new None) (IsAgain names.old net.now.name.id place) result }
 {
     names.add(&net.name.id, u64::from(place))?;
@@ -79,7 +79,7 @@ fn add_name(net: &Shared<Net>, place: u32, names: &mut OwnNames) -> Result<(), E
 }
 
 /// Adds the names of nets, which stand in these places and differ; else the error is that one is defined again. None is there before.
-fn add_names(nets: &[Shared<Net>], places: &[u32], names: &mut OwnNames) -> Result<(), EdifError>
+fn add_names(nets: &[Listed<Net>], places: &[u32], names: &mut OwnNames) -> Result<(), EdifError>
     requires places { length places.now ≡ length nets.now }
     requires names { names.old ≡ [] }
     ensures { Answers (λ _. AreDistinct (ids (named nets.now places.now))) (λ f. AtTwo (SameOfTwo f) (named nets.now places.now)) result }
@@ -100,7 +100,7 @@ fn find_again(alloc: Global, list: &NetList) -> Result<(), EdifError>
 }
 
 /// The numbers of the names of nets, in order.
-fn name_keys(alloc: Global, nets: &[Shared<Net>]) -> Result<Vec<u64>, NoMemory>
+fn name_keys(alloc: Global, nets: &[Listed<Net>]) -> Result<Vec<u64>, NoMemory>
     ensures { IfOk result (λ keys. keys.items ≡ map (λ n. name_key 0 n.name.id) nets.now) }
 {
     let mut keys = Vec::with_capacity(alloc, nets.len())?;
@@ -111,7 +111,7 @@ fn name_keys(alloc: Global, nets: &[Shared<Net>]) -> Result<Vec<u64>, NoMemory>
 }
 
 /// Whether no two of the names of nets have one number.
-fn names_apart(alloc: Global, nets: &[Shared<Net>]) -> Result<bool, NoMemory>
+fn names_apart(alloc: Global, nets: &[Listed<Net>]) -> Result<bool, NoMemory>
     ensures { IfOk result (λ apart. IsTrue apart → AreDistinct (map (λ n. n.name.id) nets.now)) }
 {
     let mut keys = name_keys(alloc, nets)?;

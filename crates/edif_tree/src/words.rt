@@ -11,7 +11,7 @@ use std::alloc::Global;
 use std::marker::Model;
 
 /// For how many words it is kept where they stand, so that a word that comes often is mostly found without a hash.
-const SLOTS: usize = 256;
+const SLOTS: usize = 1_024;
 
 /// Words, no two equal, and beside each the keyword that it spells. Contracts see the words in order.
 pub struct Words {
@@ -60,7 +60,7 @@ impl Words {
     /// The place of a word, where it is the one that came last to its slot.
     #[inline(always)]
     fn found_lately(&self, name: &Ident, slot: usize) -> Option<usize>
-        requires { slot < 256 }
+        requires { slot < 1024 }
         ensures { IfSome result (λ at. slice_get self.now at ≡ Some name.now) }
     {
         let at = self.lately[slot] as usize;
@@ -74,7 +74,7 @@ impl Words {
     /// Keeps the place of the word that came last to a slot.
     #[inline(always)]
     fn keep_lately(&mut self, slot: usize, at: usize)
-        requires { slot < 256 }
+        requires { slot < 1024 }
         ensures { self.new ≡ self.old }
     {
         if let Ok(at) = u32::try_from(at) {
@@ -128,15 +128,17 @@ impl Words {
     }
 }
 
-/// The slot of a word.
+/// The slot of a word. Words that differ in the last three digits of a number have slots of their own.
 #[inline(always)]
 fn slot_of(word: &[u8]) -> usize
-    ensures { result < 256 }
+    ensures { result < 1024 }
 {
     match word {
-        [first, .., last] => {
-            (usize::from(*first) + 16 * usize::from(*last) + 5 * (word.len() % SLOTS)) % SLOTS
+        [first, .., hundreds, tens, ones] => {
+            let end = 100 * usize::from(*hundreds) + 10 * usize::from(*tens) + usize::from(*ones);
+            (usize::from(*first) + end + 5 * (word.len() % SLOTS)) % SLOTS
         }
+        [first, .., last] => (usize::from(*first) + 16 * usize::from(*last)) % SLOTS,
         [only] => usize::from(*only),
         [] => 0,
     }

@@ -66,11 +66,18 @@ pub member_text : (level : ℕ) (port : List ℕ) (array : Option ℕ) (n bit : 
 member_text level port array n bit e = rw e (simp (append_assoc, append-nil))
 
 -- a reference to an instance
-pub inst_ref_text : (level : ℕ) (insts : List design.Inst) (place : ℕ) (i : design.Inst) → slice_get insts place ≡ Some i
+inst_ref_text : (level : ℕ) (insts : List design.Inst) (place : ℕ) (i : design.Inst) → slice_get insts place ≡ Some i
     → codes "(instanceRef " ++ (name_text i.name.id ++ codes ")") ≡ layout level (instance_ref_tree insts place)
 inst_ref_text level insts place i e =
     ap (λ o. codes "(instanceRef " ++ (name_text (unwrap_or (option_map (λ (x : design.Inst). x.name.id) o) []) ++ codes ")")) (sym e)
     ∙ word_text level keywords.InstanceRef (design.inst_id insts place) refl
+
+-- and the end of the form that has it
+pub closed_ref_text : (level : ℕ) (insts : List design.Inst) (place : ℕ) (i : design.Inst) → slice_get insts place ≡ Some i
+    → codes " (instanceRef " ++ (name_text i.name.id ++ codes "))") ≡ (32 ∷ layout level (instance_ref_tree insts place)) ++ codes ")"
+closed_ref_text level insts place i e =
+    ap (λ v. codes " (instanceRef " ++ v) (sym (append_assoc (name_text i.name.id) (codes ")") (codes ")")))
+    ∙ ap (λ v. (32 ∷ v) ++ codes ")") (inst_ref_text level insts place i e)
 
 pub end_inst_text : (level : ℕ) (insts : List design.Inst) (o : Option ℕ) (place : ℕ) → o ≡ Some place
     → codes " " ++ layout (suc level) (instance_ref_tree insts place) ≡ spaced level (perhaps (instance_ref_tree insts) o)

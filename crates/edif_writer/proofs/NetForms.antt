@@ -1,8 +1,7 @@
 -- The forms of nets, from the first net on.
-use Rattle.std.proofs.Common.{◌≡◌, ◌≤◌, ◌<◌, ℕ, zero, suc, pred, Bool, true, false, List, [], ◌∷◌, ◌++◌, map, length, take, drop, length-drop, slice_get, Option, Some, None, refl, ap, sym, ◌∙◌, inl, inr, arith, append_assoc}
-use Rattle.std.specs.Prelude.{cond, nat_le, ◌-◌}
+use Rattle.std.proofs.Common.{◌≡◌, ◌≤◌, ◌<◌, ℕ, zero, suc, pred, Bool, true, false, List, [], ◌∷◌, ◌++◌, map, length, take, drop, slice_get, Option, Some, None, refl, ap, sym, ◌∙◌, inl, inr, arith, append_assoc}
+use Rattle.std.specs.Prelude.{cond, nat_le}
 use Rattle.std.proofs.lemmas.Bool.Decides.{nat_tests}
-use Rattle.std.proofs.lemmas.List.{take_all}
 use Rattle.edif_spelling_spec.specs.Tree.{Bare}
 use Rattle.netlist_schema.specs.Design.{Design}
 use Rattle.netlist_schema.specs.Types.{Inst, Net, Port}
@@ -86,7 +85,3 @@ run_there w n l = ap (λ b. cond b (run_form w n) (single_form n)) (many w l)
 pub none_left : (nets : List Net) → None ≡ slice_get nets 0 → nets ≡ []
 none_left [] e = refl
 none_left (n ∷ ns) e = absurd (cc e)
-
--- what is behind a front, as a part of a list
-pub part_behind : {X : Type 0} (k : ℕ) (xs : List X) → take (length xs - k) (drop k xs) ≡ drop k xs
-part_behind k xs = take_all (length xs - k) (drop k xs) (omega (arith, length-drop k xs))

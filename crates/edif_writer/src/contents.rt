@@ -1,5 +1,5 @@
 //! Contents: instances, and nets with their ends.
-ghost use Rattle.std.specs.Prelude.{◌≡◌, ◌<◌, ◌≤◌, ℕ, List, [], All, IsSome, IfSome, None, Some, length, map, slice_get, unwrap_or};
+ghost use Rattle.std.specs.Prelude.{◌≡◌, ◌∷◌, ◌++◌, ◌<◌, ◌≤◌, ℕ, List, [], All, IsSome, IfSome, None, Some, length, map, slice_get, unwrap_or};
 ghost use Rattle.std.specs.Option.{option_copied};
 ghost use Rattle.edif_spec.specs.Canonical.{layout, name_text, perhaps, inst_tree, bit_tree, bits_tree, name_tree, port_name_tree, ports_of_end, end_tree, net_tree, contents_tree};
 ghost use Rattle.edif_spec.specs.Design as design;
@@ -16,7 +16,9 @@ use crate::small::{write_name, write_properties, write_text_form};
 use crate::spelled::{put_bytes, put_ident, put_line, put_name, put_number};
 use bus_members::{run_from, stem};
 use netdb_outside::{BufferedSink, Sink};
-use netlist_schema::{Contents, End, Inst, Name, Net, Port, Row, Shared, Shown, Text};
+use netlist_schema::{
+    Contents, Each, End, Inst, Listed, Name, Net, Parts, Port, Row, Shared, Shown, Text,
+};
 use std::alloc::Global;
 
 /// The level of the instances and nets of contents.
@@ -30,7 +32,7 @@ const LEAST_RUN: u32 = 2;
 struct Around<'a, S> {
     design: &'a S,
     own: &'a Row<Port>,
-    insts: &'a Row<Shared<Inst>>,
+    insts: &'a Parts<Listed<Inst>>,
 }
 
 /// Writes an instance.
@@ -60,14 +62,14 @@ fn write_inst<S: Shown, K: Sink>(
 fn write_inst_lines<S: Shown, K: Sink>(
     alloc: Global,
     design: &S,
-    insts: &Row<Shared<Inst>>,
+    insts: &Parts<Listed<Inst>>,
     page: &mut BufferedSink,
     out: &mut K,
 )
     requires { All (λ inst. IsCell (S.design design.now) inst.of) insts.now }
     ensures { Writes K.written K.faults out.old page.old out.new page.new (lined 5 (map (inst_tree (S.design design.now).libs) insts.now)) }
 {
-    for inst in insts.as_slice() {
+    for inst in insts.iter() {
         put_line(CONTENTS_LEVEL, page, out);
         write_inst(alloc, design, inst, page, out);
     }
@@ -81,7 +83,7 @@ fn port_of_end<'a, S: Shown>(around: &Around<'a, S>, end: &End) -> Option<&'a Po
     match end.inst {
         None => around.own.as_slice().get(port),
         Some(place) => {
-            let Some(inst) = around.insts.as_slice().get(place as usize) else {
+            let Some(inst) = around.insts.get(place as usize) else {
                 return None;
             };
             let Some(of) = around.design.cell(inst.of) else {
@@ -143,42 +145,42 @@ fn write_port_of_end<S: Shown, K: Sink>(
     }
 }
 
-/// Writes a reference to an instance.
+/// Writes a reference to an instance behind a blank, and ends the form of the end that is at it.
 fn write_inst_ref<K: Sink>(
     alloc: Global,
-    insts: &Row<Shared<Inst>>,
+    insts: &Parts<Listed<Inst>>,
     place: u32,
     page: &mut BufferedSink,
     out: &mut K,
 )
     requires { IsSome (slice_get insts.now place) }
-    ensures { (level : ℕ) → Writes K.written K.faults out.old page.old out.new page.new (layout level (instance_ref_tree insts.now place)) }
+    ensures { (level : ℕ) → Writes K.written K.faults out.old page.old out.new page.new ((32 ∷ layout level (instance_ref_tree insts.now place)) ++ 41 ∷ []) }
 {
-    if let Some(inst) = insts.as_slice().get(place as usize) {
-        page.put(b"(instanceRef ", out);
+    if let Some(inst) = insts.get(place as usize) {
+        page.put(b" (instanceRef ", out);
         put_ident(alloc, &inst.name.id, page, out);
-        page.put(b")", out);
+        page.put(b"))", out);
     }
 }
 
-/// Writes a reference to the instance of an end behind a blank, where the end is at one.
+/// Writes a reference to the instance of an end behind a blank, where the end is at one, and ends its form.
 fn write_end_inst<K: Sink>(
     alloc: Global,
-    insts: &Row<Shared<Inst>>,
+    insts: &Parts<Listed<Inst>>,
     place: Option<u32>,
     page: &mut BufferedSink,
     out: &mut K,
 )
     requires { HasInstAt insts.now place }
-    ensures { (level : ℕ) → Writes K.written K.faults out.old page.old out.new page.new (spaced level (perhaps (instance_ref_tree insts.now) place)) }
+    ensures { (level : ℕ) → Writes K.written K.faults out.old page.old out.new page.new (spaced level (perhaps (instance_ref_tree insts.now) place) ++ 41 ∷ []) }
 {
-    if let Some(place) = place {
-        page.put(b" ", out);
-        write_inst_ref(alloc, insts, place, page, out);
+    match place {
+        Some(place) => write_inst_ref(alloc, insts, place, page, out),
+        None => page.put(b")", out),
     }
 }
 
-/// Writes an end of a net with an array of this width, or with none.
+/// Writes an end of a net with an array of this width, or with none, behind a blank.
 fn write_end<S: Shown, K: Sink>(
     alloc: Global,
     around: &Around<'_, S>,
@@ -189,12 +191,11 @@ fn write_end<S: Shown, K: Sink>(
 )
     requires { IsAt (S.design around.now.design.now) around.now.own.now around.now.insts.now end.now }
     ensures { (level : ℕ) → Writes K.written K.faults out.old page.old out.new page.new
-        (layout level (end_tree (S.design around.now.design.now).libs around.now.own.now around.now.insts.now array (stretch_of array end.now))) }
+        (32 ∷ layout level (end_tree (S.design around.now.design.now).libs around.now.own.now around.now.insts.now array (stretch_of array end.now))) }
 {
-    page.put(b"(portRef ", out);
+    page.put(b" (portRef ", out);
     write_port_of_end(alloc, around, array, end, page, out);
     write_end_inst(alloc, around.insts, end.inst, page, out);
-    page.put(b")", out);
 }
 
 /// Writes the ends of a net with an array of this width, or with none, on its line.
@@ -211,7 +212,6 @@ fn write_ends<S: Shown, K: Sink>(
         (spaced level (map (end_tree (S.design around.now.design.now).libs around.now.own.now around.now.insts.now array) (map (stretch_of array) ends.now))) }
 {
     for end in ends.as_slice() {
-        page.put(b" ", out);
         write_end(alloc, around, array, end, page, out);
     }
 }
@@ -332,7 +332,7 @@ fn write_form<S: Shown, K: Sink>(
 }
 
 /// The width of the greatest run that begins with the first of these nets: 1 where none does.
-fn width_from<S: Shown>(around: &Around<'_, S>, nets: &[Shared<Net>]) -> u32
+fn width_from<S: Shown>(around: &Around<'_, S>, nets: &Each<'_, Listed<Net>>) -> u32
     requires { 0 < length nets.now }
     ensures width { result ≡ run_width (ports_of_end (S.design around.now.design.now).libs around.now.own.now around.now.insts.now) nets.now }
     ensures least { 1 ≤ result }
@@ -341,7 +341,7 @@ fn width_from<S: Shown>(around: &Around<'_, S>, nets: &[Shared<Net>]) -> u32
     run_from(
         around.design,
         around.own.as_slice(),
-        around.insts.as_slice(),
+        &around.insts.lent(),
         nets,
     )
 }
@@ -364,12 +364,12 @@ fn write_net_lines<S: Shown, K: Sink>(
         own,
         insts: &contents.insts,
     };
-    let mut left = contents.nets.as_slice();
+    let mut left = contents.nets.iter();
     while let Some(net) = left.first() {
-        let width = width_from(&around, left);
+        let width = width_from(&around, &left);
         put_line(CONTENTS_LEVEL, page, out);
         write_form(alloc, &around, net, width, page, out);
-        left = &left[width as usize..];
+        left = left.behind(width as usize);
     }
 }
 

@@ -8,7 +8,9 @@ ghost use Rattle.edit_cells.specs.Change.{cell_edits};
 ghost use Rattle.edit_cells.specs.Patch.{body_after, cells_after, lib_after, place_of};
 
 use crate::change::CellChange;
-use netlist_schema::{CellBody, Contents, Copied, Inst, Lib, Net, NoMemory, Property, Row, Shared};
+use netlist_schema::{
+    CellBody, Contents, Copied, Inst, Lib, Listed, Net, NoMemory, Property, Row, Shared,
+};
 use std::alloc::Global;
 
 /// The body with other contents.
@@ -39,12 +41,11 @@ fn with_properties(
 fn put_net(alloc: Global, contents: &mut Contents, place: usize, net: &Net) -> Result<(), NoMemory>
     ensures { OnOk result (contents.new ≡ with_net_put place net.now contents.old) }
 {
-    let net = Shared::of(alloc, net.copy(alloc)?)?;
-    if place < contents.nets.as_slice().len() {
-        contents.nets.set(place, net);
-        return Ok(());
+    let net = Listed::of(alloc, net.copy(alloc)?)?;
+    if place < contents.nets.len() {
+        return contents.nets.put(alloc, place, net);
     }
-    contents.nets.push(net)
+    contents.nets.push(alloc, net)
 }
 
 /// Puts an instance at a place in these contents, or behind the last.
@@ -56,12 +57,11 @@ fn put_inst(
 ) -> Result<(), NoMemory>
     ensures { OnOk result (contents.new ≡ with_inst_put place inst.now contents.old) }
 {
-    let inst = Shared::of(alloc, inst.copy(alloc)?)?;
-    if place < contents.insts.as_slice().len() {
-        contents.insts.set(place, inst);
-        return Ok(());
+    let inst = Listed::of(alloc, inst.copy(alloc)?)?;
+    if place < contents.insts.len() {
+        return contents.insts.put(alloc, place, inst);
     }
-    contents.insts.push(inst)
+    contents.insts.push(alloc, inst)
 }
 
 /// The body with a net put in its contents, where it has any.

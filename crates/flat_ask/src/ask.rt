@@ -19,7 +19,7 @@ use flat_items::{Ground, NetRef, PropertiesRef, Steps};
 use flat_lookup::{cell_along, inst_at, insts_at, nets_at};
 use net_pins::{Kept, Listing, Pins, keep, list_as, pins_as};
 use net_ways::{Ways, first_of, net_inside, net_joined, top_cell};
-use netlist_schema::{CellId, Inst, Net, NoMemory, Property, Shared, Shown};
+use netlist_schema::{CellId, Inst, Listed, Net, NoMemory, PartsRef, Property, Shared, Shown};
 use std::alloc::Global;
 use std::marker::Model;
 use thiserror::Error;
@@ -253,24 +253,24 @@ impl<S: Shown + Drop> Ask<S> {
 
     /// The instances in the occurrence at a path, in order: none of a leaf, and none where there is no occurrence. It takes time in
     /// proportion to the path, and no memory.
-    pub fn insts_of(&self, path: &[u32]) -> &[Shared<Inst>]
-        ensures { result.now ≡ insts_of self.now path.now }
+    pub fn insts_of(&self, path: &[u32]) -> PartsRef<'_, Listed<Inst>>
+        ensures { result ≡ insts_of self.now path.now }
     {
-        match self.at(path) {
-            Some(cell) => insts_at(&self.ground.get().design, cell),
-            None => &[],
-        }
+        let Some(cell) = self.at(path) else {
+            return PartsRef::none();
+        };
+        insts_at(&self.ground.get().design, cell)
     }
 
     /// The nets in the occurrence at a path, in order: none of a leaf, and none where there is no occurrence. It takes time in proportion
     /// to the path, and no memory.
-    pub fn nets_of(&self, path: &[u32]) -> &[Shared<Net>]
-        ensures { result.now ≡ nets_of self.now path.now }
+    pub fn nets_of(&self, path: &[u32]) -> PartsRef<'_, Listed<Net>>
+        ensures { result ≡ nets_of self.now path.now }
     {
-        match self.at(path) {
-            Some(cell) => nets_at(&self.ground.get().design, cell),
-            None => &[],
-        }
+        let Some(cell) = self.at(path) else {
+            return PartsRef::none();
+        };
+        nets_at(&self.ground.get().design, cell)
     }
 
     /// The first of the nets that are connected with a net of the occurrence at a path, by which the flattening names it; what is no net

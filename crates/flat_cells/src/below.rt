@@ -45,8 +45,9 @@ fn list_cells<S: Shown>(alloc: Global, design: &S) -> Result<Vec<CellId>, NoMemo
 fn mark_children<S: Shown>(design: &S, cell: CellId, marks: &mut CellMarks)
     ensures { AreInstsMarked (insts_at (S.design design.now) cell) marks.old marks.new }
 {
-    for inst in insts_at(design, cell) {
-        marks.set(inst.of);
+    let insts = insts_at(design, cell);
+    for place in 0..insts.len() {
+        marks.set(insts.at(place).of);
     }
 }
 

@@ -30,7 +30,7 @@ fn base_properties<'a, S: Shown>(design: &'a S, place: &Place) -> &'a [Property]
     match place.parent() {
         Some(parent) => {
             let insts = insts_at(design, parent.frame.cell);
-            insts[parent.step as usize].properties.as_slice()
+            insts.at(parent.step as usize).properties.as_slice()
         }
         None => top_properties(design),
     }

@@ -10,7 +10,7 @@ ghost use Rattle.flat_items.specs.Ways.{IsNameFound};
 
 use flat_lookup::insts_at;
 use indexmap::IndexMap;
-use netlist_schema::{CellId, Ident, Inst, NoMemory, Shared, Shown};
+use netlist_schema::{CellId, Ident, Inst, Listed, NoMemory, PartsRef, Shown};
 use std::alloc::Global;
 use std::collections::BTreeMap;
 
@@ -26,12 +26,16 @@ impl Drop for NamedPlaces {
 }
 
 /// The places of instances by their identifiers.
-fn places_of(alloc: Global, insts: &[Shared<Inst>]) -> Result<IndexMap<Ident, u32>, NoMemory>
+fn places_of(
+    alloc: Global,
+    insts: &PartsRef<'_, Listed<Inst>>,
+) -> Result<IndexMap<Ident, u32>, NoMemory>
     requires { length insts.now ≤ MOST_INSTS }
     ensures { IfOk result (λ places. ArePlaces insts.now (get (pointwise nat_eq) places)) }
 {
     let mut places = IndexMap::new(alloc);
-    for (place, inst) in insts.iter().enumerate() {
+    for place in 0..insts.len() {
+        let inst = insts.at(place);
         places.insert(inst.name.id.copy(alloc)?, place as u32)?;
     }
     Ok(places)
@@ -62,7 +66,7 @@ impl NamedPlaces {
         if let Some(places) = self.cells.get(&cell) {
             return Ok(places.get(name).copied());
         }
-        let places = places_of(alloc, insts_at(design, cell))?;
+        let places = places_of(alloc, &insts_at(design, cell))?;
         let found = places.get(name).copied();
         self.cells.insert(cell, places)?;
         Ok(found)

@@ -36,7 +36,7 @@ pub(crate) fn steps_of<S: Shown>(
         };
         let insts = insts_at(design, cell);
         steps.push(place)?;
-        cell = insts[place as usize].of;
+        cell = insts.at(place as usize).of;
     }
     Ok(Steps { steps })
 }

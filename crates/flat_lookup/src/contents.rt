@@ -6,54 +6,54 @@ ghost use Rattle.netlist_schema.specs.Hierarchy.{insts_at};
 ghost use Rattle.netlist_schema.specs.declared.limits.TheConstants.{MOST_INSTS, MOST_NETS};
 ghost use Rattle.flat_spec.specs.Paths.{nets_at};
 
-use netlist_schema::{CellBody, CellId, Inst, Net, Shared, Shown};
+use netlist_schema::{CellBody, CellId, Inst, Listed, Net, PartsRef, Shown};
 
 /// The instances of a cell: none of a leaf.
 #[inline(always)]
-fn insts_of(body: &CellBody) -> &[Shared<Inst>]
-    ensures { result.now ≡ insts_of body.now }
+fn insts_of(body: &CellBody) -> PartsRef<'_, Listed<Inst>>
+    ensures { result ≡ insts_of body.now }
 {
-    match &body.contents {
-        Some(contents) => contents.insts.as_slice(),
-        None => &[],
-    }
+    let Some(contents) = &body.contents else {
+        return PartsRef::none();
+    };
+    contents.insts.lent()
 }
 
 /// The nets of a cell: none of a leaf.
 #[inline(always)]
-fn nets_of(body: &CellBody) -> &[Shared<Net>]
-    ensures { result.now ≡ nets_of body.now }
+fn nets_of(body: &CellBody) -> PartsRef<'_, Listed<Net>>
+    ensures { result ≡ nets_of body.now }
 {
-    match &body.contents {
-        Some(contents) => contents.nets.as_slice(),
-        None => &[],
-    }
+    let Some(contents) = &body.contents else {
+        return PartsRef::none();
+    };
+    contents.nets.lent()
 }
 
 /// The instances of the cell with this id, in order, at most `MOST_INSTS`: none of a leaf, and none where there is no such cell. Takes
 /// no memory.
 #[inline(always)]
-pub fn insts_at<S: Shown>(design: &S, id: CellId) -> &[Shared<Inst>]
-    ensures value { result.now ≡ insts_at (S.design design.now) id }
-    ensures limit { length result.now ≤ MOST_INSTS }
+pub fn insts_at<S: Shown>(design: &S, id: CellId) -> PartsRef<'_, Listed<Inst>>
+    ensures value { result ≡ insts_at (S.design design.now) id }
+    ensures limit { length result ≤ MOST_INSTS }
 {
-    match design.cell(id) {
-        Some(body) => insts_of(body),
-        None => &[],
-    }
+    let Some(body) = design.cell(id) else {
+        return PartsRef::none();
+    };
+    insts_of(body)
 }
 
 /// The nets of the cell with this id, in order, at most `MOST_NETS`: none of a leaf, and none where there is no such cell. Takes no
 /// memory.
 #[inline(always)]
-pub fn nets_at<S: Shown>(design: &S, id: CellId) -> &[Shared<Net>]
-    ensures value { result.now ≡ nets_at (S.design design.now) id }
-    ensures limit { length result.now ≤ MOST_NETS }
+pub fn nets_at<S: Shown>(design: &S, id: CellId) -> PartsRef<'_, Listed<Net>>
+    ensures value { result ≡ nets_at (S.design design.now) id }
+    ensures limit { length result ≤ MOST_NETS }
 {
-    match design.cell(id) {
-        Some(body) => nets_of(body),
-        None => &[],
-    }
+    let Some(body) = design.cell(id) else {
+        return PartsRef::none();
+    };
+    nets_of(body)
 }
 
 /// One instance of a cell: `None` exactly where there is none at the place. Takes no memory.

@@ -2,7 +2,7 @@
 use Rattle.std.specs.Prelude.{IfOk, Result, Ok, Err}
 use Rattle.std.proofs.Common.{◌≡◌, ℕ, ◌<◌, ◌≤◌, [], ◌∷◌, ◌++◌, ap, sym, ◌∙◌, subst, arith}
 use Rattle.netlist_schema.specs.Types.{Object}
-use Rattle.netlist_schema.specs.declared.memory.NoMemory.{NoMemory}
+use Rattle.netlist_pages.specs.declared.memory.NoMemory.{NoMemory}
 use Rattle.edit_spec.specs.declared.ops.Op.{Op}
 use Rattle.edit_tx.specs.Facts.{HasRun, PinFacts, TxFacts, started}
 use Rattle.db_spec.specs.State.{LivePin, head}

@@ -7,7 +7,7 @@ ghost use Rattle.net_classes.specs.Own.{AreOwn, AreSet, end_number};
 ghost use Rattle.net_classes.specs.declared.joints.Joint.{Joint as Place};
 
 use crate::bits::bit_number;
-use netlist_schema::{End, Net, NoMemory, Shared};
+use netlist_schema::{End, Listed, Net, NoMemory, PartsRef};
 use std::alloc::Global;
 
 /// A bit of an instance, and the net that joins it. Joints are ordered by instance, port and bit.
@@ -20,19 +20,23 @@ pub struct Joint {
 }
 
 /// The ends of the nets on instances, net by net.
-fn all_joints(alloc: Global, nets: &[Shared<Net>]) -> Result<Vec<Joint>, NoMemory>
+fn all_joints(alloc: Global, nets: &PartsRef<'_, Listed<Net>>) -> Result<Vec<Joint>, NoMemory>
     requires few { length nets.now ≤ MOST_NETS }
     ensures { IfOk result (λ joints. joints.items ≡ joints_from 0 nets.now) }
 {
     let mut joints = Vec::new(alloc);
-    for (place, net) in nets.iter().enumerate() {
+    for place in 0..nets.len() {
+        let net = nets.at(place);
         add_joints(net.ends.as_slice(), place as u32, &mut joints)?;
     }
     Ok(joints)
 }
 
 /// The ends of the nets on instances, by instance, port and bit.
-pub(crate) fn list_joints(alloc: Global, nets: &[Shared<Net>]) -> Result<Vec<Joint>, NoMemory>
+pub(crate) fn list_joints(
+    alloc: Global,
+    nets: &PartsRef<'_, Listed<Net>>,
+) -> Result<Vec<Joint>, NoMemory>
     requires few { length nets.now ≤ MOST_NETS }
     ensures each { IfOk result (λ joints. (j : Place) → Contains joints.items j ↔ IsJointIn nets.now j) }
     ensures in_order { IfOk result (λ joints. AllPairs IsNotBehind joints.items) }
@@ -73,7 +77,7 @@ pub(crate) fn list_own(
     alloc: Global,
     starts: &[u32],
     count: u32,
-    nets: &[Shared<Net>],
+    nets: &PartsRef<'_, Listed<Net>>,
 ) -> Result<Vec<Option<u32>>, NoMemory>
     requires few { length nets.now ≤ MOST_NETS }
     ensures long { IfOk result (λ own. length own.items ≡ count) }
@@ -85,13 +89,14 @@ pub(crate) fn list_own(
 }
 
 /// Sets the net of each own bit, where none is set yet.
-fn set_all(starts: &[u32], nets: &[Shared<Net>], own: &mut [Option<u32>])
+fn set_all(starts: &[u32], nets: &PartsRef<'_, Listed<Net>>, own: &mut [Option<u32>])
     requires few { length nets.now ≤ MOST_NETS }
     requires none { All (λ net. net ≡ None) own.old }
     ensures long { length own.new ≡ length own.old }
     ensures own { AreOwn starts.now nets.now (length nets.now) own.new }
 {
-    for (place, net) in nets.iter().enumerate() {
+    for place in 0..nets.len() {
+        let net = nets.at(place);
         set_own(starts, net.ends.as_slice(), place as u32, own);
     }
 }

@@ -21,7 +21,7 @@ use crate::tables::{CellNets, least_bits};
 use bus_members::bit_count;
 use flat_joined_numbers::least_joined;
 use flat_lookup::{insts_at, nets_at};
-use netlist_schema::{CellBody, CellId, Inst, LibId, Net, NoMemory, Shared, Shown};
+use netlist_schema::{CellBody, CellId, Inst, LibId, Listed, Net, NoMemory, PartsRef, Shown};
 use std::alloc::Global;
 
 /// So many cells of which nothing is known.
@@ -54,8 +54,8 @@ pub(crate) fn no_tables<S: Shown>(alloc: Global, design: &S) -> Result<Vec<Vec<C
 fn list_firsts(
     alloc: Global,
     cells: &[Vec<CellNets>],
-    insts: &[Shared<Inst>],
-    nets: &[Shared<Net>],
+    insts: &PartsRef<'_, Listed<Inst>>,
+    nets: &PartsRef<'_, Listed<Net>>,
     joints: &[Joint],
 ) -> Result<Vec<u32>, NoMemory>
     requires few { length nets.now ≤ MOST_NETS }
@@ -86,10 +86,10 @@ fn body_nets<S: Shown>(
 {
     let nets = nets_at(design, cell);
     let starts = port_starts(alloc, body)?;
-    let own = list_own(alloc, starts.as_slice(), bit_count(body) as u32, nets)?;
-    let joints = list_joints(alloc, nets)?;
+    let own = list_own(alloc, starts.as_slice(), bit_count(body) as u32, &nets)?;
+    let joints = list_joints(alloc, &nets)?;
     let insts = insts_at(design, cell);
-    let firsts = list_firsts(alloc, cells, insts, nets, joints.as_slice())?;
+    let firsts = list_firsts(alloc, cells, &insts, &nets, joints.as_slice())?;
     let least = least_bits(alloc, own.as_slice(), firsts.as_slice())?;
     Ok(CellNets {
         starts,

@@ -7,7 +7,7 @@ ghost use Rattle.net_classes.specs.Links.{IsLinkAdded, MeetInClass, StandFor, cl
 use crate::joints::Joint;
 use crate::tables::{CellNets, table_of};
 use flat_joined_numbers::Pair;
-use netlist_schema::{Inst, NoMemory, Shared};
+use netlist_schema::{Inst, Listed, NoMemory, PartsRef};
 use std::alloc::Global;
 use std::collections::BTreeMap;
 
@@ -19,7 +19,11 @@ pub struct Class {
 }
 
 /// The connected own bits to which the joint leads, where a net inside joins its bit.
-fn class_of(cells: &[Vec<CellNets>], insts: &[Shared<Inst>], joint: Joint) -> Option<Class>
+fn class_of(
+    cells: &[Vec<CellNets>],
+    insts: &PartsRef<'_, Listed<Inst>>,
+    joint: Joint,
+) -> Option<Class>
     ensures { result ≡ class_in (map (λ row. map facts_of row.items) cells.now) insts.now joint }
 {
     let inst = insts.get(joint.inst as usize)?;
@@ -35,7 +39,7 @@ fn class_of(cells: &[Vec<CellNets>], insts: &[Shared<Inst>], joint: Joint) -> Op
 pub(crate) fn list_links(
     alloc: Global,
     cells: &[Vec<CellNets>],
-    insts: &[Shared<Inst>],
+    insts: &PartsRef<'_, Listed<Inst>>,
     joints: &[Joint],
 ) -> Result<Vec<Pair>, NoMemory>
     ensures { IfOk result (λ pairs. StandFor (MeetInClass (class_in (map (λ row. map facts_of row.items) cells.now) insts.now) (Contains joints.now)) pairs.items) }

@@ -2,7 +2,7 @@
 use Rattle.std.specs.Prelude.{◌≡◌, ◌⊎◌, ◌+◌, ℕ, List, [], ◌∷◌, ◌++◌, Bool, true, false, Option, Some, None, Result, Ok, Err, IfNone, IfOk, IfSome, OnErr, drop, is_none}
 use Rattle.std.specs.List.{Contains}
 use Rattle.netlist_schema.specs.Design.{Design, cell_at}
-use Rattle.netlist_schema.specs.declared.memory.NoMemory.{NoMemory}
+use Rattle.netlist_pages.specs.declared.memory.NoMemory.{NoMemory}
 use Rattle.netlist_schema.specs.Types.{CellBody, CellId}
 use Rattle.flat_spec.specs.Paths.{Reaches}
 use Rattle.flat_spec.specs.Types.{Item, NetAt}

@@ -1,7 +1,7 @@
 -- What each call of a desk leaves, by its result. It is one call of the database by the caller that has the seat's number.
 use Rattle.std.specs.Prelude.{◌≡◌, ◌<◌, ◌-◌, ℕ, List, [], length, replicate, set, slice_get, Option, None, Some, Result, Ok, Err}
 use Rattle.netlist_schema.specs.Design.{Design}
-use Rattle.netlist_schema.specs.declared.memory.NoMemory.{NoMemory}
+use Rattle.netlist_pages.specs.declared.memory.NoMemory.{NoMemory}
 use Rattle.edit_rules_spec.specs.declared.reply.Reply.{Reply}
 use Rattle.edit_spec.specs.declared.ops.Op.{Op}
 use Rattle.edit_tx.specs.Facts.{HasRun, PinFacts, TxFacts, started}

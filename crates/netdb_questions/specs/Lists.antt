@@ -1,7 +1,7 @@
 -- What is left of a list, and its next item.
 use Rattle.std.specs.Prelude.{◌≡◌, ◌≢◌, ℕ, List, [], ◌∷◌, Option, Some, None, Result, Ok, Err, drop}
 use Rattle.netlist_schema.specs.Design.{Design}
-use Rattle.netlist_schema.specs.declared.memory.NoMemory.{NoMemory}
+use Rattle.netlist_pages.specs.declared.memory.NoMemory.{NoMemory}
 use Rattle.flat_spec.specs.Types.{Item, NetAt}
 use Rattle.ask_spec.specs.Places.{insts_of, nets_of}
 use Rattle.ask_spec.specs.Roles.{pins_as}

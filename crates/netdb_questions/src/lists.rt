@@ -16,7 +16,7 @@ use flat_ask::Ask;
 use flat_lookup::{insts_at, net_count};
 use flat_spec::{Item, NetAt, Path};
 use net_pins::Listing;
-use netlist_schema::{CellId, Inst, NoMemory, Shared};
+use netlist_schema::{CellId, Inst, Listed, NoMemory, PartsRef};
 use std::alloc::Global;
 use thiserror::Error;
 
@@ -101,18 +101,18 @@ pub(crate) fn begin_nets(names: &Names<Snapshot>, text: &[u8]) -> Result<Begun, 
 }
 
 /// The instances of the occurrence at a path.
-fn insts_there<'a>(ask: &'a Ask<Snapshot>, path: &[u32]) -> &'a [Shared<Inst>]
-    ensures value { result.now ≡ insts_of ask.now path.now }
-    ensures limit { length result.now ≤ MOST_INSTS }
+fn insts_there<'a>(ask: &'a Ask<Snapshot>, path: &[u32]) -> PartsRef<'a, Listed<Inst>>
+    ensures value { result ≡ insts_of ask.now path.now }
+    ensures limit { length result ≤ MOST_INSTS }
 {
-    match ask.at(path) {
-        Some(cell) => insts_at(ask.design(), cell),
-        None => &[],
-    }
+    let Some(cell) = ask.at(path) else {
+        return PartsRef::none();
+    };
+    insts_at(ask.design(), cell)
 }
 
 /// The instance at a place, where there is one.
-fn inst_in(insts: &[Shared<Inst>], place: u32) -> Option<&Inst>
+fn inst_in<'a>(insts: &PartsRef<'a, Listed<Inst>>, place: u32) -> Option<&'a Inst>
     ensures { option_copied result ≡ slice_get insts.now place }
 {
     match insts.get(place as usize) {
@@ -127,7 +127,7 @@ fn inst_cell(ask: &Ask<Snapshot>, path: &[u32], place: u32) -> Option<CellId>
     ensures room { IsSome result → place < 4294967295 }
 {
     let insts = insts_there(ask, path);
-    match inst_in(insts, place) {
+    match inst_in(&insts, place) {
         Some(inst) => Some(inst.of),
         None => None,
     }

@@ -4,7 +4,7 @@ ghost use Rattle.netlist_schema.specs.Design.{cells_in, insts_in};
 ghost use Rattle.netlist_order.specs.ReadyQueue.{flag, has, waits, IsSized, IsReadyQueue, AllPast, IsFirstUnwritten, is_past};
 ghost use Rattle.netlist_order.specs.declared.ready_queue.Waiting.{Waiting};
 
-use netlist_schema::{CellId, Contents, Inst, LibId, NoMemory, Shared, Shown};
+use netlist_schema::{CellId, Contents, Inst, LibId, Listed, NoMemory, PartsRef, Shared, Shown};
 use std::alloc::Global;
 use std::collections::BTreeSet;
 use std::mem::replace;
@@ -107,12 +107,17 @@ impl ReadyQueue {
     }
 
     /// The place of the first instance from a place on whose cell stands in the library and is not written.
-    fn first_unwritten(&self, insts: &[Shared<Inst>], lib: LibId, from: usize) -> Option<usize>
+    fn first_unwritten(
+        &self,
+        insts: &PartsRef<'_, Listed<Inst>>,
+        lib: LibId,
+        from: usize,
+    ) -> Option<usize>
         ensures none { IfNone result (AllPast lib.0 (flag self.now) insts.now from (length insts.now)) }
         ensures some { IfSome result (IsFirstUnwritten lib.0 (flag self.now) insts.now from) }
     {
         for place in from..insts.len() {
-            if !self.is_past(&insts[place], lib) {
+            if !self.is_past(insts.at(place), lib) {
                 return Some(place);
             }
         }
@@ -134,9 +139,9 @@ impl ReadyQueue {
             return Ok(());
         };
         let insts = insts_of(&body.contents);
-        match self.first_unwritten(insts, lib, cell.from) {
+        match self.first_unwritten(&insts, lib, cell.from) {
             Some(from) => self.park(
-                insts[from].of.slot,
+                insts.at(from).of.slot,
                 Waiting {
                     slot: cell.slot,
                     from,
@@ -166,11 +171,11 @@ impl ReadyQueue {
 }
 
 /// The instances of contents: none of a leaf.
-fn insts_of(contents: &Option<Shared<Contents>>) -> &[Shared<Inst>]
-    ensures { result.now ≡ insts_in contents.now }
+fn insts_of(contents: &Option<Shared<Contents>>) -> PartsRef<'_, Listed<Inst>>
+    ensures { result ≡ insts_in contents.now }
 {
-    match contents {
-        Some(contents) => contents.insts.as_slice(),
-        None => &[],
-    }
+    let Some(contents) = contents else {
+        return PartsRef::none();
+    };
+    contents.insts.lent()
 }

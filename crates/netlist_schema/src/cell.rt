@@ -1,11 +1,13 @@
 //! Cells: their ports, instances and nets.
 use crate::ids::CellId;
+use crate::listed::Listed;
 use crate::property::{Name, Property};
 use crate::row::Row;
 use crate::shared::Shared;
 use crate::shared_row::SharedRow;
 use crate::text::Text;
 use crate::width::Width;
+use netlist_parts::Parts;
 
 /// Which way a port goes.
 #[derive(Clone, Copy, Debug, PartialEq, Eq)]
@@ -87,8 +89,8 @@ impl Drop for Net {
 /// What is inside a cell.
 #[derive(Debug, PartialEq, Eq, Drop)]
 pub struct Contents {
-    pub insts: Row<Shared<Inst>>,
-    pub nets: Row<Shared<Net>>,
+    pub insts: Parts<Listed<Inst>>,
+    pub nets: Parts<Listed<Net>>,
 }
 
 /// The kind of a cell.

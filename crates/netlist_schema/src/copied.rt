@@ -1,38 +1,16 @@
-//! `Copied`: an equal value, in memory of its own.
-ghost use Rattle.std.specs.Prelude.{◌≡◌, All, IfOk, IfSome, OnOk};
+//! Copies of the values of a design.
+ghost use Rattle.std.specs.Prelude.{All};
 ghost use Rattle.netlist_schema.specs.Ident.{IsIdentifier};
 ghost use Rattle.netlist_schema.specs.Typed.{IsBytes, IsTypedCellData, IsTypedInst, IsTypedName, IsTypedNote, IsTypedNum, IsTypedPort, IsTypedProperty, IsTypedValue};
 
 use crate::cell::{CellBody, Contents, End, Inst, Net, Port};
 use crate::ident::Ident;
 use crate::library::{Lib, LibHead, Note, TopHead};
-use crate::memory::NoMemory;
 use crate::property::{Name, Num, Property, Value};
 use crate::row::Row;
 use crate::text::Text;
+use netlist_pages::{Copied, NoMemory};
 use std::alloc::Global;
-
-/// A value that can be copied, where there is memory.
-pub trait Copied: Sized {
-    /// What holds of each value by its type.
-    ghost typed: { Self → Type 0 };
-
-    /// An equal value. The one error is that an allocation was refused.
-    fn copy(&self, alloc: Global) -> Result<Self, NoMemory>
-        ensures same { IfOk result (λ made. made ≡ self.now) }
-        ensures typed { OnOk result (typed self.now) };
-}
-
-impl<T: Copied + Drop> Copied for Option<T> {
-    ghost typed = { λ o. IfSome o T.typed };
-
-    fn copy(&self, alloc: Global) -> Result<Option<T>, NoMemory> {
-        match self {
-            Some(inner) => Ok(Some(inner.copy(alloc)?)),
-            None => Ok(None),
-        }
-    }
-}
 
 impl<T: Copied + Drop> Copied for Row<T> {
     ghost typed = { λ row. All T.typed row };

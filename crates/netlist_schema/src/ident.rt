@@ -2,7 +2,7 @@
 ghost use Rattle.std.specs.Prelude.{◌≡◌, ◌↔◌, IsTrue, IsNone, IfOk, IfSome};
 ghost use Rattle.netlist_schema.specs.Ident.{is_identifier_byte, IsIdentifier, IsSameIgnoringCase};
 
-use crate::memory::NoMemory;
+use netlist_pages::NoMemory;
 use smallvec::SmallVec;
 use std::alloc::Global;
 use std::marker::Model;
@@ -31,10 +31,37 @@ impl Model for Ident {
     ghost invariant = { λ i. IsIdentifier i.bytes.items };
 }
 
+/// A byte that an identifier may hold, and one that it may not.
+const I: bool = true;
+
+const O: bool = false;
+
+/// Which bytes an identifier may hold, sixteen in a row: letters, digits and `_`.
+#[rattlefmt::skip]
+static IDENTIFIER_BYTES: [bool; 256] = [
+    O, O, O, O, O, O, O, O, O, O, O, O, O, O, O, O,
+    O, O, O, O, O, O, O, O, O, O, O, O, O, O, O, O,
+    O, O, O, O, O, O, O, O, O, O, O, O, O, O, O, O,
+    I, I, I, I, I, I, I, I, I, I, O, O, O, O, O, O,
+    O, I, I, I, I, I, I, I, I, I, I, I, I, I, I, I,
+    I, I, I, I, I, I, I, I, I, I, I, O, O, O, O, I,
+    O, I, I, I, I, I, I, I, I, I, I, I, I, I, I, I,
+    I, I, I, I, I, I, I, I, I, I, I, O, O, O, O, O,
+    O, O, O, O, O, O, O, O, O, O, O, O, O, O, O, O,
+    O, O, O, O, O, O, O, O, O, O, O, O, O, O, O, O,
+    O, O, O, O, O, O, O, O, O, O, O, O, O, O, O, O,
+    O, O, O, O, O, O, O, O, O, O, O, O, O, O, O, O,
+    O, O, O, O, O, O, O, O, O, O, O, O, O, O, O, O,
+    O, O, O, O, O, O, O, O, O, O, O, O, O, O, O, O,
+    O, O, O, O, O, O, O, O, O, O, O, O, O, O, O, O,
+    O, O, O, O, O, O, O, O, O, O, O, O, O, O, O, O,
+];
+
+/// Whether an identifier may hold the byte.
 fn is_identifier_byte(b: u8) -> bool
     ensures { result ≡ is_identifier_byte b }
 {
-    b.is_ascii_alphanumeric() || b == b'_'
+    IDENTIFIER_BYTES[usize::from(b)]
 }
 
 impl Ident {

@@ -5,58 +5,72 @@ ghost use Rattle.netlist_schema.specs.Change.{body_with, lib_with_cell, put_at, 
 ghost use Rattle.netlist_schema.specs.Types.{CellBody as Body, Lib as Library};
 
 use crate::cell::{CellBody, Contents, Inst, Net};
-use crate::copied::Copied;
 use crate::ids::CellId;
 use crate::library::Lib;
-use crate::memory::NoMemory;
+use crate::listed::{Listed, Marks};
 use crate::row::Row;
 use crate::shared::Shared;
+use netlist_pages::{Copied, NoMemory};
+use netlist_parts::Parts;
+use std::alloc::Global;
 use std::sync::Arc;
 
 /// Puts an item at a place, in a share of its own.
-fn put_shared<T: Drop>(row: &mut Row<Shared<T>>, place: usize, item: T) -> Result<(), NoMemory>
-    requires { place ≤ length row.old }
-    ensures ok { OnOk result (row.new ≡ put_at row.old place item) }
-    ensures err { OnErr result (row.new ≡ row.old) }
+fn put_shared<T: Marks + Drop>(
+    alloc: Global,
+    parts: &mut Parts<Listed<T>>,
+    place: usize,
+    item: T,
+) -> Result<(), NoMemory>
+    requires { place ≤ length parts.old }
+    ensures ok { OnOk result (parts.new ≡ put_at parts.old place item) }
+    ensures err { OnErr result (parts.new ≡ parts.old) }
 {
-    let alloc = *row.items.allocator();
-    row.put(place, Shared::of(alloc, item)?)
+    let item = Listed::of(alloc, item)?;
+    if place < parts.len() {
+        return parts.put(alloc, place, item);
+    }
+    parts.push(alloc, item)
 }
 
 impl Contents {
     /// Puts a net at a place: it replaces the one there, or goes behind the last. Where memory is refused, the contents
     /// stay.
-    pub fn put_net(&mut self, place: usize, net: Net) -> Result<(), NoMemory>
+    pub fn put_net(&mut self, alloc: Global, place: usize, net: Net) -> Result<(), NoMemory>
         requires { place ≤ length self.old.nets }
         ensures ok { OnOk result (self.new ≡ with_net_put place net self.old) }
         ensures err { OnErr result (self.new ≡ self.old) }
     {
-        put_shared(&mut self.nets, place, net)
+        put_shared(alloc, &mut self.nets, place, net)
     }
 
     /// Puts an instance at a place: it replaces the one there, or goes behind the last. Where memory is refused, the
     /// contents stay.
-    pub fn put_inst(&mut self, place: usize, inst: Inst) -> Result<(), NoMemory>
+    pub fn put_inst(&mut self, alloc: Global, place: usize, inst: Inst) -> Result<(), NoMemory>
         requires { place ≤ length self.old.insts }
         ensures ok { OnOk result (self.new ≡ with_inst_put place inst self.old) }
         ensures err { OnErr result (self.new ≡ self.old) }
     {
-        put_shared(&mut self.insts, place, inst)
+        put_shared(alloc, &mut self.insts, place, inst)
     }
 }
 
 /// Puts a net in contents, in place where nobody else holds them, and else in a copy of their own.
-fn put_net_own(contents: &mut Shared<Contents>, place: usize, net: Net) -> Result<(), NoMemory>
+fn put_net_own(
+    alloc: Global,
+    contents: &mut Shared<Contents>,
+    place: usize,
+    net: Net,
+) -> Result<(), NoMemory>
     requires { place ≤ length contents.old.nets }
     ensures ok { OnOk result (contents.new ≡ with_net_put place net contents.old) }
     ensures err { OnErr result (contents.new ≡ contents.old) }
 {
-    let alloc = *contents.nets.items.allocator();
     match Arc::get_mut(&mut contents.item) {
-        Some(own) => own.put_net(place, net),
+        Some(own) => own.put_net(alloc, place, net),
         None => {
             let mut own = contents.get().copy(alloc)?;
-            own.put_net(place, net)?;
+            own.put_net(alloc, place, net)?;
             *contents = Shared::of(alloc, own)?;
             Ok(())
         }
@@ -64,17 +78,21 @@ fn put_net_own(contents: &mut Shared<Contents>, place: usize, net: Net) -> Resul
 }
 
 /// Puts an instance in contents, in place where nobody else holds them, and else in a copy of their own.
-fn put_inst_own(contents: &mut Shared<Contents>, place: usize, inst: Inst) -> Result<(), NoMemory>
+fn put_inst_own(
+    alloc: Global,
+    contents: &mut Shared<Contents>,
+    place: usize,
+    inst: Inst,
+) -> Result<(), NoMemory>
     requires { place ≤ length contents.old.insts }
     ensures ok { OnOk result (contents.new ≡ with_inst_put place inst contents.old) }
     ensures err { OnErr result (contents.new ≡ contents.old) }
 {
-    let alloc = *contents.insts.items.allocator();
     match Arc::get_mut(&mut contents.item) {
-        Some(own) => own.put_inst(place, inst),
+        Some(own) => own.put_inst(alloc, place, inst),
         None => {
             let mut own = contents.get().copy(alloc)?;
-            own.put_inst(place, inst)?;
+            own.put_inst(alloc, place, inst)?;
             *contents = Shared::of(alloc, own)?;
             Ok(())
         }
@@ -88,7 +106,7 @@ impl CellBody {
         ensures err { OnErr result (self.new ≡ self.old) }
     {
         if self.contents.is_some() {
-            let alloc = *contents.nets.items.allocator();
+            let alloc = *self.properties.items.allocator();
             self.contents = Some(Shared::of(alloc, contents)?);
         }
         Ok(())
@@ -100,8 +118,9 @@ impl CellBody {
         ensures ok { OnOk result (self.new ≡ body_with (with_net_put place net) self.old) }
         ensures err { OnErr result (self.new ≡ self.old) }
     {
+        let alloc = *self.properties.items.allocator();
         match &mut self.contents {
-            Some(contents) => put_net_own(contents, place, net),
+            Some(contents) => put_net_own(alloc, contents, place, net),
             None => Ok(()),
         }
     }
@@ -112,8 +131,9 @@ impl CellBody {
         ensures ok { OnOk result (self.new ≡ body_with (with_inst_put place inst) self.old) }
         ensures err { OnErr result (self.new ≡ self.old) }
     {
+        let alloc = *self.properties.items.allocator();
         match &mut self.contents {
-            Some(contents) => put_inst_own(contents, place, inst),
+            Some(contents) => put_inst_own(alloc, contents, place, inst),
             None => Ok(()),
         }
     }

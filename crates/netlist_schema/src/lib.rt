@@ -1,4 +1,4 @@
-//! Types of a hierarchical netlist, and what makes a design valid. It stands on no other crate of the repository.
+//! Types of a hierarchical netlist, and what makes a design valid.
 #![tactic(auto)]
 
 mod cell;
@@ -10,7 +10,8 @@ mod ids;
 mod inside;
 mod library;
 pub mod limits;
-mod memory;
+mod listed;
+mod marks;
 mod property;
 mod row;
 mod shared;
@@ -20,7 +21,6 @@ mod text;
 mod width;
 
 pub use cell::{CellBody, CellKind, Contents, Direction, End, Inst, Net, Port};
-pub use copied::Copied;
 pub use design::Design;
 pub use ident::Ident;
 pub use ids::{CellId, LibId, Object};
@@ -29,7 +29,10 @@ pub use limits::{
     MOST_BITS, MOST_CELLS, MOST_ENDS, MOST_EVENTS, MOST_FILE_BYTES, MOST_INSTS, MOST_LEVELS,
     MOST_LIBS, MOST_NETS, MOST_NOTES, MOST_PORTS, MOST_WIDTH,
 };
-pub use memory::NoMemory;
+pub use listed::{Listed, Mark, Marks};
+pub use marks::{end_bit, hash_of, name_number};
+pub use netlist_pages::{Copied, Each, NoMemory};
+pub use netlist_parts::{Parts, PartsRef};
 pub use property::{Name, Num, Property, Value};
 pub use row::Row;
 pub use shared::Shared;

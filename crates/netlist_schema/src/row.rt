@@ -2,7 +2,7 @@
 ghost use Rattle.std.specs.Prelude.{◌≡◌, ◌++◌, [], ◌∷◌, ◌<◌, ◌≤◌, OnErr, OnOk, length, remove, slice_get, slice_set, take, Some};
 ghost use Rattle.netlist_schema.specs.Change.{put_at};
 
-use crate::memory::NoMemory;
+use netlist_pages::NoMemory;
 use std::marker::Model;
 
 /// A list of values, as contracts see it. It is made from a `Vec` and gives it back, and neither takes memory.

@@ -2,8 +2,7 @@
 ghost use Rattle.std.specs.Prelude.{◌≡◌, IfOk};
 ghost use Rattle.std.specs.Arc.{arc_value};
 
-use crate::copied::Copied;
-use crate::memory::NoMemory;
+use netlist_pages::{Copied, NoMemory};
 use std::alloc::Global;
 use std::marker::Model;
 use std::ops::Deref;

@@ -2,10 +2,9 @@
 ghost use Rattle.std.specs.Prelude.{◌≡◌, [], IfOk};
 ghost use Rattle.std.specs.Cmp.Lexicographic.{lists_equiv, lists_per, pointwise};
 
-use crate::copied::Copied;
-use crate::memory::NoMemory;
 use crate::row::Row;
 use crate::shared::Shared;
+use netlist_pages::{Copied, NoMemory};
 use std::alloc::Global;
 use std::marker::Model;
 

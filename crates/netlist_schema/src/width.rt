@@ -2,9 +2,8 @@
 ghost use Rattle.std.specs.Prelude.{◌≡◌, ◌↔◌, IsSome, IfSome};
 ghost use Rattle.netlist_schema.specs.Width.{IsWidth};
 
-use crate::copied::Copied;
 use crate::limits::MOST_WIDTH;
-use crate::memory::NoMemory;
+use netlist_pages::{Copied, NoMemory};
 use std::alloc::Global;
 use std::marker::Model;
 

@@ -7,7 +7,7 @@ use Rattle.std.proofs.lemmas.Grind.{flat_map-append}
 use Rattle.std.proofs.lemmas.List.{take-append-drop}
 use Rattle.std.proofs.lemmas.List.Elements.{All-append}
 use Rattle.std.proofs.Math.Nat.{min-le_right, mul-le-mul_right}
-use Rattle.netlist_schema.specs.declared.memory.NoMemory.{NoMemory}
+use Rattle.netlist_pages.specs.declared.memory.NoMemory.{NoMemory}
 use Rattle.flat_spec.specs.Types.{Item}
 use Rattle.flat_lines_spec.specs.Lines.{shown_items}
 use Rattle.par_parts.proofs.ListLemmas.{drop_drop}

@@ -8,7 +8,7 @@ use Rattle.std.proofs.lemmas.Nat.{le-div}
 use Rattle.std.proofs.Math.Nat.{mul-le-mul_right}
 use Rattle.std.proofs.Math.Seq.{take-add}
 use Rattle.netlist_schema.specs.Design.{Design}
-use Rattle.netlist_schema.specs.declared.memory.NoMemory.{NoMemory}
+use Rattle.netlist_pages.specs.declared.memory.NoMemory.{NoMemory}
 use Rattle.netdb_outside.specs.Outside.{Appends, AppendsFront}
 use Rattle.netdb_outside.proofs.Appending.{appends_none, appends_then, front_more, then_front}
 use Rattle.flat_spec.specs.Types.{Item}

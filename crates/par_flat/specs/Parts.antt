@@ -1,7 +1,7 @@
 -- Runs of items.
 use Rattle.std.specs.Prelude.{◌≡◌, ◌+◌, ◌*◌, ℕ, List, [], ◌∷◌, ◌++◌, Bool, true, false, Option, Some, None, Result, Ok, Err, IsOk, drop, min, nat_lt, if◌then◌else◌}
 use Rattle.std.specs.List.{All, flat_map}
-use Rattle.netlist_schema.specs.declared.memory.NoMemory.{NoMemory}
+use Rattle.netlist_pages.specs.declared.memory.NoMemory.{NoMemory}
 use Rattle.flat_spec.specs.Types.{Item}
 use Rattle.flat_lines_spec.specs.Lines.{shown_items}
 use Rattle.par_flat.specs.declared.cut.Cut.{Cut}

@@ -13,7 +13,7 @@ ghost use Rattle.netlist_schema.specs.Design.{bit_count, nets_of};
 use crate::tables::ItemCounts;
 use bus_members::bit_count;
 use flat_lookup::insts_at;
-use netlist_schema::{CellBody, CellId, Inst, Shared, Shown};
+use netlist_schema::{CellBody, CellId, Inst, Listed, PartsRef, Shown};
 
 /// The nets of a cell, or the bits of a leaf.
 fn body_count(body: &CellBody) -> u64
@@ -24,7 +24,7 @@ fn body_count(body: &CellBody) -> u64
     ensures small { result ≤ 2 ^ 32 }
 {
     match &body.contents {
-        Some(contents) => contents.nets.as_slice().len() as u64,
+        Some(contents) => contents.nets.len() as u64,
         None => bit_count(body),
     }
 }
@@ -47,12 +47,12 @@ fn kept_of(counts: &ItemCounts, inst: &Inst) -> u64
 }
 
 /// So many, and what is kept of the cells of these instances.
-fn add_insts(counts: &ItemCounts, insts: &[Shared<Inst>], own: u64) -> u64
+fn add_insts(counts: &ItemCounts, insts: &PartsRef<'_, Listed<Inst>>, own: u64) -> u64
     ensures { result ≡ min (own + sum_by (kept_of counts.now) insts.now) (2 ^ 64 - 1) }
 {
     let mut count = own;
-    for inst in insts {
-        count = count.saturating_add(kept_of(counts, inst));
+    for place in 0..insts.len() {
+        count = count.saturating_add(kept_of(counts, insts.at(place)));
     }
     count
 }
@@ -62,7 +62,7 @@ fn add_insts(counts: &ItemCounts, insts: &[Shared<Inst>], own: u64) -> u64
 pub fn count_cell<S: Shown>(design: &S, counts: &ItemCounts, cell: CellId) -> u64
     ensures { result ≡ min (own_count (S.design design.now) cell + sum_by (kept_of counts.now) (insts_at (S.design design.now) cell)) (2 ^ 64 - 1) }
 {
-    add_insts(counts, insts_at(design, cell), own_count(design, cell))
+    add_insts(counts, &insts_at(design, cell), own_count(design, cell))
 }
 
 /// The bits of a cell that has a contents, none of a leaf.

@@ -1,7 +1,7 @@
 -- What a script holds between two of its lines, in the code and in its session.
 use Rattle.std.specs.Prelude.{Bool, true, false, Option, Some, None, Result, Ok, Err}
 use Rattle.edit_tx.specs.Facts.{PinFacts}
-use Rattle.netlist_schema.specs.declared.memory.NoMemory.{NoMemory}
+use Rattle.netlist_pages.specs.declared.memory.NoMemory.{NoMemory}
 use Rattle.script_spec.specs.Session.{Held as SessionHeld, Nothing, OnPin, OffPin, InBlock}
 use Rattle.db_share.specs.Passes.{Shared, Pass, HasPin}
 use Rattle.script_held.specs.declared.held.Block.{Block}

@@ -1,7 +1,7 @@
 -- A script, from its first line to its end.
 use Rattle.std.proofs.Common.{◌≡◌, ◌∙◌, ℕ, ◌+◌, ◌<◌, Bool, true, false, List, [], ◌∷◌, length, drop, get_or, map, Result, Ok, Err, ap, sym, subst}
 use Rattle.db_spec.specs.declared.event.Event.{Event}
-use Rattle.netlist_schema.specs.declared.memory.NoMemory.{NoMemory}
+use Rattle.netlist_pages.specs.declared.memory.NoMemory.{NoMemory}
 use Rattle.script_spec.specs.Headline.{CanWalk, Ran}
 use Rattle.script_spec.specs.ScriptText.{ArePlaced, Free, steps_of}
 use Rattle.script_spec.specs.Session.{last_release}

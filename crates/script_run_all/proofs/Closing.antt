@@ -4,7 +4,7 @@ use Rattle.std.specs.List.{All, list_any}
 use Rattle.std.proofs.lemmas.List.{get_or-map, length-map}
 use Rattle.std.specs.Prelude.{IfOk, Ok, Result}
 use Rattle.netlist_schema.specs.Design.{Design}
-use Rattle.netlist_schema.specs.declared.memory.NoMemory.{NoMemory}
+use Rattle.netlist_pages.specs.declared.memory.NoMemory.{NoMemory}
 use Rattle.db_spec.specs.declared.event.Event.{Event}
 use Rattle.script_spec.specs.Headline.{Ran}
 use Rattle.script_spec.specs.Session.{Told, exchanges}

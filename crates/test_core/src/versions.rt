@@ -23,7 +23,7 @@ fn commit_net(rt: &impl Abort, alloc: Global, core: &mut Core)
 fn nets(shown: &Snapshot) -> Option<usize> {
     let body = shown.cell(FIRST)?;
     let contents = body.contents.as_ref()?;
-    Some(contents.nets.as_slice().len())
+    Some(contents.nets.len())
 }
 
 /// The number of nets of the block of a version, where it is kept.

@@ -35,7 +35,7 @@ fn nets(design: &Design) -> Option<(usize, usize)> {
         slot: 0,
     };
     let contents = design.cell(id)?.contents.as_ref()?;
-    let nets = contents.nets.as_slice();
+    let nets = &contents.nets;
     Some((nets.len(), long(nets.get(65_535)?.get())?))
 }
 

@@ -7,8 +7,8 @@ use crate::plans::{
     CellPlan, EndPlan, Inside, InstPlan, NetPlan, NotePlan, PortPlan, PropertyPlan, TopPlan,
 };
 use netlist_schema::{
-    CellBody, CellId, CellKind, Contents, End, Ident, Inst, Lib, LibHead, LibId, Name, Net, Note,
-    Port, Property, Row, Shared, SharedRow, Text, TopHead, Value,
+    CellBody, CellId, CellKind, Contents, End, Ident, Inst, Lib, LibHead, LibId, Listed, Name, Net,
+    Note, Parts, Port, Property, Row, Shared, SharedRow, Text, TopHead, Value,
 };
 use std::alloc::Global;
 use std::test::Fail;
@@ -96,14 +96,14 @@ fn inst(alloc: Global, plan: &InstPlan) -> Result<Inst, Fail>
     })
 }
 
-fn insts(alloc: Global, plans: &[InstPlan]) -> Result<Row<Shared<Inst>>, Fail>
+fn insts(alloc: Global, plans: &[InstPlan]) -> Result<Parts<Listed<Inst>>, Fail>
     ensures { IfOk result (λ insts. insts ≡ map planned_inst plans.now) }
 {
     let mut insts = Vec::new(alloc);
     for plan in plans {
-        insts.push(Shared::of(alloc, inst(alloc, plan)?)?)?;
+        insts.push(Listed::of(alloc, inst(alloc, plan)?)?)?;
     }
-    Ok(Row::of(insts))
+    Ok(Parts::of(alloc, insts)?)
 }
 
 fn end(plan: &EndPlan) -> End
@@ -135,14 +135,14 @@ fn net(alloc: Global, plan: &NetPlan) -> Result<Net, Fail>
     })
 }
 
-fn nets(alloc: Global, plans: &[NetPlan]) -> Result<Row<Shared<Net>>, Fail>
+fn nets(alloc: Global, plans: &[NetPlan]) -> Result<Parts<Listed<Net>>, Fail>
     ensures { IfOk result (λ nets. nets ≡ map planned_net plans.now) }
 {
     let mut nets = Vec::new(alloc);
     for plan in plans {
-        nets.push(Shared::of(alloc, net(alloc, plan)?)?)?;
+        nets.push(Listed::of(alloc, net(alloc, plan)?)?)?;
     }
-    Ok(Row::of(nets))
+    Ok(Parts::of(alloc, nets)?)
 }
 
 fn contents(alloc: Global, plan: Option<Inside>) -> Result<Option<Contents>, Fail>

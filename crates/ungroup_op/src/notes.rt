@@ -28,7 +28,7 @@ pub(crate) fn cell_of_inst(contents: Option<&Contents>, name: &Ident) -> Option<
 {
     let contents = contents?;
     let place = inst_place(&contents.insts, name)?;
-    Some(contents.insts.as_slice()[place].of)
+    Some(contents.insts.at(place).of)
 }
 
 /// Whether a step is the instance of a cell.

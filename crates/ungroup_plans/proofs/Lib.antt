@@ -1,6 +1,8 @@
 pub mod BitLemmas
 pub mod Counts
 pub mod EndsLemmas
+pub mod FirstNets
+pub mod Firsts
 pub mod GroupedLemmas
 pub mod HeadLemmas
 pub mod InstLemmas

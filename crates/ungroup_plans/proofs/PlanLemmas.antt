@@ -1,23 +1,19 @@
 -- What is planned, or why nothing is.
-use Rattle.std.proofs.Common.{◌≡◌, ◌<◌, ◌≤◌, ◌+◌, ◌-◌, ℕ, zero, suc, arith, Bool, true, false, cond, List, [], ◌∷◌, ◌++◌, length, length-take, length-append, get_or, drop, map, take, min, Option, Some, None, Result, Ok, Err, slice_get, refl, sym, ap, subst, ◌∙◌}
-use Rattle.std.specs.Prelude.{is_none, option_and_then, option_map, slice_range}
+use Rattle.std.proofs.Common.{◌≡◌, ◌<◌, ◌+◌, ◌-◌, ℕ, zero, suc, arith, List, [], ◌∷◌, ◌++◌, length, length-take, get_or, drop, map, take, Option, Some, None, Ok, slice_get, refl, sym, ap, ◌∙◌}
+use Rattle.std.specs.Prelude.{is_none, option_and_then, option_map}
 use Rattle.std.specs.Option.{option_or}
-use Rattle.netlist_schema.specs.Design.{insts_in}
 use Rattle.netlist_schema.specs.Types.{Contents, Inst, Note}
 use Rattle.netlist_schema.proofs.Lists.{take_front, drop_front}
 use Rattle.edit_rules_spec.specs.Find.{inst_place}
-use Rattle.edit_rules_spec.specs.Rule.{first, is_leaf, no_inst, refuse}
-use Rattle.edit_rules_spec.specs.declared.reply.Reply.{Reply}
+use Rattle.edit_rules_spec.specs.Rule.{first, is_leaf, refuse}
 use Rattle.edit_rules_spec.specs.declared.reply.Reply.TheVariants.{IsLeaf, NoInst}
-use Rattle.ungroup_spec.specs.Dissolved.{children, contents_after, insts_after, inst_name, with_inst_name}
+use Rattle.ungroup_spec.specs.Dissolved.{children, insts_after, inst_name, with_inst_name}
 use Rattle.ungroup_spec.specs.Groups.{Site}
-use Rattle.ungroup_spec.specs.Names.{named_up}
 use Rattle.ungroup_spec.specs.Ungroup.{site_of}
 use Rattle.ungroup_plans.specs.Heads.{site}
 use Rattle.ungroup_plans.specs.Moved.{notes_moved}
 use Rattle.ungroup_plans.specs.Planned.{IsDissolved, IsMade, limits_of, refusals_of}
 use Rattle.ungroup_plans.specs.declared.plan.Ungrouped.{Ungrouped}
-use Rattle.ungroup_plans.proofs.Counts.{insts_count}
 use Rattle.ungroup_plans.proofs.Named.{length-named_up}
 
 -- ---- refusals
@@ -49,13 +45,12 @@ only_limits around name within place inst at is =
     ∙ ap (λ o. first (limits_of o)) (site_is around name within place inst at is)
 
 pub children_are : (around : Contents) (place : ℕ) (inst : Inst) (within : Contents) (insts found : List Inst) (count : ℕ) → place < length around.insts → count ≡ length within.insts
-    → insts ≡ insts_after (site around place inst within) → found ≡ slice_range insts place (place + count) → found ≡ children (site around place inst within)
+    → insts ≡ insts_after (site around place inst within) → found ≡ take count (drop place insts) → found ≡ children (site around place inst within)
 children_are around place inst within insts found count less count_is insts_is found_is =
     let s = site around place inst within in
     let front : length (take place around.insts) ≡ place = omega (arith, length-take place around.insts, less) in
     let long : length (children s) ≡ count = length-named_up inst_name with_inst_name inst.name (map (λ (i : Inst). i.name.id) around.insts) within.insts ∙ sym count_is in
-    let width : place + count - place ≡ count = omega arith in
-    found_is ∙ ap (λ n. take n (drop place insts)) width
+    found_is
     ∙ ap (λ v. take count (drop place v)) insts_is
     ∙ ap (λ n. take count (drop n (take place around.insts ++ (children s ++ drop (place + 1) around.insts)))) (sym front)
     ∙ ap (take count) (drop_front (take place around.insts) (children s ++ drop (place + 1) around.insts))
@@ -78,10 +73,3 @@ pub stands : (xs : List Inst) (k : ℕ) (d : Inst) → k < length xs → slice_g
 stands [] k d within = absurd (omega (arith, within))
 stands (x ∷ xs) zero d within = refl
 stands (x ∷ xs) (suc k) d within = stands xs k d (omega (arith, within))
-
--- the children have their places among the instances
-pub children_within : (around : Contents) (place : ℕ) (inst : Inst) (within : Contents) (contents : Contents) (count : ℕ) → place < length around.insts → count ≡ length within.insts
-    → contents ≡ contents_after (site around place inst within) → place + count ≤ length contents.insts
-children_within around place inst within contents count less count_is is =
-    let long : length contents.insts ≡ length around.insts - 1 + length within.insts = ap (λ (v : Contents). length v.insts) is ∙ insts_count around place inst within less in
-    omega (arith, long, less, count_is)

@@ -4,7 +4,7 @@ ghost use Rattle.std.specs.List.{flat_map};
 ghost use Rattle.netlist_schema.specs.declared.limits.TheConstants.{MOST_NETS};
 ghost use Rattle.ungroup_plans.specs.Bits.{bits_from, bits_of, is_there};
 
-use netlist_schema::{End, Net, NoMemory, Shared};
+use netlist_schema::{End, Listed, Net, NoMemory, Parts};
 use std::alloc::Global;
 
 /// A bit of a port, by the places of the two, from 0.
@@ -73,14 +73,15 @@ fn add_bits(
 /// The bits that nets join at an instance, or as the cell's own, net by net.
 pub(crate) fn joined_bits(
     alloc: Global,
-    nets: &[Shared<Net>],
+    nets: &Parts<Listed<Net>>,
     inst: Option<u32>,
 ) -> Result<Vec<JoinedBit>, NoMemory>
     requires few { length nets.now ≤ MOST_NETS }
     ensures { IfOk result (λ bits. bits.items ≡ bits_from inst 0 nets.now) }
 {
     let mut bits = Vec::new(alloc);
-    for (place, net) in nets.iter().enumerate() {
+    for place in 0..nets.len() {
+        let net = nets.at(place);
         add_bits(net.ends.as_slice(), inst, place as u32, &mut bits)?;
     }
     Ok(bits)

@@ -26,8 +26,8 @@ pub(crate) fn dissolved(
     requires place { place < length around.now.insts }
     ensures { (inst : InstType) → slice_get around.now.insts place ≡ Some inst → UnlessNoMemory (IsDissolved (site around.now place inst within.now)) result }
 {
-    let outer = around.insts.as_slice();
-    if let Some(refusal) = over_insts(outer.len(), within.insts.as_slice().len()) {
+    let outer = &around.insts;
+    if let Some(refusal) = over_insts(outer.len(), within.insts.len()) {
         return Err(OpError::Refused(refusal));
     }
     let grouped = group_nets(alloc, around, place, within)?;
@@ -35,7 +35,7 @@ pub(crate) fn dissolved(
         return Err(OpError::Refused(refusal));
     }
     let insts = insts_after(alloc, around, place, within)?;
-    let name = &outer[place as usize].name;
-    let nets = nets_after(alloc, around.nets.as_slice(), name, grouped)?;
+    let inst = outer.at(place as usize);
+    let nets = nets_after(alloc, &around.nets, &inst.name, grouped)?;
     Ok(Contents { insts, nets })
 }

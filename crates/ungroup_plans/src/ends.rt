@@ -8,7 +8,7 @@ ghost use Rattle.ungroup_spec.specs.Groups.{parts};
 ghost use Rattle.ungroup_plans.specs.Ends.{inner_ends, inner_up, outer_ends, outer_up};
 ghost use Rattle.ungroup_plans.specs.Heads.{AreSound, IsLow, site};
 
-use netlist_schema::{Contents, End, Net, NoMemory, Row, Shared};
+use netlist_schema::{Contents, End, Listed, Net, NoMemory, Parts, Row};
 use std::alloc::Global;
 
 /// The end of an outer net afterwards: none at the instance itself; behind it, as many places on as there are children, less one.
@@ -81,7 +81,7 @@ fn inner_ends(alloc: Global, ends: &[End], place: u32) -> Result<Row<End>, NoMem
 
 fn add_outer(
     alloc: Global,
-    nets: &[Shared<Net>],
+    nets: &Parts<Listed<Net>>,
     place: u32,
     children: u32,
     lists: &mut Vec<Row<End>>,
@@ -90,7 +90,8 @@ fn add_outer(
     requires few { children ≤ MOST_INSTS }
     ensures { OnOk result (lists.new.items ≡ lists.old.items ++ map (outer_ends place children) nets.now) }
 {
-    for net in nets {
+    for k in 0..nets.len() {
+        let net = nets.at(k);
         lists.push(outer_ends(alloc, net.ends.as_slice(), place, children)?)?;
     }
     Ok(())
@@ -98,7 +99,7 @@ fn add_outer(
 
 fn add_inner(
     alloc: Global,
-    nets: &[Shared<Net>],
+    nets: &Parts<Listed<Net>>,
     place: u32,
     lists: &mut Vec<Row<End>>,
 ) -> Result<(), NoMemory>
@@ -106,7 +107,8 @@ fn add_inner(
     requires place { place < MOST_INSTS }
     ensures { OnOk result (lists.new.items ≡ lists.old.items ++ map (inner_ends place) nets.now) }
 {
-    for net in nets {
+    for k in 0..nets.len() {
+        let net = nets.at(k);
         lists.push(inner_ends(alloc, net.ends.as_slice(), place)?)?;
     }
     Ok(())
@@ -125,9 +127,9 @@ pub(crate) fn list_ends(
     ensures long { IfOk result (λ lists. length lists.items ≡ length around.now.nets + length within.now.nets) }
     ensures ends { IfOk result (λ lists. (inst : Inst) → let s = site around.now place inst within.now in lists.items ≡ map (ends_up s) (parts s)) }
 {
-    let children = within.insts.as_slice().len() as u32;
+    let children = within.insts.len();
     let mut lists = Vec::new(alloc);
-    add_outer(alloc, around.nets.as_slice(), place, children, &mut lists)?;
-    add_inner(alloc, within.nets.as_slice(), place, &mut lists)?;
+    add_outer(alloc, &around.nets, place, children as u32, &mut lists)?;
+    add_inner(alloc, &within.nets, place, &mut lists)?;
     Ok(lists)
 }

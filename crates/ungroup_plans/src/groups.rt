@@ -7,7 +7,7 @@ ghost use Rattle.ungroup_plans.specs.Heads.{AreSound, site};
 use crate::ends::list_ends;
 use crate::heads::list_heads;
 use crate::lists::gather;
-use netlist_schema::{Contents, Copied, End, Net, NoMemory, Row, Shared};
+use netlist_schema::{Contents, Copied, End, Listed, Net, NoMemory, Parts, Row};
 use std::alloc::Global;
 
 /// The first nets of all groups, each with the ends of its group: those of the nets around the instance, without those on it, and
@@ -15,13 +15,13 @@ use std::alloc::Global;
 #[derive(Debug, Drop)]
 pub struct Grouped {
     /// Nets around the instance, in order. They stay.
-    pub kept: Row<Shared<Net>>,
+    pub kept: Row<Listed<Net>>,
     /// Nets within it, in order. They become new nets.
-    pub loose: Row<Shared<Net>>,
+    pub loose: Row<Listed<Net>>,
 }
 
 /// The net with other ends.
-fn with_ends(alloc: Global, net: &Shared<Net>, ends: &Row<End>) -> Result<Shared<Net>, NoMemory>
+fn with_ends(alloc: Global, net: &Listed<Net>, ends: &Row<End>) -> Result<Listed<Net>, NoMemory>
     ensures { IfOk result (λ made. made ≡ record net.now { ends = ends.now }) }
 {
     let net = net.get();
@@ -30,24 +30,25 @@ fn with_ends(alloc: Global, net: &Shared<Net>, ends: &Row<End>) -> Result<Shared
         ends: ends.copy(alloc)?,
         properties: net.properties.share()?,
     };
-    Shared::of(alloc, made)
+    Listed::of(alloc, made)
 }
 
 /// The nets whose numbers stand for themselves, with the ends that are listed for them. The first is numbered as that many.
 fn first_nets(
     alloc: Global,
-    nets: &[Shared<Net>],
+    nets: &Parts<Listed<Net>>,
     behind: usize,
     heads: &[u32],
     lists: &[Row<End>],
-) -> Result<Row<Shared<Net>>, NoMemory>
+) -> Result<Row<Listed<Net>>, NoMemory>
     requires heads { behind + length nets.now ≤ length heads.now }
     requires lists { length lists.now ≡ length heads.now }
     requires few { length heads.now < 2 ^ 32 }
     ensures { IfOk result (λ made. made ≡ first_nets behind heads.now lists.now nets.now) }
 {
     let mut made = Vec::new(alloc);
-    for (place, net) in nets.iter().enumerate() {
+    for place in 0..nets.len() {
+        let net = nets.at(place);
         let number = behind + place;
         if heads[number] as usize == number {
             made.push(with_ends(alloc, net, &lists[number])?)?;
@@ -75,9 +76,9 @@ pub(crate) fn group_nets(
     let heads = list_heads(alloc, around, place, within)?;
     let ends = list_ends(alloc, around, place, within)?;
     let lists = gather(alloc, heads.as_slice(), ends.as_slice())?;
-    let outer = around.nets.as_slice();
+    let outer = &around.nets;
     let kept = first_nets(alloc, outer, 0, heads.as_slice(), lists.as_slice())?;
-    let inner = within.nets.as_slice();
+    let inner = &within.nets;
     let loose = first_nets(
         alloc,
         inner,

@@ -25,12 +25,14 @@ pub(crate) fn list_heads(
     ensures long { IfOk result (λ heads. length heads.items ≡ length around.now.nets + length within.now.nets) }
     ensures low { IfOk result (λ heads. All (λ head. head < length heads.items) heads.items) }
 {
-    let behind = around.nets.as_slice().len() as u32;
-    let outer_bits = joined_bits(alloc, around.nets.as_slice(), Some(place))?;
+    let outer_count = around.nets.len();
+    let inner_count = within.nets.len();
+    let behind = outer_count as u32;
+    let outer_bits = joined_bits(alloc, &around.nets, Some(place))?;
     let outer = nets_by_bit(alloc, outer_bits.as_slice())?;
-    let inner = joined_bits(alloc, within.nets.as_slice(), None)?;
+    let inner = joined_bits(alloc, &within.nets, None)?;
     let links = list_links(alloc, &outer, inner.as_slice(), behind)?;
-    let count = behind + within.nets.as_slice().len() as u32;
+    let count = behind + inner_count as u32;
     let heads = least_joined(alloc, count, links.as_slice())?;
     Ok(heads)
 }

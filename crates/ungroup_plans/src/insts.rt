@@ -8,36 +8,47 @@ ghost use Rattle.ungroup_spec.specs.Dissolved.{insts_after, inst_name, with_inst
 ghost use Rattle.ungroup_spec.specs.Names.{named_up};
 
 use crate::taken::Taken;
-use netlist_schema::{Contents, Copied, Inst, Name, NoMemory, Row, Shared};
+use netlist_schema::{Contents, Copied, Each, Inst, Listed, Name, NoMemory, Parts};
 use std::alloc::Global;
 
 /// The names of instances, taken.
-fn taken_names(alloc: Global, insts: &[Shared<Inst>]) -> Result<Taken, NoMemory>
+fn taken_names(alloc: Global, insts: &Parts<Listed<Inst>>) -> Result<Taken, NoMemory>
     ensures { IfOk result (λ taken. IsOf taken (map (λ inst. inst.name.id) insts.now)) }
 {
     let mut taken = Taken::new(alloc);
-    for inst in insts {
-        taken.take(&inst.name.id)?;
+    for place in 0..insts.len() {
+        taken.take(&insts.at(place).name.id)?;
     }
     Ok(taken)
 }
 
-/// Adds equal instances.
-fn add_copies(
-    alloc: Global,
-    insts: &[Shared<Inst>],
-    made: &mut Vec<Shared<Inst>>,
-) -> Result<(), NoMemory>
-    ensures { OnOk result (made.new.items ≡ made.old.items ++ insts.now) }
+/// Adds the instances, shared.
+fn add_rest(insts: Each<'_, Listed<Inst>>, made: &mut Vec<Listed<Inst>>) -> Result<(), NoMemory>
+    ensures { OnOk result (made.new.items ≡ made.old.items ++ insts.entry) }
 {
     for inst in insts {
-        made.push(inst.copy(alloc)?)?;
+        made.push(inst.share()?)?;
+    }
+    Ok(())
+}
+
+/// Adds the instances before a place, shared.
+fn add_front(
+    insts: &Parts<Listed<Inst>>,
+    place: usize,
+    made: &mut Vec<Listed<Inst>>,
+) -> Result<(), NoMemory>
+    requires { place ≤ length insts.now }
+    ensures { OnOk result (made.new.items ≡ made.old.items ++ take place insts.now) }
+{
+    for k in 0..place {
+        made.push(insts.at(k).share()?)?;
     }
     Ok(())
 }
 
 /// The instance under a name.
-fn named(alloc: Global, name: Name, inst: &Shared<Inst>) -> Result<Shared<Inst>, NoMemory>
+fn named(alloc: Global, name: Name, inst: &Listed<Inst>) -> Result<Listed<Inst>, NoMemory>
     ensures { IfOk result (λ made. made ≡ with_inst_name name inst.now) }
 {
     let inst = inst.get();
@@ -47,7 +58,7 @@ fn named(alloc: Global, name: Name, inst: &Shared<Inst>) -> Result<Shared<Inst>,
         designator: inst.designator.copy(alloc)?,
         properties: inst.properties.copy(alloc)?,
     };
-    Shared::of(alloc, made)
+    Listed::of(alloc, made)
 }
 
 /// Adds the instances under the names that they get where they move up out of an instance with this name.
@@ -55,13 +66,14 @@ fn add_children(
     alloc: Global,
     taken: &mut Taken,
     inst: &Name,
-    children: &[Shared<Inst>],
-    made: &mut Vec<Shared<Inst>>,
+    children: &Parts<Listed<Inst>>,
+    made: &mut Vec<Listed<Inst>>,
 ) -> Result<(), NoMemory>
     ensures { OnOk result ((names : List (List ℕ)) → IsOf taken.old names → length names + length children.now < 2 ^ 62
         → made.new.items ≡ made.old.items ++ named_up inst_name with_inst_name names inst.now children.now) }
 {
-    for child in children {
+    for place in 0..children.len() {
+        let child = children.at(place);
         let name = taken.name_up(inst, &child.name)?;
         made.push(named(alloc, name, child)?)?;
     }
@@ -74,22 +86,21 @@ pub(crate) fn insts_after(
     around: &Contents,
     place: u32,
     within: &Contents,
-) -> Result<Row<Shared<Inst>>, NoMemory>
+) -> Result<Parts<Listed<Inst>>, NoMemory>
     requires around { length around.now.insts ≤ MOST_INSTS }
     requires within { length within.now.insts ≤ MOST_INSTS }
     requires place { place < length around.now.insts }
     ensures { IfOk result (λ made. (inst : InstType) → slice_get around.now.insts place ≡ Some inst → made ≡ insts_after (site around.now place inst within.now)) }
 {
-    let insts = around.insts.as_slice();
+    let insts = &around.insts;
     let place = place as usize;
     let mut taken = taken_names(alloc, insts)?;
-    let front = &insts[..place];
-    let name = &insts[place].name;
-    let behind = &insts[place + 1..];
-    let children = within.insts.as_slice();
+    let inst = insts.at(place);
+    let children = &within.insts;
     let mut made = Vec::new(alloc);
-    add_copies(alloc, front, &mut made)?;
-    add_children(alloc, &mut taken, name, children, &mut made)?;
-    add_copies(alloc, behind, &mut made)?;
-    Ok(Row::of(made))
+    add_front(insts, place, &mut made)?;
+    add_children(alloc, &mut taken, &inst.name, children, &mut made)?;
+    add_rest(insts.iter_from(place + 1), &mut made)?;
+    let after = Parts::of(alloc, made)?;
+    Ok(after)
 }

@@ -6,10 +6,10 @@ ghost use Rattle.edit_rules_spec.specs.Rule.{first, refuse};
 
 use crate::groups::Grouped;
 use edit_spec::Reply;
-use netlist_schema::{MOST_ENDS, MOST_INSTS, MOST_NETS, Net, Shared};
+use netlist_schema::{Listed, MOST_ENDS, MOST_INSTS, MOST_NETS, Net};
 
 /// The ends of nets, added to a count; the greatest number of 64 bits stands for more.
-fn count_ends(nets: &[Shared<Net>], count: u64) -> u64
+fn count_ends(nets: &[Listed<Net>], count: u64) -> u64
     ensures { result ≡ min (count + length (flat_map (λ net. net.ends) nets.now)) (2 ^ 64 - 1) }
 {
     let mut count = count;

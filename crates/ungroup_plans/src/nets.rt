@@ -9,22 +9,22 @@ ghost use Rattle.ungroup_spec.specs.Names.{named_up};
 
 use crate::groups::Grouped;
 use crate::taken::Taken;
-use netlist_schema::{Copied, Name, Net, NoMemory, Row, Shared};
+use netlist_schema::{Copied, Listed, Name, Net, NoMemory, Parts};
 use std::alloc::Global;
 
 /// The names of nets, taken.
-fn taken_names(alloc: Global, nets: &[Shared<Net>]) -> Result<Taken, NoMemory>
+fn taken_names(alloc: Global, nets: &Parts<Listed<Net>>) -> Result<Taken, NoMemory>
     ensures { IfOk result (λ taken. IsOf taken (map (λ net. net.name.id) nets.now)) }
 {
     let mut taken = Taken::new(alloc);
-    for net in nets {
-        taken.take(&net.name.id)?;
+    for place in 0..nets.len() {
+        taken.take(&nets.at(place).name.id)?;
     }
     Ok(taken)
 }
 
 /// The net under a name.
-fn named(alloc: Global, name: Name, net: &Shared<Net>) -> Result<Shared<Net>, NoMemory>
+fn named(alloc: Global, name: Name, net: &Listed<Net>) -> Result<Listed<Net>, NoMemory>
     ensures { IfOk result (λ made. made ≡ with_net_name name net.now) }
 {
     let net = net.get();
@@ -33,7 +33,7 @@ fn named(alloc: Global, name: Name, net: &Shared<Net>) -> Result<Shared<Net>, No
         ends: net.ends.copy(alloc)?,
         properties: net.properties.share()?,
     };
-    Shared::of(alloc, made)
+    Listed::of(alloc, made)
 }
 
 /// Adds the nets under the names that they get where they move up out of an instance with this name.
@@ -41,8 +41,8 @@ fn add_new(
     alloc: Global,
     taken: &mut Taken,
     inst: &Name,
-    nets: &[Shared<Net>],
-    made: &mut Vec<Shared<Net>>,
+    nets: &[Listed<Net>],
+    made: &mut Vec<Listed<Net>>,
 ) -> Result<(), NoMemory>
     ensures { OnOk result ((names : List (List ℕ)) → IsOf taken.old names → length names + length nets.now < 2 ^ 62
         → made.new.items ≡ made.old.items ++ named_up net_name with_net_name names inst.now nets.now) }
@@ -57,10 +57,10 @@ fn add_new(
 /// The nets afterwards: those that stay, and then the new ones under their new names.
 pub(crate) fn nets_after(
     alloc: Global,
-    around: &[Shared<Net>],
+    around: &Parts<Listed<Net>>,
     inst: &Name,
     grouped: Grouped,
-) -> Result<Row<Shared<Net>>, NoMemory>
+) -> Result<Parts<Listed<Net>>, NoMemory>
     requires around { length around.now ≤ MOST_NETS }
     requires loose { length grouped.loose ≤ MOST_NETS }
     ensures { IfOk result (λ made. (s : Site) → s.around.nets ≡ around.now → s.inst.name ≡ inst.now → AreGrouped s grouped → made ≡ nets_after s) }
@@ -69,5 +69,6 @@ pub(crate) fn nets_after(
     let mut taken = taken_names(alloc, around)?;
     let mut made = kept.into_vec();
     add_new(alloc, &mut taken, inst, loose.as_slice(), &mut made)?;
-    Ok(Row::of(made))
+    let after = Parts::of(alloc, made)?;
+    Ok(after)
 }

@@ -1,5 +1,5 @@
 //! The notes afterwards.
-ghost use Rattle.std.specs.Prelude.{◌≡◌, ◌≤◌, ◌++◌, List, ℕ, IfOk, OnOk, Some, is_some, length, nat_eq, option_to_list};
+ghost use Rattle.std.specs.Prelude.{◌≡◌, ◌≤◌, ◌++◌, List, ℕ, IfOk, OnOk, Some, is_some, length, nat_eq, option_to_list, take};
 ghost use Rattle.std.specs.Cmp.Lexicographic.{pointwise};
 ghost use Rattle.std.specs.List.{list_any};
 ghost use Rattle.edit_rules_spec.specs.Find.{inst_place};
@@ -10,14 +10,14 @@ ghost use Rattle.ungroup_plans.specs.Moved.{new_id, note_moved, notes_moved, pat
 
 use eco_reads::places_by_name;
 use indexmap::IndexMap;
-use netlist_schema::{Copied, Ident, Inst, NoMemory, Note, Row, Shared};
+use netlist_schema::{Copied, Each, Ident, Inst, Listed, NoMemory, Note, Parts, Row};
 use std::alloc::Global;
 
 /// The new identifier of a child: that of the instance now in its place.
 fn new_id(
     alloc: Global,
     places: &IndexMap<Ident, u32>,
-    children: &[Shared<Inst>],
+    children: &[Listed<Inst>],
     name: &Ident,
 ) -> Result<Ident, NoMemory>
     ensures { IfOk result (λ id. (within : List InstType) → ((q : List ℕ) → get (pointwise nat_eq) places.now q ≡ inst_place q within)
@@ -46,7 +46,7 @@ fn add_copies(alloc: Global, ids: &[Ident], made: &mut Vec<Ident>) -> Result<(),
 fn moved_path(
     alloc: Global,
     places: &IndexMap<Ident, u32>,
-    children: &[Shared<Inst>],
+    children: &[Listed<Inst>],
     path: &[Ident],
     place: usize,
 ) -> Result<Option<Row<Ident>>, NoMemory>
@@ -67,7 +67,7 @@ fn moved_path(
 fn moved_note(
     alloc: Global,
     places: &IndexMap<Ident, u32>,
-    children: &[Shared<Inst>],
+    children: &[Listed<Inst>],
     note: &Note,
     place: Option<usize>,
 ) -> Result<Option<Note>, NoMemory>
@@ -90,7 +90,7 @@ fn moved_note(
 fn add_moved(
     alloc: Global,
     places: &IndexMap<Ident, u32>,
-    children: &[Shared<Inst>],
+    children: &[Listed<Inst>],
     note: &Note,
     place: Option<usize>,
     made: &mut Vec<Note>,
@@ -112,23 +112,44 @@ fn has_place(places: &[Option<usize>]) -> bool
     places.iter().any(|place| place.is_some())
 }
 
-/// The notes afterwards, where the path of one goes through the instance: for each note stands the place of the step that is the
-/// instance, if there is one. A note whose path ends there is gone; any other path has that step and the one behind it as one.
+/// The first so many of the instances, shared.
+fn first_insts(
+    alloc: Global,
+    insts: Each<'_, Listed<Inst>>,
+    count: usize,
+) -> Result<Vec<Listed<Inst>>, NoMemory>
+    ensures { IfOk result (λ made. made.items ≡ take count insts.entry) }
+{
+    let mut made = Vec::new(alloc);
+    for inst in insts {
+        if made.len() >= count {
+            return Ok(made);
+        }
+        made.push(inst.share()?)?;
+    }
+    Ok(made)
+}
+
+/// The notes afterwards, where the path of one goes through the instance, in whose place the children stand first among those that are
+/// given: for each note stands the place of the step that is the instance, if there is one. A note whose path ends there is gone; any other
+/// path has that step and the one behind it as one.
 pub(crate) fn moved_notes(
     alloc: Global,
     notes: &[Note],
     places: &[Option<usize>],
-    within: &[Shared<Inst>],
-    children: &[Shared<Inst>],
+    within: &Parts<Listed<Inst>>,
+    behind: Each<'_, Listed<Inst>>,
 ) -> Result<Option<Row<Note>>, NoMemory>
     requires few { length within.now ≤ MOST_INSTS }
     requires long { length places.now ≡ length notes.now }
-    ensures { IfOk result (λ made. made ≡ notes_moved within.now children.now notes.now places.now) }
+    ensures { IfOk result (λ made. made ≡ notes_moved within.now (take (length within.now) behind.entry) notes.now places.now) }
 {
     if !has_place(places) {
         return Ok(None);
     }
     let by_name = places_by_name(alloc, within)?;
+    let kids = first_insts(alloc, behind, within.len())?;
+    let children = kids.as_slice();
     let mut made = Vec::new(alloc);
     for (k, note) in notes.iter().enumerate() {
         add_moved(alloc, &by_name, children, note, places[k], &mut made)?;

@@ -47,8 +47,7 @@ pub fn plan_ungroup(
         return Err(OpError::Refused(Reply::IsLeaf));
     };
     let contents = dissolved(alloc, around, place as u32, within)?;
-    let inner = within.insts.as_slice();
-    let children = &contents.insts.as_slice()[place..place + inner.len()];
-    let notes = moved_notes(alloc, notes, places, inner, children)?;
+    let children = contents.insts.iter_from(place);
+    let notes = moved_notes(alloc, notes, places, &within.insts, children)?;
     Ok(Ungrouped { contents, notes })
 }

@@ -29,14 +29,10 @@ length-steps : (n : ℕ) (insts : List Inst) → length (map step_of (enumerate_
 length-steps n [] = refl
 length-steps n (x ∷ insts) = ap suc (length-steps (n + 1) insts)
 
-pub steps_long : (insts : List Inst) (i : ℕ) (steps : List Step) → i ≤ length insts → steps ≡ steps_of (take i insts) → length steps ≤ length insts
-steps_long insts i steps within is =
+pub steps_count : (insts : List Inst) (i : ℕ) (steps : List Step) → i ≤ length insts → steps ≡ steps_of (take i insts) → i ≡ length steps
+steps_count insts i steps within is =
     let same : length steps ≡ length (take i insts) = ap (λ l. length l) is ∙ length-steps 0 (take i insts) in
-    let few = taken i insts in
-    omega (arith, same, few)
-  where
-    taken : (n : ℕ) (xs : List Inst) → length (take n xs) ≤ length xs
-    taken n xs = omega (arith, length-take n xs)
+    omega (arith, same, length-take i insts)
 
 pub steps_more : (insts : List Inst) (i : ℕ) (inst : Inst) (old new : List Step) (place : ℕ) → i < length insts → inst ≡ get_or insts i inst → old ≡ steps_of (take i insts)
     → place ≡ length old → new ≡ old ++ record { place = place; of = inst.of } ∷ [] → new ≡ steps_of (take (i + 1) insts)

@@ -23,7 +23,7 @@ fn step_of(contents: Option<&Contents>, name: &Ident) -> Option<Step>
     let place = inst_place(&contents.insts, name)?;
     Some(Step {
         place: place as u32,
-        of: contents.insts.as_slice()[place].of,
+        of: contents.insts.at(place).of,
     })
 }
 

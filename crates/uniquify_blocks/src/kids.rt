@@ -12,21 +12,20 @@ ghost use Rattle.uniquify_blocks.specs.Kids.{kids_of, steps_of};
 use crate::read::read_cell;
 use crate::step::step_at;
 use edit_cells::Cells;
-use netlist_schema::{CellId, Contents, Inst, NoMemory, Row, Shared};
+use netlist_schema::{CellId, Contents, Inst, Listed, NoMemory, Parts, Row};
 use std::alloc::Global;
 use uniquify_copies::Step;
 
 /// The instances of a list, with their places.
-fn steps_of(alloc: Global, insts: &Row<Shared<Inst>>) -> Result<Vec<Step>, NoMemory>
+fn steps_of(alloc: Global, insts: &Parts<Listed<Inst>>) -> Result<Vec<Step>, NoMemory>
     requires { length insts.now ≤ MOST_INSTS }
     ensures { IfOk result (λ steps. steps.items ≡ steps_of insts.now) }
 {
     let mut steps = Vec::new(alloc);
-    for inst in insts.as_slice() {
-        let place = steps.len();
+    for place in 0..insts.len() {
         steps.push(Step {
             place: place as u32,
-            of: inst.of,
+            of: insts.at(place).of,
         })?;
     }
     Ok(steps)

@@ -12,29 +12,29 @@ ghost use Rattle.uniquify_copies.specs.Seats.{copies_of, seats};
 use crate::look::contents_of;
 use crate::spot::{Spot, cell_of};
 use edit_cells::Cells;
-use netlist_schema::{CellId, Contents, Copied, Inst, NoMemory, Row, Shared};
+use netlist_schema::{CellId, Contents, Copied, Inst, Listed, NoMemory, Parts, Row};
 use std::alloc::Global;
 
 /// Turns the instance at a place to a cell, where there is one.
 #[tactic(auto, using(edit_cells::proofs::Patches::changed_at_end, edit_cells::proofs::Patches::changed_at_place))]
 fn turn_inst(
     alloc: Global,
-    insts: &mut Vec<Shared<Inst>>,
+    insts: &mut Parts<Listed<Inst>>,
     place: usize,
     id: CellId,
 ) -> Result<(), NoMemory>
-    ensures { OnOk result (insts.new.items ≡ changed_at (λ inst. record inst { of = id }) place insts.old.items) }
+    ensures { OnOk result (insts.new ≡ changed_at (λ inst. record inst { of = id }) place insts.old) }
 {
     if place >= insts.len() {
         return Ok(());
     }
-    let turned = inst_of(alloc, &insts[place], id)?;
-    insts[place] = turned;
+    let turned = inst_of(alloc, insts.at(place), id)?;
+    insts.put(alloc, place, turned)?;
     Ok(())
 }
 
 /// The instance, of another cell.
-fn inst_of(alloc: Global, inst: &Shared<Inst>, id: CellId) -> Result<Shared<Inst>, NoMemory>
+fn inst_of(alloc: Global, inst: &Listed<Inst>, id: CellId) -> Result<Listed<Inst>, NoMemory>
     ensures { IfOk result (λ made. made ≡ record inst.now { of = id }) }
 {
     let inst = inst.get();
@@ -44,7 +44,7 @@ fn inst_of(alloc: Global, inst: &Shared<Inst>, id: CellId) -> Result<Shared<Inst
         designator: inst.designator.copy(alloc)?,
         properties: inst.properties.copy(alloc)?,
     };
-    Shared::of(alloc, made)
+    Listed::of(alloc, made)
 }
 
 /// The contents with the instance at a place turned to a cell.
@@ -57,12 +57,9 @@ fn turned_to(
     ensures { IfOk result (λ made. made ≡ turned_to place id contents) }
 {
     let Contents { insts, nets } = contents;
-    let mut insts = insts.into_vec();
+    let mut insts = insts;
     turn_inst(alloc, &mut insts, place as usize, id)?;
-    Ok(Contents {
-        insts: Row::of(insts),
-        nets,
-    })
+    Ok(Contents { insts, nets })
 }
 
 /// No contents, so many times.

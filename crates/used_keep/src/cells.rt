@@ -6,8 +6,8 @@ ghost use Rattle.used_keep.specs.Places.{insts_by, libs_by, row_at};
 
 use crate::places::Places;
 use netlist_schema::{
-    CellBody, CellId, Contents, Copied, Inst, Lib, LibHead, LibId, NoMemory, Row, Shared, Shown,
-    TopHead,
+    CellBody, CellId, Contents, Copied, Inst, Lib, LibHead, LibId, Listed, NoMemory, Parts, Row,
+    Shared, Shown, TopHead,
 };
 use std::alloc::Global;
 
@@ -25,29 +25,30 @@ fn new_inst(alloc: Global, places: &Places, inst: &Inst) -> Result<Inst, NoMemor
 
 /// An instance with its cell by the new id: the same one where that is its id already.
 #[tactic(auto, using(crate::proofs::Placing::inst_stays))]
-fn kept_inst(alloc: Global, places: &Places, inst: &Shared<Inst>) -> Result<Shared<Inst>, NoMemory>
+fn kept_inst(alloc: Global, places: &Places, inst: &Listed<Inst>) -> Result<Listed<Inst>, NoMemory>
     ensures { IfOk result (λ made. made ≡ new_inst places.now inst.now) }
 {
     if places.new_id(inst.of) == inst.of {
         return inst.share();
     }
     let made = new_inst(alloc, places, inst)?;
-    Shared::of(alloc, made)
+    Listed::of(alloc, made)
 }
 
 /// Copies of instances, each so.
 fn new_insts(
     alloc: Global,
     places: &Places,
-    insts: &[Shared<Inst>],
-) -> Result<Row<Shared<Inst>>, NoMemory>
+    insts: &Parts<Listed<Inst>>,
+) -> Result<Parts<Listed<Inst>>, NoMemory>
     ensures { IfOk result (λ made. made ≡ insts_by places.now insts.now) }
 {
     let mut made = Vec::new(alloc);
-    for inst in insts {
+    for inst in insts.iter() {
         made.push(kept_inst(alloc, places, inst)?)?;
     }
-    Ok(Row::of(made))
+    let kept = Parts::of(alloc, made)?;
+    Ok(kept)
 }
 
 /// A copy of what is inside a cell, where there is anything, with its instances so.
@@ -60,7 +61,7 @@ fn new_contents(
 {
     match contents {
         Some(inside) => {
-            let insts = new_insts(alloc, places, inside.insts.as_slice())?;
+            let insts = new_insts(alloc, places, &inside.insts)?;
             let nets = inside.nets.copy(alloc)?;
             Ok(Some(Shared::of(alloc, Contents { insts, nets })?))
         }

@@ -5,7 +5,7 @@ ghost use Rattle.used_spec.specs.Uses.{all_placed, count_in, ids_of, placed_in, 
 ghost use Rattle.where_used.specs.Index.{HasAdded, blank_index, blank_row, with_use, with_use_in};
 
 use flat_lookup::insts_at;
-use netlist_schema::{CellId, Inst, LibId, NoMemory, Row, Shared, Shown};
+use netlist_schema::{CellId, Inst, LibId, Listed, NoMemory, PartsRef, Row, Shown};
 use std::alloc::Global;
 use used_spec::UsedAt;
 
@@ -72,7 +72,7 @@ fn add_insts(
     alloc: Global,
     index: &mut Vec<Row<Row<UsedAt>>>,
     cell: CellId,
-    insts: &[Shared<Inst>],
+    insts: &PartsRef<'_, Listed<Inst>>,
 ) -> Result<(), NoMemory>
     requires { length insts.now ≤ MOST_INSTS }
     ensures { OnOk result (HasAdded index.old.items index.new.items (placed_in cell insts.now)) }
@@ -82,7 +82,7 @@ fn add_insts(
             cell,
             inst: place as u32,
         };
-        add_use(alloc, index, insts[place].of, at)?;
+        add_use(alloc, index, insts.at(place).of, at)?;
     }
     Ok(())
 }
@@ -101,7 +101,7 @@ fn add_library<S: Shown>(
             lib: LibId(lib),
             slot,
         };
-        add_insts(alloc, index, cell, insts_at(design, cell))?;
+        add_insts(alloc, index, cell, &insts_at(design, cell))?;
     }
     Ok(())
 }

@@ -215,7 +215,7 @@ fn is_blank(body: &CellBody) -> bool
     ensures { IsTrue result → insts_of body.now ≡ [] }
 {
     match &body.contents {
-        Some(contents) => contents.insts.as_slice().is_empty(),
+        Some(contents) => contents.insts.is_empty(),
         None => true,
     }
 }
@@ -279,7 +279,7 @@ fn refill_in(
 ) -> Result<Option<Refill>, NoMemory>
     ensures { IfOk result (λ found. IfSome found (λ refill. (refill.cell ≡ cell) × AreMoves (insts_at design.now cell) contents.now.insts refill.places.items)) }
 {
-    match moves_of(alloc, insts_at(design, cell), contents.insts.as_slice())? {
+    match moves_of(alloc, &insts_at(design, cell), &contents.insts.lent())? {
         Some(places) => Ok(Some(Refill { cell, places })),
         None => Ok(None),
     }

@@ -5,7 +5,7 @@ ghost use Rattle.used_spec.specs.declared.used_at.UsedAt.{UsedAt as Use};
 ghost use Rattle.where_used.specs.Moves.{AreMoves, cell_of, drop_new, drop_old, is_same, move_at, moves, put_new, use_at, with_news, without_olds};
 
 use crate::used::Used;
-use netlist_schema::{CellId, Inst, NoMemory, Shared};
+use netlist_schema::{CellId, Inst, Listed, NoMemory, PartsRef};
 use std::alloc::Global;
 use used_spec::UsedAt;
 
@@ -43,7 +43,7 @@ fn is_same(old: Option<CellId>, new: Option<CellId>) -> bool
 }
 
 /// The cell of the instance at a place, where there is one.
-fn cell_of(insts: &[Shared<Inst>], place: u32) -> Option<CellId>
+fn cell_of(insts: &PartsRef<'_, Listed<Inst>>, place: u32) -> Option<CellId>
     ensures { result ≡ cell_of insts.now place }
 {
     match insts.get(place as usize) {
@@ -71,8 +71,8 @@ fn add_move(
 /// Those among the first so many places whose instances change their cells, where they are not too many.
 fn few_moves(
     alloc: Global,
-    olds: &[Shared<Inst>],
-    news: &[Shared<Inst>],
+    olds: &PartsRef<'_, Listed<Inst>>,
+    news: &PartsRef<'_, Listed<Inst>>,
     count: u32,
 ) -> Result<Option<Vec<Move>>, NoMemory>
     ensures { IfOk result (λ found. IfSome found (λ all. all.items ≡ moves olds.now news.now count)) }
@@ -100,8 +100,8 @@ fn greater(a: usize, b: usize) -> usize
 /// The places whose instances change their cells, where they are not too many.
 pub fn moves_of(
     alloc: Global,
-    olds: &[Shared<Inst>],
-    news: &[Shared<Inst>],
+    olds: &PartsRef<'_, Listed<Inst>>,
+    news: &PartsRef<'_, Listed<Inst>>,
 ) -> Result<Option<Vec<Move>>, NoMemory>
     ensures { IfOk result (λ found. IfSome found (λ all. AreMoves olds.now news.now all.items)) }
 {

@@ -1,7 +1,5 @@
-use Rattle.std.proofs.Common.{◌≡◌, ℕ, Option, Some, drop, length, ap, ◌∙◌, arith}
+use Rattle.std.proofs.Common.{◌≡◌, ℕ, Option, Some, drop, ap, ◌∙◌}
 use Rattle.std.specs.Prelude.{option_map, unwrap_or}
-use Rattle.std.specs.List.{between}
-use Rattle.std.proofs.lemmas.Slice.{between_to_end}
 use Rattle.netlist_schema.specs.Types.{CellBody}
 use Rattle.bus_members.specs.Widths.{ports_among, width_from}
 use Rattle.netlist_bus_spec.specs.Runs.{run_width}
@@ -13,8 +11,8 @@ returns g c =
     let own = c.as_slice.ensures in
     let insts = c.insts_of.ensures in
     let nets = c.nets_of-nets.ensures in
-    let listed = c.nets_of-nets.result.now in
-    let rest : between c.args.net (length listed) listed ≡ drop c.args.net listed = between_to_end listed c.args.net (length listed) (omega arith) in
-    let same : c.run_from.result ≡ F (Some c.in-Some.body.now) = c.run_from.ensures ∙ (ap (run_width (ports_among (g.S.Shown.design c.args.design.now) c.as_slice.result.now c.insts_of.result.now)) rest
+    let listed = c.nets_of-nets.result in
+    let rest : c.iter_from.result ≡ drop c.args.net listed = c.iter_from.ensures in
+    let same : c.run_from.result ≡ F (Some c.in-Some.body.now) = c.run_from.ensures ∙ (ap (run_width (ports_among (g.S.Shown.design c.args.design.now) c.as_slice.result.now c.insts_of.result)) rest
     ∙ (λ j. run_width (ports_among (g.S.Shown.design c.args.design.now) (own j) (insts j)) (drop c.args.net (nets j)))) in
     same ∙ ap F c.in-Some.ensures.value

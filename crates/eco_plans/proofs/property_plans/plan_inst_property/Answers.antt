@@ -1,4 +1,4 @@
-use Rattle.std.proofs.Common.{List, get_or, sym, ap, ◌∙◌}
+use Rattle.std.proofs.Common.{sym, ap, ◌∙◌}
 use Rattle.std.specs.Option.{option_copied}
 use Rattle.netlist_schema.specs.Types.{Inst}
 use Rattle.edit_spec.specs.SetProp.{set_property}
@@ -7,6 +7,6 @@ use Rattle.eco_plans.proofs.property_plans.plan_inst_property.Goals as goal
 
 pub returns : goal.returns
 returns c =
-    inst_planned (option_copied c.args.contents) c.in-Some.contents.now c.args.inst.now c.args.property.now c.in-Some-inst_place.place c.index-as_slice-place.result c.in_ok-inst.inst
+    inst_planned (option_copied c.args.contents) c.in-Some.contents.now c.args.inst.now c.args.property.now c.in-Some-inst_place.place c.at.result.now c.in_ok-inst.inst
     (ap option_copied c.in-Some.is) (sym c.in-Some-inst_place.ensures.value) c.in-Some-inst_place.ensures.within
-    (c.in_ok-inst.ensures ∙ ap (λ (old : Inst). record old { properties = set_property c.args.property.now old.properties }) (c.deref.ensures ∙ c.index-as_slice-place.is ∙ ap (λ (xs : List Inst). get_or xs c.in-Some-inst_place.place c.index-as_slice-place.result) c.as_slice.ensures))
+    (c.in_ok-inst.ensures ∙ ap (λ (old : Inst). record old { properties = set_property c.args.property.now old.properties }) (c.deref.ensures ∙ c.at.ensures.is))

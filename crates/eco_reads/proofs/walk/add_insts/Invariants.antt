@@ -4,8 +4,8 @@ use Rattle.eco_reads.specs.Walk.{GoesOn, IsListed}
 use Rattle.eco_reads.proofs.walk.add_insts.Given as goal
 
 -- the cells of the instances so far stand on the list, and so does what was seen
-abbrev pub invariant-loop-inst : goal.invariant-loop-inst
-invariant-loop-inst l = record {
+abbrev pub invariant-loop-place : goal.invariant-loop-place
+invariant-loop-place l = record {
   listed : IsListed l.seen.keys l.order.items;
-  grows : GoesOn l.fn.order.items l.order.items (Contains (map (λ inst. inst.of) (take l.inst-index l.inst-items)));
+  grows : GoesOn l.fn.order.items l.order.items (Contains (map (λ inst. inst.of) (take l.place l.insts)));
 }

@@ -35,4 +35,4 @@ returns-in_err-check_names c =
     (λ f b. names_fail s ts list f c.in_ok-list.ensures b) c.in_err-check_names.ensures
 
 pub returns : goal.returns
-returns c = rw c.into_nets.ensures (nets_end c.args.around.now (all c.args.inner) c.in_ok-list.list c.in_ok-list.ensures c.in_ok-check_ends.ensures c.in_ok-check_names.ensures)
+returns c = rw c.in_ok-nets.ensures (nets_end c.args.around.now (all c.args.inner) c.in_ok-list.list c.in_ok-list.ensures c.in_ok-check_ends.ensures c.in_ok-check_names.ensures)

@@ -8,7 +8,7 @@ returns g c =
     let d = g.S.Shown.design c.args.around.now.design.now in
     let nets = c.args.nets.now in
     let ports = ports_of_end d.libs c.args.around.now.own.now c.args.around.now.insts.now in
-    let width = width_there d c.args.around.now.own.now c.as_slice.result.now c.args.around.now.insts.now c.as_slice-2.result.now nets c.run_from.result c.as_slice.ensures c.as_slice-2.ensures c.run_from.ensures in
+    let width = width_there d c.args.around.now.own.now c.as_slice.result.now c.args.around.now.insts.now c.lent.result nets c.run_from.result c.as_slice.ensures c.lent.ensures c.run_from.ensures in
     let least = width_least ports nets in
     let most = width_most ports nets c.requires in
     record { width = width; least = omega (arith, width, least); most = omega (arith, width, most) }

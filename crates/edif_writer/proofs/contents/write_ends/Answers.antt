@@ -22,7 +22,7 @@ loop-end-preserved g c level =
     let same : end ≡ get_or ends i end = sym (get_or_from_slice_get ends i end end (slice_get-get_or ends i none c.loop-end-test.true)) in
     let tree : End → Bare = λ e. end_tree (g.S.Shown.design around.design.now).libs around.own.now around.insts.now c.args.array (stretch_of c.args.array e) in
     writes_same (one_more (λ t. 32 ∷ layout (suc level) t) tree ends i end c.loop-end-test.true same)
-    (writes_then (c.loop-end.invariant level) (writes_then c.put.ensures (c.write_end.ensures (suc level))))
+    (writes_then (c.loop-end.invariant level) (c.write_end.ensures (suc level)))
 
 pub returns : goal.returns
 returns g c level =

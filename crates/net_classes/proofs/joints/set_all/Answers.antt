@@ -7,7 +7,7 @@ pub loop-place-preserved : goal.loop-place-preserved
 loop-place-preserved c = record {
   long = c.set_own.ensures.long ∙ c.loop-place.invariant.long;
   own = own_more c.args.starts.now c.args.nets.now c.loop-place.place c.deref.result.now c.as_slice.result.now c.loop-place.own c.set_own.new.own
-      c.loop-place-test.true (subst (λ (net : Net). net ≡ get_or c.args.nets.now c.loop-place.place net) (sym c.deref.ensures) c.index-nets-place.is)
+      (omega arith) (subst (λ (net : Net). net ≡ get_or c.args.nets.now c.loop-place.place net) (sym c.deref.ensures) c.at-net.ensures.is)
       c.as_slice.ensures c.set_own.ensures.long c.loop-place.invariant.own c.set_own.ensures.set;
 }
 

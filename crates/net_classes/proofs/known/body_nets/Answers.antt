@@ -16,7 +16,7 @@ use Rattle.net_classes.proofs.known.body_nets.Goals as goal
 pub list_firsts-requires-clause-joints : goal.list_firsts-requires-clause-joints
 list_firsts-requires-clause-joints g c =
     subst
-    (λ (v : List Joint). (j : Joint) → (Contains v j → IsJointIn c.nets_at-nets.result.now j) × (IsJointIn c.nets_at-nets.result.now j → Contains v j))
+    (λ (v : List Joint). (j : Joint) → (Contains v j → IsJointIn c.nets_at-nets.result j) × (IsJointIn c.nets_at-nets.result j → Contains v j))
     (sym c.as_slice-2.ensures.value) c.in_ok-joints.ensures.each
 
 pub returns : goal.returns
@@ -24,11 +24,11 @@ returns g c = λ done valid known children.
     let d = g.S.Shown.design c.args.design.now in
     let cell = c.args.cell in
     let facts : Facts = map (λ row. map facts_of row.items) c.args.cells.now in
-    let nets_are : c.nets_at-nets.result.now ≡ nets_at d cell = c.nets_at-nets.ensures.value in
+    let nets_are : c.nets_at-nets.result ≡ nets_at d cell = c.nets_at-nets.ensures.value in
     let own : AreOwn c.in_ok-starts.starts.items (nets_at d cell) (length (nets_at d cell)) c.in_ok-own.own.items =
     subst (λ v. AreOwn c.in_ok-starts.starts.items v (length v) c.in_ok-own.own.items) nets_are
-    (subst (λ v. AreOwn v c.nets_at-nets.result.now (length c.nets_at-nets.result.now) c.in_ok-own.own.items) c.as_slice.ensures.value c.in_ok-own.ensures.own) in
-    let tells : TellsFirsts d cell (inside_in facts c.insts_at-insts.result.now) =
+    (subst (λ v. AreOwn v c.nets_at-nets.result (length c.nets_at-nets.result) c.in_ok-own.own.items) c.as_slice.ensures.value c.in_ok-own.ensures.own) in
+    let tells : TellsFirsts d cell (inside_in facts c.insts_at-insts.result) =
     subst (λ v. TellsFirsts d cell (inside_in facts v)) (sym c.insts_at-insts.ensures.value) (tells_firsts d valid cell done facts known children) in
     let firsts : (n : ℕ) → n < length (nets_at d cell) → IsFirstInside d cell n (get_or c.in_ok-firsts.firsts.items n 0) =
     λ n less. c.in_ok-firsts.ensures.firsts d cell valid nets_are tells n (subst (λ v. n < length v) (sym nets_are) less) in

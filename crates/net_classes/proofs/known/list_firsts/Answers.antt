@@ -1,4 +1,4 @@
-use Rattle.std.proofs.Common.{length, subst, sym}
+use Rattle.std.proofs.Common.{ℕ, length, subst, sym}
 use Rattle.std.specs.Prelude.{map}
 use Rattle.std.specs.List.{All}
 use Rattle.std.proofs.lemmas.Result.{IfOk-weaker}
@@ -11,8 +11,9 @@ use Rattle.net_classes.proofs.known.list_firsts.Goals as goal
 pub least_joined-requires : goal.least_joined-requires
 least_joined-requires c =
     let facts : Facts = map (λ row. map facts_of row.items) c.args.cells.now in
-    subst (λ v. All (IsWithin (length c.args.nets.now)) v) (sym c.as_slice.ensures.value)
-    (pairs_within facts c.args.insts.now c.args.nets.now c.args.joints.now c.requires.joints c.in_ok-links.links.items c.in_ok-links.ensures)
+    subst (λ (n : ℕ). All (IsWithin n) c.as_slice.result.now) (sym c.len.ensures)
+    (subst (λ v. All (IsWithin (length c.args.nets.now)) v) (sym c.as_slice.ensures.value)
+    (pairs_within facts c.args.insts.now c.args.nets.now c.args.joints.now c.requires.joints c.in_ok-links.links.items c.in_ok-links.ensures))
 
 pub returns-clause-firsts : goal.returns-clause-firsts
 returns-clause-firsts c =
@@ -20,9 +21,10 @@ returns-clause-firsts c =
     IfOk-weaker c.least_joined.result _ _
     (λ firsts least d cell valid are tells n inside.
     firsts_inside facts c.args.insts.now c.args.nets.now c.args.joints.now c.requires.joints d cell are c.in_ok-links.links.items firsts.items
-    c.in_ok-links.ensures (subst (λ v. AreLeastJoined (length c.args.nets.now) v firsts.items) c.as_slice.ensures.value least) valid tells n inside)
+    c.in_ok-links.ensures (subst (λ v. AreLeastJoined (length c.args.nets.now) v firsts.items) c.as_slice.ensures.value
+    (subst (λ (n : ℕ). AreLeastJoined n c.as_slice.result.now firsts.items) c.len.ensures least)) valid tells n inside)
     c.least_joined.ensures
 
 pub returns-clause-within : goal.returns-clause-within
 returns-clause-within c =
-    IfOk-weaker c.least_joined.result _ _ (λ firsts least. least_within (length c.args.nets.now) c.as_slice.result.now firsts.items least) c.least_joined.ensures
+    IfOk-weaker c.least_joined.result _ _ (λ firsts least. least_within c.len.result c.as_slice.result.now firsts.items least) c.least_joined.ensures

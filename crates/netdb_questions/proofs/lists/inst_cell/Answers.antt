@@ -10,7 +10,7 @@ returns-in-Some-clause-found c =
 
 pub returns-in-Some-clause-room : goal.returns-in-Some-clause-room
 returns-in-Some-clause-room c = λ is.
-    let within = slice_get_within c.insts_there-insts.result.now c.args.place c.in-Some.inst.now (sym c.in-Some.ensures) in
+    let within = slice_get_within c.insts_there-insts.result c.args.place c.in-Some.inst.now (sym c.in-Some.ensures) in
     omega (arith, within, c.insts_there-insts.ensures.limit)
 
 pub returns-in-None-clause-found : goal.returns-in-None-clause-found

@@ -1,4 +1,4 @@
-use Rattle.std.proofs.Common.{length, subst, ◌∙◌}
+use Rattle.std.proofs.Common.{subst, ◌∙◌}
 use Rattle.ungroup_plans.specs.Grouped.{first_nets}
 use Rattle.ungroup_plans.specs.Heads.{site}
 use Rattle.ungroup_plans.specs.Lists.{AreGathered}
@@ -14,5 +14,5 @@ returns c = λ inst.
     let made : Grouped = record { kept = c.in_ok-kept.kept; loose = c.in_ok-loose.loose } in
     grouped_are (site c.args.around.now c.args.place inst c.args.within.now) heads ends lists made (c.in_ok-heads.ensures.heads inst) (c.in_ok-ends.ensures.ends inst)
     (subst (λ v. AreGathered heads v lists) c.as_slice-2.ensures.value (subst (λ v. AreGathered v c.as_slice-2.result.now lists) c.as_slice.ensures.value c.in_ok-lists.ensures))
-    (c.in_ok-kept.ensures ∙ (λ i. first_nets 0 (c.as_slice-3.ensures.value i) (c.as_slice-4.ensures.value i) (c.as_slice-outer.ensures i)))
-    (c.in_ok-loose.ensures ∙ (λ i. first_nets (length (c.as_slice-outer.ensures i)) (c.as_slice-5.ensures.value i) (c.as_slice-6.ensures.value i) (c.as_slice-inner.ensures i)))
+    (c.in_ok-kept.ensures ∙ (λ i. first_nets 0 (c.as_slice-3.ensures.value i) (c.as_slice-4.ensures.value i) c.args.around.now.nets))
+    (c.in_ok-loose.ensures ∙ (λ i. first_nets (c.len.ensures i) (c.as_slice-5.ensures.value i) (c.as_slice-6.ensures.value i) c.args.within.now.nets))

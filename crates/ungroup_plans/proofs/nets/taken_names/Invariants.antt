@@ -2,5 +2,5 @@ use Rattle.std.proofs.Common.{map, take}
 use Rattle.ungroup_plans.specs.Taken.{IsOf}
 use Rattle.ungroup_plans.proofs.nets.taken_names.Given as goal
 
-abbrev pub invariant-loop-net : goal.invariant-loop-net
-invariant-loop-net l = IsOf l.taken (map (λ net. net.name.id) (take l.net-index l.nets))
+abbrev pub invariant-loop-place : goal.invariant-loop-place
+invariant-loop-place l = IsOf l.taken (map (λ net. net.name.id) (take l.place l.nets))

@@ -1,25 +1,13 @@
-use Rattle.std.proofs.Common.{◌≤◌, ◌+◌, List, length, get_or, subst, ap, refl, sym, ◌∙◌, Ok, Some}
-use Rattle.std.specs.Prelude.{slice_range}
+use Rattle.std.proofs.Common.{List, length, get_or, drop, take, ap, refl, ◌∙◌, Ok, Some}
 use Rattle.netlist_schema.specs.Types.{Contents, Inst}
 use Rattle.ungroup_plans.specs.Heads.{site}
 use Rattle.ungroup_plans.proofs.HeadLemmas.{no_inst}
 use Rattle.ungroup_plans.specs.Moved.{notes_moved}
 use Rattle.ungroup_plans.specs.Planned.{IsDissolved, IsPlanned}
 use Rattle.ungroup_plans.specs.declared.plan.Ungrouped.{Ungrouped}
-use Rattle.ungroup_plans.proofs.PlanLemmas.{children_are, children_within, made_is, only_limits, stands}
+use Rattle.ungroup_plans.proofs.PlanLemmas.{children_are, made_is, only_limits, stands}
 use Rattle.eco_reads.proofs.Outcomes.{handed_on}
 use Rattle.ungroup_plans.proofs.plan.plan_ungroup.Goals as goal
-
-pub slice_bounds-children-end : goal.slice_bounds-children-end
-slice_bounds-children-end c =
-    let around = c.in-Some.around.now in
-    let within = c.in-Some-within.within in
-    let place = c.in-Some-inst_place.place in
-    let inst : Inst = get_or around.insts place no_inst in
-    let at = stands around.insts place no_inst c.in-Some-inst_place.ensures.within in
-    let done : IsDissolved (site around place inst within) (Ok c.in_ok-contents.contents) = c.in_ok-contents.ensures inst at in
-    subst (λ n. place + length c.as_slice-inner.result.now ≤ n) (sym (ap length c.as_slice.ensures))
-    (children_within around place inst within c.in_ok-contents.contents (length c.as_slice-inner.result.now) c.in-Some-inst_place.ensures.within (ap length c.as_slice-inner.ensures) done.1)
 
 pub returns : goal.returns
 returns c =
@@ -30,12 +18,12 @@ returns c =
     let at = stands around.insts place no_inst c.in-Some-inst_place.ensures.within in
     let done : IsDissolved (site around place inst within) (Ok c.in_ok-contents.contents) = c.in_ok-contents.ensures inst at in
     let made : Ungrouped = record { contents = c.in_ok-contents.contents; notes = c.in_ok-notes.notes } in
-    let kids : List Inst = slice_range c.as_slice.result.now place (place + length c.as_slice-inner.result.now) in
+    let after = c.in_ok-contents.contents.insts in
+    let kids : List Inst = take (length within.insts) (drop place after) in
     rw (c.in-Some.is, c.in-Some-within.is)
     (made_is around c.args.inst.now within place inst c.args.notes.now c.args.places.now made kids c.in-Some-inst_place.ensures.value at done
-    (children_are around place inst within c.as_slice.result.now kids (length c.as_slice-inner.result.now) c.in-Some-inst_place.ensures.within (ap length c.as_slice-inner.ensures)
-    (c.as_slice.ensures ∙ ap (λ (v : Contents). v.insts) done.1) refl)
-    (c.in_ok-notes.ensures ∙ ap (λ v. notes_moved v kids c.args.notes.now c.args.places.now) c.as_slice-inner.ensures))
+    (children_are around place inst within after kids (length within.insts) c.in-Some-inst_place.ensures.within refl (ap (λ (v : Contents). v.insts) done.1) refl)
+    (c.in_ok-notes.ensures ∙ ap (λ v. notes_moved within.insts (take (length within.insts) v) c.args.notes.now c.args.places.now) c.iter_from-children.ensures))
 
 pub returns-in_err-contents : goal.returns-in_err-contents
 returns-in_err-contents c =

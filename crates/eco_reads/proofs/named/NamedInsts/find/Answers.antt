@@ -19,9 +19,9 @@ returns-in-Some-clause-found c = λ d here named.
 pub returns-clause-found : goal.returns-clause-found
 returns-clause-found c = λ d here named.
     cell_of_place c.args.insts.now c.args.name.now _ _
-    (c.copied-place.ensures ∙ c.get-2.ensures.value ∙ c.in_ok-places.ensures c.args.name.now ∙ ap (inst_place c.args.name.now) c.as_slice.ensures) c.cell_at_place-2.ensures
+    (c.copied-place.ensures ∙ c.get-2.ensures.value ∙ c.in_ok-places.ensures c.args.name.now) c.cell_at_place-2.ensures
 
 pub returns-clause-named : goal.returns-clause-named
 returns-clause-named c = λ d here named.
     one_cell_more (λ cell places. (name : List ℕ) → get (pointwise nat_eq) places name ≡ inst_place name (insts_at d cell)) c.args.cell (by_order.get cell_cmp c.args.self.now.cells) (by_order.get cell_cmp c.insert.new.self)
-    c.in_ok-places.places c.in_ok-insert.ensures.updates.0 (λ name. c.in_ok-places.ensures name ∙ ap (inst_place name) (c.as_slice.ensures ∙ here)) named
+    c.in_ok-places.places c.in_ok-insert.ensures.updates.0 (λ name. c.in_ok-places.ensures name ∙ ap (inst_place name) here) named

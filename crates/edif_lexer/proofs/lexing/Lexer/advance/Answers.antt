@@ -1,4 +1,4 @@
-use Rattle.std.proofs.Common.{◌≡◌, [], take, length, refl, sym, subst, append-nil}
+use Rattle.std.proofs.Common.{◌≡◌, [], take, length, sym, subst, append-nil}
 use Rattle.std.proofs.lemmas.Result.{err_from_is_err_and}
 use Rattle.std.proofs.lemmas.List.{length-take-le}
 use Rattle.edif_lexer.specs.Reading.{Reading}
@@ -16,5 +16,5 @@ returns-then-passed-gt0-clause-read c =
 pub returns-in_err-word_before-clause-read : goal.returns-in_err-word_before-clause-read
 returns-in_err-word_before-clause-read c =
     let next = c.in_err-word_before.ensures in
-    let p = err_from_is_err_and c.from_residual.result c.from_residual.ensures.1 in
+    let p = err_from_is_err_and c.from_residual-in_err-word_before.result c.from_residual-in_err-word_before.ensures.1 in
     (next.0, next.1, rw (p.1, p.2) (more_stops c.args.self.now c.args.rest.now c.whole-word.result next.0 c.in_err-word_before.field-0.0 (c.whole-word.ensures.within c.if-word-gt0.true) next.2))

@@ -1,6 +1,6 @@
 use Rattle.std.proofs.Common.{sym, ap, ◌∙◌, nat_eq, true, false, Some, cond, is_some}
 use Rattle.indexmap.specs.IndexMap.{get}
-use Rattle.edif_names.specs.Folded.{hash_of}
+use Rattle.netlist_schema.specs.Marks.{hash_of}
 use Rattle.edif_names.specs.declared.folded.Spot.{Spot}
 use Rattle.edif_names.proofs.FoldedLemmas.{added_alone, added_beside}
 use Rattle.edif_names.proofs.folded.Folded.add.Goals as goal

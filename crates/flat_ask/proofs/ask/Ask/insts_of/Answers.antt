@@ -5,7 +5,7 @@ use Rattle.netlist_schema.specs.Hierarchy.{insts_at}
 use Rattle.netlist_schema.specs.Types.{CellId}
 use Rattle.flat_ask.proofs.ask.Ask.insts_of.Goals as goal
 
-pub returns-in-Some : goal.returns-in-Some
-returns-in-Some g c =
+pub returns : goal.returns
+returns g c =
     let same : g.S.Shown.design c.get.result.now.design ≡ c.args.self.now = rw c.get.ensures c.self.view_is in
     c.insts_at.ensures.value ∙ ap (λ (d : Design). insts_at d c.in-Some.cell) same ∙ ap (λ (o : Option CellId). option_map_or (insts_at c.args.self.now) o []) c.in-Some.ensures

@@ -23,8 +23,8 @@ returns-in-Some-first_unwritten-clause-placed g c =
     let found : IsFirstUnwritten c.args.lib.0 (flag old) (insts_of c.in-Some.body.now) c.args.cell.from from =
     subst (λ (is : List Inst). IsFirstUnwritten c.args.lib.0 (flag old) is c.args.cell.from from) c.insts_of-insts.ensures c.in-Some-first_unwritten.ensures.some in
     let inst : c.deref.result.now ≡ found.inst =
-    c.deref.ensures ∙ c.index-insts-from.is ∙ ap (λ (is : List Inst). get_or is from c.index-insts-from.result) c.insts_of-insts.ensures
-    ∙ get_or_from_slice_get (insts_of c.in-Some.body.now) from found.inst c.index-insts-from.result found.there in
+    c.deref.ensures ∙ c.at.ensures.is ∙ ap (λ (is : List Inst). get_or is from c.at.result.now) c.insts_of-insts.ensures
+    ∙ get_or_from_slice_get (insts_of c.in-Some.body.now) from found.inst c.at.result.now found.there in
     when_ok c.park.result c.park.ensures.waiting (λ moved done pending h.
     made_wait c.args.lib.0 cells done c.args.cell pending c.in-Some.body.now found.inst from (flag old) (has old) (flag new) (has new) (waits old) (waits new)
     (sym c.in-Some.ensures.value) found.there found.missing found.earlier

@@ -1,7 +1,7 @@
 use Rattle.std.proofs.Common.{◌≡◌, drop, map}
 use Rattle.std.specs.Char.{to_ascii_lowercase}
-use Rattle.edif_names.specs.Folded.{hash_from}
-use Rattle.edif_names.proofs.folded.hash_of.Given as goal
+use Rattle.netlist_schema.specs.Marks.{hash_from}
+use Rattle.netlist_schema.proofs.marks.hash_of.Given as goal
 
 -- the bytes that are left make the rest
 abbrev pub invariant-loop-byte : goal.invariant-loop-byte
