@@ -1,38 +1,45 @@
--- A step of a walk, and the line of what it shows.
-use Rattle.std.proofs.Common.{◌≡◌, ℕ, Bool, true, false, List, [], ◌∷◌, Option, Some, sym, ap, ◌∙◌, if◌then◌else◌, drop, get_or}
-use Rattle.std.specs.Option.{option_map, option_map_or}
+-- A step of a walk, and what is shown behind it.
+use Rattle.std.proofs.Common.{◌≡◌, ◌≢◌, List, [], ◌∷◌, Option, Some, None, drop, slice_get, refl, subst, sym, ap, ◌∙◌}
 use Rattle.db_version.specs.Shot.{Shot}
-use Rattle.flat_lines_spec.specs.Lines.{item_line}
 use Rattle.flat_spec.specs.Types.{Item}
-use Rattle.netlist_schema.specs.Design.{Design}
 use Rattle.occ_walk.specs.Walk.{Rest}
 use Rattle.netdb_view.specs.Facts.{ViewFacts}
-use Rattle.netdb_view.specs.Walking.{Shows}
+use Rattle.netdb_view.specs.Showing.{HasGone, left_at, shown_at}
+use Rattle.netdb_view.specs.Walking.{Shows, StepsOn}
+use Rattle.netdb_view.specs.declared.view.Showing.{Showing}
+use Rattle.netdb_view.specs.declared.view.Step.{Step}
+use Rattle.netdb_view.specs.declared.view.Step.TheVariants as step
 
--- where the first item of a walk is kept, and the walk passes over it, it is shown, and the others are left
-pub shows_first : (old : ViewFacts) (version : Shot) (walk : Option Rest) (was kept : Option Item) (w next : Rest) (item : Item)
-    → record { version = version; left = option_map (λ (r : Rest). r.left) walk; shown = was } ≡ old
-    → walk ≡ Some w → w.left ≡ item ∷ next.left → kept ≡ Some item
-    → Shows old (record { version = version; left = Some next.left; shown = kept })
-shows_first old version walk was kept w next item is there first shown = record {
-  item = item;
-  others = next.left;
-  was = sym (ap (λ (v : ViewFacts). v.left) is)
-      ∙ (ap (λ (o : Option Rest). option_map (λ (r : Rest). r.left) o) there ∙ ap (λ (items : List Item). Some items) first);
-  is = ap (λ (v : ViewFacts). record { version = v.version; left = Some next.left; shown = kept }) is
-      ∙ ap (λ (o : Option Item). record { version = old.version; left = Some next.left; shown = o }) shown;
+-- what a view shows is what its three parts are
+same_view : (a b : ViewFacts) → a.version ≡ b.version → a.left ≡ b.left → a.shown ≡ b.shown → a ≡ b
+same_view a b version left shown = λ i. record { version = version i; left = left i; shown = shown i }
+
+-- where items are left, the first of them is shown ahead
+pub shows_ahead : (old : ViewFacts) (version : Shot) (items : List Item) → old.version ≡ version → old.left ≡ Some items → items ≢ []
+    → Shows old (record { version = version; left = Some (drop 1 items); shown = slice_get items 0 })
+shows_ahead old version [] same was some = absurd (some refl)
+shows_ahead old version (x ∷ xs) same was some = record {
+  item = x;
+  others = xs;
+  was = was;
+  is = ap (λ (v : Shot). record { version = v; left = Some xs; shown = Some x }) (sym same);
 }
 
--- two items with which a list begins are one
-pub one_first : (items : List Item) (a b : Item) → items ≡ a ∷ drop 1 items → items ≡ b ∷ drop 1 items → a ≡ b
-one_first items a b first second = ap (λ (l : List Item). get_or l 0 a) (sym first ∙ second)
-
--- a line that was said is that of the item that is shown, in the design that is shown
-pub line_said : (d w : Design) (item first : Item) (shown : Option Item) (text : List ℕ) (said : Bool) → w ≡ d → said ≡ true
-    → text ≡ (if said then item_line w item else []) → item ≡ first → shown ≡ Some first → text ≡ option_map_or (item_line d) shown []
-line_said d w item first shown text said same is told one there = told ∙ ap (λ (b : Bool). if b then item_line w item else []) is
-    ∙ ap (λ (e : Design). item_line e item) same ∙ ap (λ (i : Item). item_line d i) one ∙ ap (λ (o : Option Item). option_map_or (item_line d) o []) (sym there)
-
--- one that was not is empty
-pub line_lost : (w : Design) (item : Item) (text : List ℕ) (said : Bool) → said ≡ false → text ≡ (if said then item_line w item else []) → text ≡ []
-line_lost w item text said is told = told ∙ ap (λ (b : Bool). if b then item_line w item else []) is
+-- a walk that has passed over what is shown goes on
+pub steps : (old : ViewFacts) (version : Shot) (w : Rest) (kept : Option Item) (before after : Showing) (r : Step)
+    → old.version ≡ version → old.left ≡ Some w.left → old.shown ≡ shown_at before (Some w) kept → left_at before w ≡ w.left
+    → HasGone w before after r → StepsOn old (record { version = version; left = Some (left_at after w); shown = shown_at after (Some w) kept }) r
+steps old version w kept before after step.Shown same was shown passed gone =
+    subst (λ (s : Showing). Shows old (record { version = version; left = Some (left_at s w); shown = shown_at s (Some w) kept })) (sym gone.0)
+    (shows_ahead old version w.left same was gone.2)
+steps old version w kept before after step.End same was shown passed gone = (
+  was ∙ ap Some gone.1,
+  same_view (record { version = version; left = Some (left_at after w); shown = shown_at after (Some w) kept }) (record { version = old.version; left = Some []; shown = None })
+      (sym same) (ap (λ (s : Showing). Some (left_at s w)) gone.0 ∙ ap Some gone.1) (ap (λ (s : Showing). shown_at s (Some w) kept) gone.0),
+)
+steps old version w kept before after step.NoMemory same was shown passed gone = (
+  same_view (record { version = version; left = Some (left_at after w); shown = shown_at after (Some w) kept }) old
+      (sym same) (ap (λ (s : Showing). Some (left_at s w)) gone ∙ ap Some passed ∙ sym was) (ap (λ (s : Showing). shown_at s (Some w) kept) gone ∙ sym shown),
+  λ none. absurd (cc (sym was ∙ none)),
+)
+steps old version w kept before after step.NoWalk same was shown passed gone = absurd gone

@@ -1,4 +1,5 @@
 pub mod Facts
 pub mod Fields
 pub mod Kept
+pub mod Showing
 pub mod Walking

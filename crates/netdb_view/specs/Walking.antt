@@ -1,7 +1,6 @@
 -- What a walk of a view shows.
-use Rattle.std.specs.Prelude.{◌≡◌, ◌≢◌, ℕ, Bool, List, [], ◌∷◌, Option, Some, None, Result, Ok, Err, drop, if◌then◌else◌}
+use Rattle.std.specs.Prelude.{◌≡◌, ◌≢◌, ℕ, List, [], ◌∷◌, Some, None, Result, Ok, Err}
 use Rattle.std.specs.Option.{option_map_or}
-use Rattle.netlist_schema.specs.Design.{Design}
 use Rattle.flat_lines_spec.specs.Lines.{item_line}
 use Rattle.flat_spec.specs.Flattening.{flattening}
 use Rattle.flat_spec.specs.Paths.{cell_below_top}
@@ -59,11 +58,3 @@ StepsOnto old new before after line.Lost = StepsOn old new step.Shown × (after 
 StepsOnto old new before after line.End = StepsOn old new step.End × (after ≡ before)
 StepsOnto old new before after line.NoWalk = StepsOn old new step.NoWalk × (after ≡ before)
 StepsOnto old new before after line.NoMemory = StepsOn old new step.NoMemory × (after ≡ before)
-
--- the text is the line of the first item, where it was said; else it is empty
-abbrev pub IsSaid : Design → List Item → List ℕ → Bool → Type 0
-IsSaid design items text said = (item : Item) × (items ≡ item ∷ drop 1 items) × (text ≡ (if said then item_line design item else []))
-
--- the first of the items is shown
-abbrev pub IsShown : List Item → Option Item → Type 0
-IsShown items shown = (item : Item) × (items ≡ item ∷ drop 1 items) × (shown ≡ Some item)

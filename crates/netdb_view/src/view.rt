@@ -1,9 +1,10 @@
 //! `View`: a version, and a walk over it.
-ghost use Rattle.std.specs.Prelude.{◌≡◌, ◌≢◌, ◌++◌, None, OnErr, OnOk, IfNone, IfSome, false};
+ghost use Rattle.std.specs.Prelude.{◌≡◌, ◌≢◌, ◌++◌, [], None, OnErr, OnOk, IfNone, IfSome, Ok, drop, false, slice_get, true};
 ghost use Rattle.flat_lines_spec.specs.Lines.{item_line};
 ghost use Rattle.std.specs.Option.{option_map};
 ghost use Rattle.flat_items.specs.Lent.{item_of};
-ghost use Rattle.netdb_view.specs.Walking.{Begins, BeginsAt, IsSaid, IsShown, StepsOn, StepsOnto};
+ghost use Rattle.netdb_view.specs.Showing.{HasGone};
+ghost use Rattle.netdb_view.specs.Walking.{Begins, BeginsAt, StepsOn, StepsOnto};
 
 use crate::kept::{Kept, keep};
 use edit_tx::Snapshot;
@@ -59,13 +60,28 @@ pub enum LineStep {
     NoMemory,
 }
 
+/// Where the item that is shown stands.
+#[derive(Clone, Copy, Debug)]
+enum Showing {
+    /// None is shown.
+    Nothing,
+    /// It is the walk's next item.
+    Ahead,
+    /// The walk has passed over it, and it is kept.
+    Passed,
+}
+
 /// A version of a design, with a walk over its flattening where one was begun. It stays readable when the database is gone and when the
 /// version is dropped there. Contracts see the version, the items that are left, and the item that is shown.
+///
+/// The walk passes over the item that is shown when the next one is asked for. An item behind which the walk goes on to another occurrence
+/// is kept first, since there may be no memory for that.
 pub struct View {
     alloc: Global,
     version: Snapshot,
     walk: Option<Walk<Snapshot>>,
-    shown: Option<Kept>,
+    showing: Showing,
+    kept: Option<Kept>,
 }
 
 impl Drop for View {
@@ -74,7 +90,8 @@ impl Drop for View {
             alloc: _,
             version: _,
             walk: _,
-            shown: _,
+            showing: _,
+            kept: _,
         } = self;
     }
 }
@@ -83,43 +100,59 @@ impl Model for View {
     ghost use Rattle.std.specs.Prelude.{◌≡◌, IfSome};
     ghost use Rattle.std.specs.Option.{option_map};
     ghost use Rattle.netdb_view.specs.Facts.{ViewFacts};
+    ghost use Rattle.netdb_view.specs.Showing.{MayShow, left_at, shown_at};
 
     ghost Value = { ViewFacts };
 
-    ghost view = { λ v. record { version = v.version; left = option_map (λ w. w.left) v.walk; shown = v.shown } };
+    ghost view = { λ v. record { version = v.version; left = option_map (left_at v.showing) v.walk; shown = shown_at v.showing v.walk v.kept } };
 
-    ghost invariant = { λ v. IfSome v.walk (λ w. w.design ≡ v.version.design) };
+    ghost invariant = { λ v. IfSome v.walk (λ w. w.design ≡ v.version.design) × MayShow v.showing v.walk };
 }
 
-/// Makes the text the line of the item to which a walk has gone on: whether there was memory for it. Else the text is empty.
-fn say_ahead<S: Shown + Drop>(alloc: Global, walk: &Walk<S>, text: &mut Vec<u8>) -> bool
-    requires { walk.now.over ≡ false }
-    ensures { IsSaid walk.now.design walk.now.left text.new.items result }
-{
-    text.clear();
-    let Some(item) = walk.text() else {
-        unreachable!()
-    };
-    match text_line(alloc, walk.design(), item, text) {
-        Ok(()) => true,
-        Err(NoMemory) => false,
-    }
-}
-
-/// Keeps the item to which a walk has gone on. At an error nothing was changed.
-fn keep_ahead<S: Shown + Drop>(
+/// Passes over the item that is shown: whether the next one stands in the same occurrence. Else the item is kept. At an error the walk was
+/// not changed.
+fn pass<S: Shown + Drop>(
     alloc: Global,
-    walk: &Walk<S>,
-    shown: &mut Option<Kept>,
-) -> Result<(), NoMemory>
-    requires { walk.now.over ≡ false }
-    ensures ok { OnOk result (IsShown walk.now.left shown.new) }
-    ensures err { OnErr result (shown.new ≡ shown.old) }
+    walk: &mut Walk<S>,
+    kept: &mut Option<Kept>,
+) -> Result<bool, NoMemory>
+    requires { walk.old.over ≡ false }
+    ensures design { walk.new.design ≡ walk.old.design }
+    ensures within { result ≡ Ok true → (walk.new.left ≡ drop 1 walk.old.left) × (walk.new.over ≡ false) × (walk.new.left ≢ []) }
+    ensures passed { result ≡ Ok false → (walk.new.left ≡ drop 1 walk.old.left) × (kept.new ≡ slice_get walk.old.left 0) }
+    ensures err { OnErr result (walk.new ≡ walk.old) }
 {
+    if walk.skip_within() {
+        let Some(_) = walk.current() else {
+            unreachable!()
+        };
+        return Ok(true);
+    }
     let Some(item) = walk.current() else {
         unreachable!()
     };
-    keep(alloc, shown, item)
+    keep(alloc, kept, item)?;
+    walk.skip();
+    Ok(false)
+}
+
+/// Goes on to the next item of a walk that has passed over the one that is shown.
+fn go_on<S: Shown + Drop>(walk: &mut Walk<S>, showing: &mut Showing) -> Step
+    ensures design { walk.new.design ≡ walk.old.design }
+    ensures left { walk.new.left ≡ walk.old.left }
+    ensures went { HasGone walk.new showing.old showing.new result }
+{
+    match walk.advance() {
+        Ok(true) => {
+            *showing = Showing::Ahead;
+            Step::Shown
+        }
+        Ok(false) => {
+            *showing = Showing::Nothing;
+            Step::End
+        }
+        Err(NoMemory) => Step::NoMemory,
+    }
 }
 
 impl View {
@@ -131,7 +164,8 @@ impl View {
             alloc,
             version,
             walk: None,
-            shown: None,
+            showing: Showing::Nothing,
+            kept: None,
         }
     }
 
@@ -162,7 +196,7 @@ impl View {
             return Err(WalkError::NoMemory);
         };
         self.walk = Some(walk);
-        self.shown = None;
+        self.showing = Showing::Nothing;
         Ok(())
     }
 
@@ -187,7 +221,7 @@ impl View {
             return Err(BeginError::NoMemory);
         };
         self.walk = Some(walk);
-        self.shown = None;
+        self.showing = Showing::Nothing;
         Ok(())
     }
 
@@ -199,56 +233,51 @@ impl View {
         let Some(walk) = &mut self.walk else {
             return Step::NoWalk;
         };
-        match walk.advance() {
-            Ok(true) => {}
-            Ok(false) => {
-                self.shown = None;
-                return Step::End;
-            }
-            Err(NoMemory) => return Step::NoMemory,
+        match self.showing {
+            Showing::Ahead => match pass(self.alloc, walk, &mut self.kept) {
+                Ok(true) => Step::Shown,
+                Ok(false) => {
+                    self.showing = Showing::Passed;
+                    go_on(walk, &mut self.showing)
+                }
+                Err(NoMemory) => Step::NoMemory,
+            },
+            Showing::Nothing | Showing::Passed => go_on(walk, &mut self.showing),
         }
-        let Ok(()) = keep_ahead(self.alloc, walk, &mut self.shown) else {
-            return Step::NoMemory;
-        };
-        walk.skip();
-        Step::Shown
     }
 
     /// Shows the next item of the walk, as `next` does, and makes the text its line; where there is no memory for the line the text is
-    /// empty. Where no item comes to be shown the text is left as it is. It is faster than `next` and `line`, since the walk keeps the
-    /// texts of paths.
+    /// empty. Where no item comes to be shown the text is left as it is.
     pub fn next_line(&mut self, text: &mut Vec<u8>) -> LineStep
         ensures { StepsOnto self.old self.new text.old.items text.new.items result }
     {
-        let Some(walk) = &mut self.walk else {
-            return LineStep::NoWalk;
-        };
-        match walk.advance() {
-            Ok(true) => {}
-            Ok(false) => {
-                self.shown = None;
-                return LineStep::End;
-            }
-            Err(NoMemory) => return LineStep::NoMemory,
+        match self.next() {
+            Step::Shown => {}
+            Step::End => return LineStep::End,
+            Step::NoWalk => return LineStep::NoWalk,
+            Step::NoMemory => return LineStep::NoMemory,
         }
-        let Ok(()) = keep_ahead(self.alloc, walk, &mut self.shown) else {
-            return LineStep::NoMemory;
-        };
-        let said = say_ahead(self.alloc, walk, text);
-        walk.skip();
-        if said {
-            return LineStep::Shown;
+        text.clear();
+        match self.line(text) {
+            Ok(()) => LineStep::Shown,
+            Err(NoMemory) => LineStep::Lost,
         }
-        LineStep::Lost
     }
 
     /// Lends the item that is shown. Takes no memory.
     pub fn shown(&self) -> Option<ItemRef<'_>>
         ensures { option_map item_of result ≡ self.now.shown }
     {
-        match &self.shown {
-            Some(kept) => Some(kept.lent()),
-            None => None,
+        match self.showing {
+            Showing::Nothing => None,
+            Showing::Ahead => match &self.walk {
+                Some(walk) => walk.current(),
+                None => None,
+            },
+            Showing::Passed => match &self.kept {
+                Some(kept) => Some(kept.lent()),
+                None => None,
+            },
         }
     }
 
@@ -259,6 +288,15 @@ impl View {
         ensures ok { IfSome self.now.shown (λ item. OnOk result (out.new.items ≡ out.old.items ++ item_line self.now.version.design item)) }
         ensures err { OnErr result ((out.new.items ≡ out.old.items) × (self.now.shown ≢ None)) }
     {
+        if let Showing::Ahead = self.showing {
+            let Some(walk) = &self.walk else {
+                unreachable!()
+            };
+            let Some(line) = walk.text() else {
+                unreachable!()
+            };
+            return text_line(self.alloc, walk.design(), line, out);
+        }
         match self.shown() {
             Some(item) => lent_text(self.alloc, &self.version, item, out),
             None => Ok(()),

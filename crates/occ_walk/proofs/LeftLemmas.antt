@@ -8,7 +8,7 @@ use Rattle.netlist_schema.specs.Design.{Design}
 use Rattle.netlist_schema.specs.Hierarchy.{insts_at}
 use Rattle.netlist_schema.specs.Types.{CellId, Inst}
 use Rattle.netlist_schema.specs.Valid.{IsValid}
-use Rattle.netlist_schema.specs.declared.memory.NoMemory.{NoMemory}
+use Rattle.netlist_pages.specs.declared.memory.NoMemory.{NoMemory}
 use Rattle.netlist_schema.proofs.Lists.{drop_past, drop_next}
 use Rattle.flat_spec.specs.Below.{items_under}
 use Rattle.flat_spec.specs.Flattening.{flattening}

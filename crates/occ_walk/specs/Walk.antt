@@ -1,7 +1,7 @@
 -- A walk as its callers see it.
 use Rattle.std.specs.Prelude.{◌≡◌, List, [], ◌∷◌, Option, Some, None, Result, Ok, Err, Bool, true, false, drop}
 use Rattle.netlist_schema.specs.Design.{Design}
-use Rattle.netlist_schema.specs.declared.memory.NoMemory.{NoMemory}
+use Rattle.netlist_pages.specs.declared.memory.NoMemory.{NoMemory}
 use Rattle.flat_spec.specs.Types.{Item}
 use Rattle.flat_items.specs.Lent.{item_of}
 use Rattle.flat_items.specs.Texts.{IsFirstItem}

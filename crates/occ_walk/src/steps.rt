@@ -81,6 +81,24 @@ pub fn skip<S: Shown + Drop>(ground: &Ground<S>, place: &mut Place)
     place.stage = stage_behind(ground, place);
 }
 
+/// Passes over the next item of the occurrence where another one follows it there: whether one does. Else nothing is changed.
+#[inline(always)]
+pub fn skip_within<S: Shown + Drop>(ground: &Ground<S>, place: &mut Place) -> bool
+    requires ground { IsGround (S.design ground.now.design) ground.now.classes ground.now.notes }
+    requires stands { MayStand (S.design ground.now.design) (stand_of place.old) }
+    ensures stands { MayStand (S.design ground.now.design) (stand_of place.new) }
+    ensures passed { result ≡ true → HasPassed (S.design ground.now.design) (stand_of place.old) (stand_of place.new) }
+    ensures ahead { result ≡ true → is_over place.new.stage ≡ false }
+    ensures stays { result ≡ false → stand_of place.new ≡ stand_of place.old }
+{
+    let stage = stage_behind(ground, place);
+    if stage.is_over() {
+        return false;
+    }
+    place.stage = stage;
+    true
+}
+
 /// Gives the next item of the occurrence, where one is left.
 fn give<S: Shown + Drop>(ground: &Ground<S>, place: &mut Place) -> Result<Option<Item>, NoMemory>
     requires ground { IsGround (S.design ground.now.design) ground.now.classes ground.now.notes }

@@ -8,7 +8,7 @@ ghost use Rattle.occ_walk.specs.Walk.{GivesNext, IsLent, IsSettled, IsTextLent};
 ghost use Rattle.flat_items.specs.Stand.{top_of};
 
 use crate::starts::{go_along, start};
-use crate::steps::{advance, current, next_item, skip, text};
+use crate::steps::{advance, current, next_item, skip, skip_within, text};
 use flat_items::{Ground, ItemRef, ItemText, Place};
 use flat_spec::{Item, Path};
 use netlist_schema::{CellId, NoMemory, Shown};
@@ -178,6 +178,18 @@ impl<S: Shown + Drop> Walk<S> {
         ensures stays { self.old.over ≡ true → self.new.left ≡ self.old.left }
     {
         skip(&self.ground, &mut self.place);
+    }
+
+    /// Passes over the next item where another one of the same occurrence follows it, which is the next one then: whether one does. Else
+    /// nothing is changed. It takes no memory.
+    #[inline(always)]
+    pub fn skip_within(&mut self) -> bool
+        ensures design { self.new.design ≡ self.old.design }
+        ensures passed { result ≡ true → self.old.over ≡ false → self.new.left ≡ drop 1 self.old.left }
+        ensures ahead { result ≡ true → self.new.over ≡ false }
+        ensures stays { result ≡ false → self.new ≡ self.old }
+    {
+        skip_within(&self.ground, &mut self.place)
     }
 }
 
