@@ -3,7 +3,7 @@ use Rattle.std.proofs.Common.{◌++◌, get_or, take, nat_lt, slice_set, ◌≤�
 use Rattle.std.specs.Prelude.{IfSome}
 use Rattle.std.proofs.lemmas.Bool.{le-leb, lt-leb}
 use Rattle.std.proofs.lemmas.List.{length-map, map_more}
-use Rattle.netlist_schema.specs.Change.{put_at}
+use Rattle.netlist_parts.specs.Put.{put_at}
 use Rattle.std.specs.List.{position_from}
 use Rattle.edit_rules_spec.specs.Find.{is_name, place_of}
 

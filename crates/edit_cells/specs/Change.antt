@@ -1,6 +1,6 @@
 -- Changes that are written at once.
 use Rattle.std.specs.Prelude.{◌≡◌, ◌≤◌, ◌++◌, ℕ, List, [], ◌∷◌, Option, option_map, option_to_list, length, IsSome, IsSomeAnd}
-use Rattle.netlist_schema.specs.Change.{put_at}
+use Rattle.netlist_parts.specs.Put.{put_at}
 use Rattle.netlist_schema.specs.Design.{Design, lib_at, cells_in, insts_in, nets_in}
 use Rattle.netlist_schema.specs.Hierarchy.{IsCell}
 use Rattle.netlist_schema.specs.Types.{Contents, Inst as InstType, Net as NetType}

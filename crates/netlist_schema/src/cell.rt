@@ -2,12 +2,9 @@
 use crate::ids::CellId;
 use crate::listed::Listed;
 use crate::property::{Name, Property};
-use crate::row::Row;
-use crate::shared::Shared;
-use crate::shared_row::SharedRow;
 use crate::text::Text;
 use crate::width::Width;
-use netlist_parts::Parts;
+use netlist_parts::{Parts, Row, Shared, SharedRow};
 
 /// Which way a port goes.
 #[derive(Clone, Copy, Debug, PartialEq, Eq)]

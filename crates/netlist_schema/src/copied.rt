@@ -7,22 +7,9 @@ use crate::cell::{CellBody, Contents, End, Inst, Net, Port};
 use crate::ident::Ident;
 use crate::library::{Lib, LibHead, Note, TopHead};
 use crate::property::{Name, Num, Property, Value};
-use crate::row::Row;
 use crate::text::Text;
 use netlist_pages::{Copied, NoMemory};
 use std::alloc::Global;
-
-impl<T: Copied + Drop> Copied for Row<T> {
-    ghost typed = { λ row. All T.typed row };
-
-    fn copy(&self, alloc: Global) -> Result<Row<T>, NoMemory> {
-        let mut copies = Vec::with_capacity(alloc, self.items.len())?;
-        for item in self.as_slice() {
-            copies.push(item.copy(alloc)?)?;
-        }
-        Ok(Row::of(copies))
-    }
-}
 
 impl Copied for Text {
     ghost typed = { IsBytes };

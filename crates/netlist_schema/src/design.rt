@@ -10,9 +10,9 @@ use crate::ids::{CellId, LibId};
 use crate::inside::{put_inst_in, put_net_in};
 use crate::library::{Lib, LibHead, Note, TopHead};
 use crate::property::Name;
-use crate::row::Row;
 use crate::shown::Shown;
 use netlist_pages::NoMemory;
+use netlist_parts::Row;
 use std::marker::Model;
 
 /// A hierarchical netlist: a title, libraries of cells, the top where there is one, and notes.

@@ -1,17 +1,16 @@
 //! Changes of what is inside a cell, in place.
 ghost use Rattle.std.specs.Option.{ForSome};
 ghost use Rattle.std.specs.Prelude.{◌≡◌, ◌≤◌, OnErr, OnOk, Some, length, slice_get, slice_set};
-ghost use Rattle.netlist_schema.specs.Change.{body_with, lib_with_cell, put_at, with_inst_put, with_net_put};
+ghost use Rattle.netlist_schema.specs.Change.{body_with, lib_with_cell, with_inst_put, with_net_put};
+ghost use Rattle.netlist_parts.specs.Put.{put_at};
 ghost use Rattle.netlist_schema.specs.Types.{CellBody as Body, Lib as Library};
 
 use crate::cell::{CellBody, Contents, Inst, Net};
 use crate::ids::CellId;
 use crate::library::Lib;
 use crate::listed::{Listed, Marks};
-use crate::row::Row;
-use crate::shared::Shared;
 use netlist_pages::{Copied, NoMemory};
-use netlist_parts::Parts;
+use netlist_parts::{Parts, Row, Shared};
 use std::alloc::Global;
 use std::sync::Arc;
 

@@ -3,7 +3,7 @@ use crate::cell::CellBody;
 use crate::ident::Ident;
 use crate::ids::CellId;
 use crate::property::{Name, Property};
-use crate::row::Row;
+use netlist_parts::Row;
 
 /// A library without its cells. An external library was written as `external`.
 #[derive(Debug, PartialEq, Eq)]

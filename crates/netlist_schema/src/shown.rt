@@ -9,7 +9,7 @@ use crate::ids::{CellId, LibId};
 use crate::library::{LibHead, Note, TopHead};
 use crate::limits::{MOST_CELLS, MOST_LIBS};
 use crate::property::Name;
-use crate::row::Row;
+use netlist_parts::Row;
 
 /// A value that shows a design. Each call is exact, takes no memory, and leaves the design as it is.
 pub trait Shown {

@@ -8,7 +8,8 @@ use Rattle.std.proofs.lemmas.List.Elements.{recursion_from_All}
 use Rattle.std.proofs.lemmas.Option.{slice_get_within}
 use Rattle.netlist_schema.specs.Design.{Design, cell_at, insts_in, insts_of}
 use Rattle.netlist_schema.specs.Hierarchy.{insts_at}
-use Rattle.netlist_schema.specs.Change.{body_with, put_at, with_inst_put, with_net_put}
+use Rattle.netlist_schema.specs.Change.{body_with, with_inst_put, with_net_put}
+use Rattle.netlist_parts.specs.Put.{put_at}
 use Rattle.netlist_schema.proofs.WithCell.{cases_cell}
 use Rattle.netlist_schema.specs.Types.{CellBody, CellId, Contents, Inst as InstType, Lib, Net as NetType, Note}
 use Rattle.edit_rules_spec.specs.Edit.{changed_at, edited, edited_once, noted, with_changed_cell, with_properties}

@@ -4,7 +4,8 @@ use Rattle.std.specs.Prelude.{IsSomeAnd, nat_lt, option_and_then, option_map, op
 use Rattle.std.specs.List.{enumerate_from}
 use Rattle.std.specs.Option.{option_map_or}
 use Rattle.std.proofs.lemmas.Option.{slice_get_within}
-use Rattle.netlist_schema.specs.Change.{body_with, put_at, with_inst_put}
+use Rattle.netlist_schema.specs.Change.{body_with, with_inst_put}
+use Rattle.netlist_parts.specs.Put.{put_at}
 use Rattle.netlist_schema.specs.Design.{Design, cell_at, insts_in, insts_of}
 use Rattle.netlist_schema.specs.Hierarchy.{insts_at}
 use Rattle.netlist_schema.specs.Types.{CellBody, CellId, Contents, Inst as InstType}

@@ -1,14 +1,17 @@
 //! `Row`: a list of values.
-ghost use Rattle.std.specs.Prelude.{◌≡◌, ◌++◌, [], ◌∷◌, ◌<◌, ◌≤◌, OnErr, OnOk, length, remove, slice_get, slice_set, take, Some};
-ghost use Rattle.netlist_schema.specs.Change.{put_at};
+ghost use Rattle.std.specs.Prelude.{All, ◌≡◌, ◌++◌, [], ◌∷◌, ◌<◌, ◌≤◌, OnErr, OnOk, length, remove, slice_get, slice_set, take, Some};
+ghost use Rattle.std.specs.Cmp.Lexicographic.{lists_equiv, lists_per, pointwise};
+ghost use Rattle.netlist_parts.specs.Put.{put_at};
 
-use netlist_pages::NoMemory;
+use netlist_pages::{Copied, NoMemory};
+use std::alloc::Global;
 use std::marker::Model;
 
 /// A list of values, as contracts see it. It is made from a `Vec` and gives it back, and neither takes memory.
 #[derive(Debug, Drop)]
 pub struct Row<T> {
-    pub(crate) items: Vec<T>,
+    /// The values.
+    pub items: Vec<T>,
 }
 
 impl<T> Model for Row<T> {
@@ -106,5 +109,31 @@ impl<T> Row<T> {
         ensures out { self.new ≡ remove self.old place }
     {
         self.items.remove(place)
+    }
+}
+
+impl<T: PartialEq> PartialEq for Row<T> {
+    ghost eq = { pointwise T.eq };
+
+    ghost laws = { lists_per T.laws };
+
+    fn eq(&self, other: &Row<T>) -> bool {
+        self.as_slice() == other.as_slice()
+    }
+}
+
+impl<T: Eq> Eq for Row<T> {
+    ghost laws = { lists_equiv T.Eq.laws };
+}
+
+impl<T: Copied + Drop> Copied for Row<T> {
+    ghost typed = { λ row. All T.typed row };
+
+    fn copy(&self, alloc: Global) -> Result<Row<T>, NoMemory> {
+        let mut copies = Vec::with_capacity(alloc, self.items.len())?;
+        for item in self.as_slice() {
+            copies.push(item.copy(alloc)?)?;
+        }
+        Ok(Row::of(copies))
     }
 }

@@ -12,7 +12,8 @@ use std::sync::Arc;
 /// another one.
 #[derive(Debug, Drop)]
 pub struct Shared<T> {
-    pub(crate) item: Arc<T>,
+    /// The value, and by how many it is held.
+    pub item: Arc<T>,
 }
 
 impl<T> Model for Shared<T> {
