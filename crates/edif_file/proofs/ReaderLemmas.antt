@@ -1,6 +1,6 @@
 -- What a reader that was fed bytes says of the next piece, and of the end.
-use Rattle.std.proofs.Common.{◌≡◌, ℕ, List, [], ◌∷◌, ◌++◌, Bool, true, suc, eqb-true, refl, arith, Result, Ok, Err, Some, None, length, inl, inr, ⊎_elim, sym, ap, ◌∙◌, subst, append_assoc, append-nil}
-use Rattle.std.specs.Prelude.{IfErr, OnOk, ◌==◌}
+use Rattle.std.proofs.Common.{◌≡◌, ℕ, List, [], ◌++◌, Result, Ok, Err, Some, None, length, inl, ⊎_elim, sym, ap, ◌∙◌, subst, append-nil}
+use Rattle.std.specs.Prelude.{IfErr}
 use Rattle.std.specs.Result.{IsErrAnd}
 use Rattle.edif_spelling_spec.specs.Lexing.{lex_fault, tokens}
 use Rattle.edif_spelling_spec.specs.Tree.{Placed}
@@ -14,40 +14,15 @@ use Rattle.edif_lexer.specs.Reading.{HasRead, Finishes as LexerFinishes}
 use Rattle.edif_lexer.specs.declared.errors.LexError.{LexError}
 use Rattle.edif_lexer.specs.declared.errors.LexError.TheVariants as lexer
 use Rattle.edif_lexer.specs.declared.lexing.State.TheVariants.{Failed}
-use Rattle.edif_tree.specs.Maker.{Maker, HasTaken, Feeds, Finishes}
+use Rattle.edif_tree.specs.Maker.{Maker, HasTaken, Finishes, IsHanded}
 use Rattle.edif_tree.specs.Nodes.{Table}
 use Rattle.edif_tree.specs.TreeError.{Names}
 use Rattle.edif_tree.specs.declared.errors.TreeError.{TreeError}
 use Rattle.edif_tree.specs.declared.errors.TreeError.TheVariants as tree
 use Rattle.edif_spec.specs.Files.{IsWrong}
-use Rattle.edif_file.specs.Reader.{Reader, HasMet, IsHanded, WasFed}
+use Rattle.edif_file.specs.Reader.{Reader, WasFed}
 use Rattle.edif_file.specs.Steps.{Says, said_by_lexer, said_by_reader, said_by_tree}
 use Rattle.edif_file.specs.declared.no_design.NoDesign.{NoDesign}
-
-module _ (old new : Maker) (piece : List Token) (result : Result (Unit {0}) TreeError) where
-  -- what feeding does to a maker, by its contract
-  pub record FeedsAll : Type 0 where
-    pub fed : (handed : List Token) → HasTaken old handed → Feeds handed piece new result
-    pub err : IfErr result (λ error. new.failed ≡ Some error)
-    pub again : (error : TreeError) → old.failed ≡ Some error → (result ≡ Err error) × (new ≡ old)
-
-handed_fault : (handed piece : List Token) (old new : Maker) → new ≡ old → HasMet old handed → HasMet new (handed ++ piece)
-handed_fault handed piece old new same h = record {
-  error = h.error;
-  stopped = ap (λ (m : Maker). m.failed) same ∙ h.stopped;
-  fault = λ rest end. (let N : List Token → Type 0 = λ v. Names h.error (tree_fault v end) in subst N (sym (append_assoc handed piece rest)) (h.fault (piece ++ rest) end));
-}
-
--- the maker after a piece
-pub handed_on : (old new : Maker) (piece handed : List Token) (result : Result (Unit {0}) TreeError) → FeedsAll old new piece result → IsHanded old handed → IsHanded new (handed ++ piece)
-handed_on old new piece handed (Ok x) h before = ⊎_elim
-    (λ taken. inl (h.fed handed taken).0)
-    (λ met. inr (handed_fault handed piece old new (h.again met.error met.stopped).1 met))
-    before
-handed_on old new piece handed (Err e) h before = ⊎_elim
-    (λ taken. inr (record { error = e; stopped = h.err; fault = h.fed handed taken }))
-    (λ met. inr (handed_fault handed piece old new (h.again met.error met.stopped).1 met))
-    before
 
 -- the maker at the end
 pub handed_all : (maker : Maker) (handed : List Token) (end : ℕ) (result : Result Table TreeError) → ((fed : List Token) → HasTaken maker fed → Finishes fed end result) → ((error : TreeError) → maker.failed ≡ Some error → result ≡ Err error)
@@ -116,25 +91,3 @@ passed said (Err e) P is says = subst P (sym is) says
 pub reader_wrong : (fed : List ℕ) (t : Placed) (error : EdifError) → lex_fault fed ≡ None → IsFile (tokens fed) t → Answered (Stands t) error → Says (IsWrong fed) (said_by_reader error)
 reader_wrong fed t (reader.Fault fault) none file stands = (none, (t, file, stands))
 reader_wrong fed t reader.NoMemory none file stands = tt
-
--- what is so where an answer is Ok
-pub on_ok : {A E : Type 0} (r : Result A E) (P Q : Type 0) → (P → Q) → OnOk r P → OnOk r Q
-on_ok (Ok x) P Q f h = f h
-on_ok (Err e) P Q f h = tt
-
--- before the first part nothing is read
-pub nothing_more : (reader : Reader) (fed : List ℕ) → WasFed reader fed → WasFed reader (fed ++ [])
-nothing_more reader fed h = (let W : List ℕ → Type 0 = WasFed reader in subst W (sym (append-nil fed)) h)
-
--- one part more
-pub parts_more : (reader : Reader) (fed done part : List ℕ) → WasFed reader ((fed ++ done) ++ part) → WasFed reader (fed ++ (done ++ part))
-parts_more reader fed done part h = (let W : List ℕ → Type 0 = WasFed reader in subst W (append_assoc fed done part) h)
-
--- after the last part
-pub read_whole : (reader : Reader) (fed done piece rest : List ℕ) → piece ≡ done ++ rest → rest ≡ [] → WasFed reader (fed ++ done) → WasFed reader (fed ++ piece)
-read_whole reader fed done piece rest split none h = (let W : List ℕ → Type 0 = λ v. WasFed reader (fed ++ v) in subst W (sym (split ∙ ap (λ v. done ++ v) none ∙ append-nil done)) h)
-
--- a list that is tested to be empty
-pub empty_left : (rest : List ℕ) (b : Bool) → b ≡ (length rest == 0) → b ≡ true → rest ≡ []
-empty_left [] b e t = refl
-empty_left (x ∷ rest) b e t = absurd (let l : suc (length rest) ≡ 0 = eqb-true (suc (length rest)) 0 (sym e ∙ t) in omega arith)

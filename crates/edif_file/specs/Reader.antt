@@ -1,30 +1,17 @@
 -- How far a reader is in the bytes of a design file that come in pieces.
 use Rattle.std.specs.Prelude.{◌≡◌, ◌⊎◌, ℕ, List, ◌++◌, Some}
 use Rattle.edif_spelling_spec.specs.Lexing.{lex_fault}
-use Rattle.edif_spelling_spec.specs.TreeFaults.{tree_fault}
 use Rattle.edif_spelling_spec.specs.declared.token.LexKind.{LexKind}
 use Rattle.edif_spelling_spec.specs.declared.token.Token.{Token}
 use Rattle.edif_lexer.specs.Reading.{Reading, HasRead}
 use Rattle.edif_lexer.specs.declared.errors.LexError.TheVariants.{At}
 use Rattle.edif_lexer.specs.declared.lexing.State.TheVariants.{Failed}
-use Rattle.edif_tree.specs.Maker.{Maker, HasTaken}
-use Rattle.edif_tree.specs.TreeError.{Names}
-use Rattle.edif_tree.specs.declared.errors.TreeError.{TreeError}
+use Rattle.edif_tree.specs.Maker.{Maker, IsHanded}
 
 -- a reader: its lexer and its maker of trees
 pub record Reader : Type 0 where
   pub lexer : Reading
   pub maker : Maker
-
--- the maker met the first fault of these tokens, whatever follows
-pub record HasMet (maker : Maker) (handed : List Token) : Type 0 where
-  pub error : TreeError
-  pub stopped : maker.failed ≡ Some error
-  pub fault : (rest : List Token) (end : ℕ) → Names error (tree_fault (handed ++ rest) end)
-
--- the maker was handed these tokens
-abbrev pub IsHanded : Maker → List Token → Type 0
-IsHanded maker handed = HasTaken maker handed ⊎ HasMet maker handed
 
 -- the bytes were read, and their tokens handed to the maker
 pub record GoesOn (reader : Reader) (fed : List ℕ) : Type 0 where

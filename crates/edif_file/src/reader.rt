@@ -3,28 +3,20 @@ ghost use Rattle.std.specs.Prelude.{◌≡◌, ◌≢◌, ◌≤◌, ◌++◌, [
 ghost use Rattle.edif_spelling_spec.specs.Lexing.{lex_fault, tokens};
 ghost use Rattle.edif_spelling_spec.specs.Tree.{Placed};
 ghost use Rattle.edif_spelling_spec.specs.TreeFaults.{IsFile};
-ghost use Rattle.edif_spelling_spec.specs.declared.token.Token.{Token};
 ghost use Rattle.edif_tree.specs.Nodes.{IsAt};
 ghost use Rattle.netlist_schema.specs.declared.limits.TheConstants.{MOST_FILE_BYTES};
 ghost use Rattle.edif_spec.specs.Files.{IsDesignFile, IsWrong};
-ghost use Rattle.edif_file.specs.Reader.{IsHanded, WasFed};
+ghost use Rattle.edif_file.specs.Reader.{WasFed};
 ghost use Rattle.edif_file.specs.Steps.{Says};
 
 use crate::no_design::NoDesign;
 use edif_build::read_design;
 use edif_lexer::{LexError, Lexer};
-use edif_spelling_spec::Token;
-use edif_tree::{Tree, TreeError, TreeMaker};
+use edif_tree::{Tree, TreeMaker};
 use netdb_outside::Taker;
 use netlist_schema::{Design, NoMemory};
 use std::alloc::Global;
 use std::marker::Model;
-
-/// How many bytes go to the lexer at once.
-const PART: usize = 4_096;
-
-/// For how many tokens of a part there is room at once. Mostly a part has fewer.
-const TOKENS: usize = 1_024;
 
 /// Reads a design file whose bytes come in pieces. It keeps neither the bytes nor their tokens, but the tree that they make.
 #[derive(Drop)]
@@ -62,23 +54,8 @@ impl DesignReader {
     pub fn feed(&mut self, piece: &[u8]) -> Result<(), NoMemory>
         ensures { OnOk result ((fed : List ℕ) → WasFed self.old fed → WasFed self.new (fed ++ piece.now)) }
     {
-        let mut rest = piece;
-        'parts: while !rest.is_empty() {
-            let (part, others) = rest.split_at(rest.len().min(PART));
-            self.feed_part(part)?;
-            rest = others;
-        }
-        Ok(())
-    }
-
-    /// Reads the next bytes, whose tokens all stand in memory until the tree is made of them.
-    fn feed_part(&mut self, piece: &[u8]) -> Result<(), NoMemory>
-        ensures { OnOk result ((fed : List ℕ) → WasFed self.old fed → WasFed self.new (fed ++ piece.now)) }
-    {
-        let mut tokens = Vec::with_capacity(self.alloc, TOKENS)?;
-        match self.lexer.feed(piece, &mut tokens) {
-            Ok(()) => pass_on(&mut self.maker, tokens),
-            Err(LexError::At { .. }) => Ok(()),
+        match self.lexer.feed_to(piece, &mut self.maker) {
+            Ok(()) | Err(LexError::At { .. }) => Ok(()),
             Err(LexError::NoMemory) => Err(NoMemory),
         }
     }
@@ -91,9 +68,7 @@ impl DesignReader {
     {
         let mut lexer = self.lexer;
         let mut maker = self.maker;
-        let mut tokens = Vec::new(self.alloc);
-        let end = lexer.finish(&mut tokens)?;
-        pass_on(&mut maker, tokens)?;
+        let end = lexer.finish_to(&mut maker)?;
         Ok(maker.finish(end)?)
     }
 
@@ -113,15 +88,5 @@ impl Taker for DesignReader {
 
     fn take_piece(&mut self, piece: &[u8]) -> Result<(), NoMemory> {
         self.feed(piece)
-    }
-}
-
-/// Hands tokens to a maker of trees, which keeps their first fault.
-fn pass_on(maker: &mut TreeMaker, tokens: Vec<Token>) -> Result<(), NoMemory>
-    ensures { OnOk result ((handed : List Token) → IsHanded maker.old handed → IsHanded maker.new (handed ++ tokens.items)) }
-{
-    match maker.feed(tokens) {
-        Err(TreeError::NoMemory) => Err(NoMemory),
-        _ => Ok(()),
     }
 }

@@ -1,43 +1,55 @@
 -- What the steps of a lexer do to what is ahead.
-use Rattle.std.proofs.Common.{◌≡◌, ℕ, zero, suc, ◌+◌, ◌<◌, true, false, not, List, [], ◌∷◌, ◌++◌, length, None, Some, Result, Ok, Err, refl, sym, ap, ◌∙◌, subst, arith, append_assoc, append-nil, length-append, eqb, drop, take, get_or, take-append-drop}
+use Rattle.std.proofs.Common.{◌≡◌, ℕ, zero, suc, ◌+◌, ◌<◌, ◌≤◌, inr, true, false, not, List, [], ◌∷◌, ◌++◌, length, None, Some, Result, Ok, Err, refl, sym, ap, ◌∙◌, subst, arith, append_assoc, append-nil, length-append, eqb, drop, take, get_or, take-append-drop}
 use Rattle.std.specs.Prelude.{slice_get}
 use Rattle.std.proofs.Math.Seq.{take-add}
-use Rattle.edif_spelling_spec.proofs.RowLemmas.{lexed_gap}
+use Rattle.edif_spelling_spec.proofs.RowLemmas.{lexed_gap, name_word}
+use Rattle.netlist_schema.specs.Ident.{is_identifier_byte}
+use Rattle.std.specs.Char.{is_ascii_digit}
+use Rattle.edif_spelling_spec.specs.Grammar.{SpellsName}
 use Rattle.edif_lexer.specs.declared.lexing.State.{State}
 use Rattle.edif_lexer.specs.declared.lexing.State.TheVariants.{Running, Failed, Finished}
 use Rattle.edif_lexer.proofs.CompleteLemmas.{are_complete, all_push}
+use Rattle.std.proofs.lemmas.List.Sums.{AllPass-from_list_all}
 use Rattle.std.specs.Result.{OnOk, OnErr, IsOkUnless}
 use Rattle.std.specs.List.{list_all}
 use Rattle.std.proofs.lemmas.Bool.{and_parts, and_from, eqb-true, ne_eqb, eq-eqb, not_from_false, cond-false, cond-true}
 use Rattle.edif_spelling_spec.specs.Bytes.{is_space, is_word_byte, is_quote, is_unquoted, EndsRun}
 use Rattle.edif_spelling_spec.specs.Words.{word_kind}
 use Rattle.edif_spelling_spec.specs.Strings.{segments, value, escape_fault}
+use Rattle.edif_spelling_spec.specs.Lent.{Gains}
 use Rattle.edif_spelling_spec.specs.Lexing.{Lexed, before, lexed}
 use Rattle.edif_lexer.specs.Reading.{IsPrefix, Reading, ahead, is_pending, is_open_string, HasRead, Feeds, Finishes}
 use Rattle.edif_lexer.specs.Steps.{Anything, Continues, Stops, Advances, BadEscapeOf, Ends, StopsAtEnd}
 use Rattle.edif_spelling_spec.specs.declared.token.Token.{Token}
 use Rattle.edif_spelling_spec.specs.declared.token.TokenKind.{TokenKind}
-use Rattle.edif_spelling_spec.specs.declared.token.TokenKind.TheVariants.{LeftParen, RightParen, String}
+use Rattle.edif_spelling_spec.specs.declared.token.TokenKind.TheVariants.{LeftParen, RightParen, String, Word}
 use Rattle.edif_spelling_spec.specs.declared.token.LexKind.{LexKind}
 use Rattle.edif_spelling_spec.specs.declared.token.LexKind.TheVariants.{BadByte, BadString}
 use Rattle.edif_lexer.specs.declared.errors.LexError.{LexError}
 use Rattle.edif_lexer.specs.declared.errors.LexError.TheVariants.{At, NoMemory}
 use Rattle.edif_spelling_spec.proofs.LexedLemmas.{fault_at, lexed_space, lexed_left, lexed_right, lexed_other, lexed_word_ok, lexed_word_bad, lexed_string_ok, lexed_string_bad, lexed_open, lexed_open_bad, word_byte_no_quote, lexed_nil}
 
+-- what was taken with nothing more, and with one row of tokens behind another
+pub no_gain : {S : Type 0} (took : S → List Token → Type 0) (s : S) → Gains took s s []
+no_gain took s before h = subst (took s) (sym (append-nil before)) h
+
+pub gains_then : {S : Type 0} (took : S → List Token → Type 0) (a b c : S) (g h : List Token) → Gains took a b g → Gains took b c h → Gains took a c (g ++ h)
+gains_then took a b c g h first second before t = subst (took c) (append_assoc before g h) (second (before ++ g) (first before t))
+
 -- what a step hands out, and what it leaves
-abbrev pub Handed : {A : Type 0} → (List ℕ → Type 0) → Reading → List ℕ → Reading → List Token → List Token → Result A LexError → Type 0
-Handed P old bytes new outs news r = (gained : List Token) × (news ≡ outs ++ gained) × Advances P old bytes new gained r
+abbrev pub Handed : {A S : Type 0} → (S → List Token → Type 0) → (List ℕ → Type 0) → Reading → List ℕ → Reading → S → S → Result A LexError → Type 0
+Handed took P old bytes new outs news r = (gained : List Token) × Gains took outs news gained × Advances P old bytes new gained r
 
 -- a step that fails only for want of memory
-pub moved : {A : Type 0} (P : List ℕ → Type 0) (old : Reading) (bytes : List ℕ) (new aim : Reading) (g outs news : List Token) (r : Result A LexError) → OnOk r ((news ≡ outs ++ g) × (new ≡ aim)) → OnErr r (news ≡ outs) → IsOkUnless r NoMemory → Continues P old bytes aim g → Handed P old bytes new outs news r
-moved P old bytes new aim g outs news (Ok u) ok err memory c = let C : Reading → Type 0 = λ x. Continues P old bytes x g in (g, ok.0, subst C (sym ok.1) c)
-moved P old bytes new aim g outs news (Err NoMemory) ok err memory c = ([], err ∙ sym (append-nil outs), λ more p. ((ahead old (bytes ++ more)).tokens, refl))
-moved P old bytes new aim g outs news (Err (At kind place)) ok err memory c = cc
+pub moved : {A S : Type 0} (took : S → List Token → Type 0) (P : List ℕ → Type 0) (old : Reading) (bytes : List ℕ) (new aim : Reading) (g : List Token) (outs news : S) (r : Result A LexError) → OnOk r (Gains took outs news g × (new ≡ aim)) → OnErr r (Gains took outs news []) → IsOkUnless r NoMemory → Continues P old bytes aim g → Handed took P old bytes new outs news r
+moved took P old bytes new aim g outs news (Ok u) ok err memory c = let C : Reading → Type 0 = λ x. Continues P old bytes x g in (g, ok.0, subst C (sym ok.1) c)
+moved took P old bytes new aim g outs news (Err NoMemory) ok err memory c = ([], err, λ more p. ((ahead old (bytes ++ more)).tokens, refl))
+moved took P old bytes new aim g outs news (Err (At kind place)) ok err memory c = cc
 
-pub moved_quietly : {A : Type 0} (P : List ℕ → Type 0) (old : Reading) (bytes : List ℕ) (new aim : Reading) (outs : List Token) (r : Result A LexError) → OnOk r (new ≡ aim) → IsOkUnless r NoMemory → Continues P old bytes aim [] → Handed P old bytes new outs outs r
-moved_quietly P old bytes new aim outs (Ok u) ok memory c = let C : Reading → Type 0 = λ x. Continues P old bytes x [] in ([], sym (append-nil outs), subst C (sym ok) c)
-moved_quietly P old bytes new aim outs (Err NoMemory) ok memory c = ([], sym (append-nil outs), λ more p. ((ahead old (bytes ++ more)).tokens, refl))
-moved_quietly P old bytes new aim outs (Err (At kind place)) ok memory c = cc
+pub moved_quietly : {A S : Type 0} (took : S → List Token → Type 0) (P : List ℕ → Type 0) (old : Reading) (bytes : List ℕ) (new aim : Reading) (outs : S) (r : Result A LexError) → OnOk r (new ≡ aim) → IsOkUnless r NoMemory → Continues P old bytes aim [] → Handed took P old bytes new outs outs r
+moved_quietly took P old bytes new aim outs (Ok u) ok memory c = let C : Reading → Type 0 = λ x. Continues P old bytes x [] in ([], no_gain took outs, subst C (sym ok) c)
+moved_quietly took P old bytes new aim outs (Err NoMemory) ok memory c = ([], no_gain took outs, λ more p. ((ahead old (bytes ++ more)).tokens, refl))
+moved_quietly took P old bytes new aim outs (Err (At kind place)) ok memory c = cc
 
 -- one step after another
 pub before_before : (g h : List Token) (l : Lexed) → before g (before h l) ≡ before (g ++ h) l
@@ -95,14 +107,18 @@ continues_word old kind n size l a k =
 pub stops_word : (old : Reading) (fault : LexKind) → 0 < length old.pending → list_all is_word_byte old.pending ≡ true → word_kind old.pending ≡ Err fault → Stops (EndsRun is_word_byte) old [] [] (At fault old.start)
 stops_word old fault l a k = λ more p. lexed_word_bad old.start old.pending more fault l a p k
 
--- a word that begins and ends in these bytes
-pub continues_whole : (old : Reading) (word : List ℕ) (kind : TokenKind) (n : ℕ) → n ≡ length word → old.pending ≡ [] → 0 < length word → list_all is_word_byte word ≡ true → word_kind word ≡ Ok kind → Continues (EndsRun is_word_byte) old word (record old { start = old.start + n; pending = [] }) (record { kind = kind; place = old.start } ∷ [])
-continues_whole old word kind n size e l a k =
-    continues_token (EndsRun is_word_byte) old word (record { kind = kind; place = old.start }) n (let none = ap length e in omega arith)
-    (λ more p. fresh old (word ++ more) e ∙ lexed_word_ok old.start word more kind l a p k ∙ ap (λ m. before (record { kind = kind; place = old.start } ∷ []) (lexed (old.start + m) 0 more)) (sym size))
+-- a name that begins and ends in these bytes
+pub continues_name : (old : Reading) (name : List ℕ) (n : ℕ) → n ≡ length name → old.pending ≡ [] → SpellsName name name → Continues (EndsRun is_word_byte) old name (record old { start = old.start + n; pending = [] }) (record { kind = Word name; place = old.start } ∷ [])
+continues_name old name n size e spells =
+    let word = name_word name name spells in
+    continues_token (EndsRun is_word_byte) old name (record { kind = Word name; place = old.start }) n (let none = ap length e in omega arith)
+    (λ more p. fresh old (name ++ more) e ∙ lexed_word_ok old.start name more (Word name) word.filled word.run p word.meant ∙ ap (λ m. before (record { kind = Word name; place = old.start } ∷ []) (lexed (old.start + m) 0 more)) (sym size))
 
-pub stops_whole : (old : Reading) (word : List ℕ) (fault : LexKind) → old.pending ≡ [] → 0 < length word → list_all is_word_byte word ≡ true → word_kind word ≡ Err fault → Stops (EndsRun is_word_byte) old word [] (At fault old.start)
-stops_whole old word fault e l a k = λ more p. fresh old (word ++ more) e ∙ lexed_word_bad old.start word more fault l a p k
+-- the bytes of a front that is a name
+pub spells_front : (rest : List ℕ) (n : ℕ) → 0 < n → n ≤ length rest → list_all is_identifier_byte (take n rest) ≡ true → is_ascii_digit (get_or rest 0 0) ≡ false → SpellsName (take n rest) (take n rest)
+spells_front rest zero some within all digit = absurd (omega (arith, some))
+spells_front [] (suc n) some within all digit = absurd (omega (arith, within))
+spells_front (b ∷ rest) (suc n) some within all digit = ((omega arith, AllPass-from_list_all is_identifier_byte (b ∷ take n rest) all), inr (refl, digit))
 
 -- an error in the first bytes is one in all of them
 pub stops_ahead : (P Q : List ℕ → Type 0) (old : Reading) (xs ys : List ℕ) (g : List Token) (error : LexError) → ((more : List ℕ) → Q more → P (ys ++ more)) → Stops P old xs g error → Stops Q old (xs ++ ys) g error

@@ -2,16 +2,19 @@
 ghost use Rattle.std.specs.Prelude.{◌≡◌, ◌≢◌, ◌+◌, ◌<◌, ◌≤◌, ◌∷◌, ◌++◌, [], false, get_or, true, length, take, List, ℕ, OnOk, OnErr, IfErr, IfOk, IsOkUnless};
 ghost use Rattle.std.specs.List.{list_all};
 ghost use Rattle.edif_spelling_spec.specs.Bytes.{is_space, is_word_byte, EndsRun};
+ghost use Rattle.edif_spelling_spec.specs.Grammar.{SpellsName};
+ghost use Rattle.edif_spelling_spec.specs.Lent.{Gains, IsNamed, kind_of};
+ghost use Rattle.edif_spelling_spec.specs.TreeFaults.{token_at};
 ghost use Rattle.edif_lexer.specs.Reading.{is_open_string, is_pending, HasRead, Feeds, Finishes};
 ghost use Rattle.edif_lexer.specs.Steps.{Anything, Advances, BadEscapeOf, Ends, ReadsFront, StopsAtEnd};
 ghost use Rattle.edif_spelling_spec.specs.declared.token.Token.{Token};
 ghost use Rattle.edif_lexer.specs.declared.errors.LexError.{LexError};
 
 use crate::errors::LexError;
-use crate::runs::{blanks, is_paren, unquoted, word_bytes};
+use crate::runs::{blanks, is_paren, name_bytes, unquoted, word_bytes};
 use crate::strings::decode;
 use crate::words::{is_word_byte, word_kind};
-use edif_spelling_spec::{LexKind, Token, TokenKind};
+use edif_spelling_spec::{LentKind, LexKind, Token, Tokens};
 use std::alloc::Global;
 use std::marker::Model;
 
@@ -71,52 +74,66 @@ impl Lexer {
         Ok(())
     }
 
-    /// The bytes up to here are read.
+    /// The place behind the next so many bytes. There is no memory for a place that a `u64` does not count.
+    #[inline(always)]
+    fn behind(&self, count: u64) -> Result<u64, LexError>
+        ensures ok { IfOk result (λ place. place ≡ self.now.start + count) }
+        ensures memory { IsOkUnless result LexError.NoMemory }
+    {
+        self.start.checked_add(count).ok_or(LexError::NoMemory)
+    }
+
+    /// The bytes up to a place are read.
+    #[inline(always)]
+    fn pass_to(&mut self, place: u64)
+        ensures { self.new ≡ record self.old { start = place; pending = [] } }
+    {
+        self.start = place;
+        self.pending.clear();
+    }
+
+    /// The next bytes up to here are read, which are of no token.
     #[inline(always)]
     fn pass(&mut self, count: u64) -> Result<(), LexError>
         ensures ok { OnOk result (self.new ≡ record self.old { start = self.old.start + count; pending = [] }) }
         ensures err { OnErr result (self.new ≡ self.old) }
         ensures memory { IsOkUnless result LexError.NoMemory }
     {
-        match self.start.checked_add(count) {
-            Some(start) => {
-                self.start = start;
-                self.pending.clear();
-                Ok(())
-            }
-            None => Err(LexError::NoMemory),
-        }
+        let place = self.behind(count)?;
+        self.pass_to(place);
+        Ok(())
     }
 
     /// A token of so many bytes ends here.
     #[inline(always)]
-    fn hand_out(
+    fn hand_out<S: Tokens>(
         &mut self,
-        kind: TokenKind,
+        kind: LentKind<'_>,
         count: u64,
-        out: &mut Vec<Token>,
+        out: &mut S,
     ) -> Result<(), LexError>
-        ensures ok { OnOk result ((out.new.items ≡ out.old.items ++ record { kind = kind; place = self.old.start } ∷ [])
+        requires { IsNamed kind }
+        ensures ok { OnOk result (Gains S.took out.old out.new (token_at (kind_of kind.entry) self.old.start ∷ [])
             × (self.new ≡ record self.old { start = self.old.start + count; pending = [] })) }
-        ensures err { OnErr result (out.new.items ≡ out.old.items) }
+        ensures err { OnErr result (Gains S.took out.old out.new []) }
         ensures memory { IsOkUnless result LexError.NoMemory }
     {
-        let place = self.start;
-        self.pass(count)?;
-        out.push(Token { kind, place })?;
+        let place = self.behind(count)?;
+        out.take(kind, self.start)?;
+        self.pass_to(place);
         Ok(())
     }
 
     /// The first byte of a token, or a byte of none.
     #[inline(always)]
-    fn begin(&mut self, byte: u8, out: &mut Vec<Token>) -> Result<(), LexError>
+    fn begin<S: Tokens>(&mut self, byte: u8, out: &mut S) -> Result<(), LexError>
         requires { self.old.pending ≡ [] }
-        ensures { (gained : List Token) × (out.new.items ≡ out.old.items ++ gained)
+        ensures { (gained : List Token) × Gains S.took out.old out.new gained
             × Advances Anything self.old (byte ∷ []) self.new gained result }
     {
         match byte {
-            b'(' => self.hand_out(TokenKind::LeftParen, 1, out),
-            b')' => self.hand_out(TokenKind::RightParen, 1, out),
+            b'(' => self.hand_out(LentKind::LeftParen, 1, out),
+            b')' => self.hand_out(LentKind::RightParen, 1, out),
             b'"' => self.keep(byte),
             _ if byte.is_ascii_whitespace() => self.pass(1),
             _ if is_word_byte(byte) => self.keep(byte),
@@ -128,32 +145,36 @@ impl Lexer {
     }
 
     /// No more bytes of the word come.
-    fn end_word(&mut self, out: &mut Vec<Token>) -> Result<(), LexError>
+    fn end_word<S: Tokens>(&mut self, out: &mut S) -> Result<(), LexError>
         requires begun { 0 < length self.old.pending }
         requires word { list_all is_word_byte self.old.pending ≡ true }
-        ensures read { (gained : List Token) × (out.new.items ≡ out.old.items ++ gained)
+        ensures read { (gained : List Token) × Gains S.took out.old out.new gained
             × Advances (EndsRun is_word_byte) self.old [] self.new gained result }
         ensures ended { OnOk result (self.new.pending ≡ []) }
     {
-        let count = self.pending.len() as u64;
-        match word_kind(self.alloc, &self.pending)? {
-            Ok(kind) => self.hand_out(kind, count, out),
-            Err(kind) => Err(LexError::At {
-                kind,
-                place: self.start,
-            }),
+        let place = self.behind(self.pending.len() as u64)?;
+        match word_kind(&self.pending) {
+            Ok(kind) => out.take(kind, self.start)?,
+            Err(kind) => {
+                return Err(LexError::At {
+                    kind,
+                    place: self.start,
+                });
+            }
         }
+        self.pass_to(place);
+        Ok(())
     }
 
     /// The closing quote of the string comes.
-    fn end_string(&mut self, out: &mut Vec<Token>) -> Result<(), LexError>
+    fn end_string<S: Tokens>(&mut self, out: &mut S) -> Result<(), LexError>
         requires { is_open_string self.old.pending ≡ true }
-        ensures { (gained : List Token) × (out.new.items ≡ out.old.items ++ gained)
+        ensures { (gained : List Token) × Gains S.took out.old out.new gained
             × Advances Anything self.old (34 ∷ []) self.new gained result }
     {
         let count = self.pending.len() as u64;
         match decode(self.alloc, &self.pending[1..], true)? {
-            Ok(text) => self.hand_out(TokenKind::String(text), count + 1, out),
+            Ok(text) => self.hand_out(LentKind::String(text), count + 1, out),
             Err(at) => Err(self.bad_escape(at)),
         }
     }
@@ -173,8 +194,8 @@ impl Lexer {
 
     /// The next byte of the text, whatever it is.
     #[inline(always)]
-    fn step(&mut self, byte: u8, out: &mut Vec<Token>) -> Result<(), LexError>
-        ensures { (gained : List Token) × (out.new.items ≡ out.old.items ++ gained)
+    fn step<S: Tokens>(&mut self, byte: u8, out: &mut S) -> Result<(), LexError>
+        ensures { (gained : List Token) × Gains S.took out.old out.new gained
             × Advances Anything self.old (byte ∷ []) self.new gained result }
     {
         match self.pending.first().copied() {
@@ -233,60 +254,45 @@ impl Lexer {
         0
     }
 
-    /// How many bytes the word has that begins and ends in these bytes, where no token has begun; 0 where there is none.
+    /// How many bytes the name has that begins and ends in these bytes, where no token has begun; 0 where there is none, or its first byte
+    /// is `&`.
     #[inline(always)]
-    fn whole(&self, rest: &[u8]) -> usize
+    fn whole_name(&self, rest: &[u8]) -> usize
+        requires { 0 < length rest.now }
         ensures within { 0 < result → result < length rest.now }
-        ensures word { list_all is_word_byte (take result rest.now) ≡ true }
+        ensures spells { 0 < result → SpellsName (take result rest.now) (take result rest.now) }
         ensures ends { 0 < result → is_word_byte (get_or rest.now result 0) ≡ false }
         ensures between { 0 < result → self.now.pending ≡ [] }
     {
-        if !self.pending.is_empty() {
+        if !self.pending.is_empty() || rest[0].is_ascii_digit() {
             return 0;
         }
-        let count = word_bytes(rest);
-        if count < rest.len() { count } else { 0 }
-    }
-
-    /// A word that begins and ends in these bytes, where no token has begun.
-    #[inline(always)]
-    fn whole_word(&mut self, word: &[u8], out: &mut Vec<Token>) -> Result<(), LexError>
-        requires between { self.old.pending ≡ [] }
-        requires begun { 0 < length word.now }
-        requires word { list_all is_word_byte word.now ≡ true }
-        ensures read { (gained : List Token) × (out.new.items ≡ out.old.items ++ gained)
-            × Advances (EndsRun is_word_byte) self.old word.now self.new gained result }
-        ensures ended { OnOk result (self.new.pending ≡ []) }
-    {
-        let count = word.len() as u64;
-        match word_kind(self.alloc, word)? {
-            Ok(kind) => self.hand_out(kind, count, out),
-            Err(kind) => Err(LexError::At {
-                kind,
-                place: self.start,
-            }),
+        let count = name_bytes(rest);
+        if count < rest.len() && !is_word_byte(rest[count]) {
+            count
+        } else {
+            0
         }
     }
 
-    /// A word in front of a byte that ends it, and that byte.
+    /// A name in front of a byte that ends it, and that byte, where no token has begun.
     #[inline(always)]
-    fn word_before(&mut self, word: &[u8], byte: u8, out: &mut Vec<Token>) -> Result<(), LexError>
+    fn name_before<S: Tokens>(&mut self, name: &[u8], byte: u8, out: &mut S) -> Result<(), LexError>
         requires between { self.old.pending ≡ [] }
-        requires begun { 0 < length word.now }
-        requires word { list_all is_word_byte word.now ≡ true }
+        requires spells { SpellsName name.now name.now }
         requires ends { is_word_byte byte ≡ false }
-        ensures { (gained : List Token) × (out.new.items ≡ out.old.items ++ gained)
-            × Advances Anything self.old (word.now ++ byte ∷ []) self.new gained result }
+        ensures { (gained : List Token) × Gains S.took out.old out.new gained
+            × Advances Anything self.old (name.now ++ byte ∷ []) self.new gained result }
     {
-        self.whole_word(word, out)?;
+        self.hand_out(LentKind::Word(name), name.len() as u64, out)?;
         self.begin(byte, out)
     }
 
     /// The next byte of the text, alone.
     #[inline(always)]
-    fn one_byte(&mut self, rest: &[u8], out: &mut Vec<Token>) -> Result<usize, LexError>
+    fn one_byte<S: Tokens>(&mut self, rest: &[u8], out: &mut S) -> Result<usize, LexError>
         requires { 0 < length rest.now }
-        ensures read { (gained : List Token) × (out.new.items ≡ out.old.items ++ gained)
+        ensures read { (gained : List Token) × Gains S.took out.old out.new gained
             × ReadsFront self.old rest.now self.new gained result }
         ensures some { IfOk result (λ count. (0 < count) × (count ≤ length rest.now)) }
     {
@@ -297,9 +303,9 @@ impl Lexer {
     /// The next bytes of the text, of which there is one at least: how many were read. Bytes of one word or string and blanks are read
     /// together.
     #[inline(always)]
-    fn advance(&mut self, rest: &[u8], out: &mut Vec<Token>) -> Result<usize, LexError>
+    fn advance<S: Tokens>(&mut self, rest: &[u8], out: &mut S) -> Result<usize, LexError>
         requires { 0 < length rest.now }
-        ensures read { (gained : List Token) × (out.new.items ≡ out.old.items ++ gained)
+        ensures read { (gained : List Token) × Gains S.took out.old out.new gained
             × ReadsFront self.old rest.now self.new gained result }
         ensures some { IfOk result (λ count. (0 < count) × (count ≤ length rest.now)) }
     {
@@ -311,10 +317,10 @@ impl Lexer {
             self.pass(passed as u64)?;
             return Ok(passed);
         }
-        let word = self.whole(rest);
-        if word > 0 {
-            self.word_before(&rest[..word], rest[word], out)?;
-            return Ok(word + 1);
+        let name = self.whole_name(rest);
+        if name > 0 {
+            self.name_before(&rest[..name], rest[name], out)?;
+            return Ok(name + 1);
         }
         let kept = self.kept(rest);
         if kept > 0 {
@@ -325,8 +331,8 @@ impl Lexer {
     }
 
     /// The next bytes of the text.
-    fn run(&mut self, piece: &[u8], out: &mut Vec<Token>) -> Result<(), LexError>
-        ensures { (gained : List Token) × (out.new.items ≡ out.old.items ++ gained)
+    fn run<S: Tokens>(&mut self, piece: &[u8], out: &mut S) -> Result<(), LexError>
+        ensures { (gained : List Token) × Gains S.took out.old out.new gained
             × Advances Anything self.old piece.now self.new gained result }
     {
         let mut read = 0;
@@ -337,8 +343,8 @@ impl Lexer {
     }
 
     /// No more bytes come.
-    fn end(&mut self, out: &mut Vec<Token>) -> Result<u64, LexError>
-        ensures { (gained : List Token) × (out.new.items ≡ out.old.items ++ gained)
+    fn end<S: Tokens>(&mut self, out: &mut S) -> Result<u64, LexError>
+        ensures { (gained : List Token) × Gains S.took out.old out.new gained
             × Ends self.old gained result }
     {
         match self.pending.first().copied() {
@@ -392,6 +398,23 @@ impl Lexer {
         ensures again { (error : LexError) → self.old.state ≡ State.Failed error
             → (result ≡ Err error) × (self.new ≡ self.old) × (out.new.items ≡ out.old.items) }
     {
+        self.feed_to(piece, out)
+    }
+
+    /// Reads the next piece as `feed` does, and hands each token that it completes to `out` as it comes, the names lent from the piece.
+    ///
+    /// The errors are those of `feed`. After `LexError::At` the tokens before the fault were all taken, and after `LexError::NoMemory`
+    /// a prefix of the tokens. After either error each later call answers the same error, and `out` stays.
+    pub fn feed_to<S: Tokens>(&mut self, piece: &[u8], out: &mut S) -> Result<(), LexError>
+        requires { self.old.state ≢ State.Finished }
+        ensures read { (gained : List Token) × Gains S.took out.old out.new gained
+            × ((fed : List ℕ) (handed : List Token) → HasRead self.old fed handed
+            → Feeds fed piece.now handed gained self.new result) }
+        ensures ok { OnOk result (self.new.state ≡ State.Running) }
+        ensures err { IfErr result (λ error. self.new.state ≡ State.Failed error) }
+        ensures again { (error : LexError) → self.old.state ≡ State.Failed error
+            → (result ≡ Err error) × (self.new ≡ self.old) × (out.new ≡ out.old) }
+    {
         if let State::Failed(error) = self.state {
             return Err(error);
         }
@@ -416,6 +439,24 @@ impl Lexer {
         ensures err { IfErr result (λ error. self.new.state ≡ State.Failed error) }
         ensures again { (error : LexError) → self.old.state ≡ State.Failed error
             → (result ≡ Err error) × (self.new ≡ self.old) × (out.new.items ≡ out.old.items) }
+    {
+        self.finish_to(out)
+    }
+
+    /// The text ends here, as in `finish`: a last word is handed to `out`. Answers the number of bytes of the text. After Ok the lexer is
+    /// done.
+    ///
+    /// The errors are those of `finish`. After `LexError::At` the tokens before the fault were all taken, and after `LexError::NoMemory`
+    /// a prefix of the tokens. After either error each later call answers the same error, and `out` stays.
+    pub fn finish_to<S: Tokens>(&mut self, out: &mut S) -> Result<u64, LexError>
+        requires { self.old.state ≢ State.Finished }
+        ensures read { (gained : List Token) × Gains S.took out.old out.new gained
+            × ((fed : List ℕ) (handed : List Token) → HasRead self.old fed handed
+            → Finishes fed handed gained result) }
+        ensures ok { OnOk result (self.new.state ≡ State.Finished) }
+        ensures err { IfErr result (λ error. self.new.state ≡ State.Failed error) }
+        ensures again { (error : LexError) → self.old.state ≡ State.Failed error
+            → (result ≡ Err error) × (self.new ≡ self.old) × (out.new ≡ out.old) }
     {
         if let State::Failed(error) = self.state {
             return Err(error);

@@ -1,9 +1,10 @@
 //! Bytes at the front that are of one kind.
-ghost use Rattle.std.specs.Prelude.{◌≡◌, ◌<◌, ◌≤◌, false, get_or, length, take, true};
+ghost use Rattle.std.specs.Prelude.{◌≡◌, ◌≤◌, length, take, true};
 ghost use Rattle.std.specs.List.{list_all};
+ghost use Rattle.netlist_schema.specs.Ident.{is_identifier_byte};
 ghost use Rattle.edif_spelling_spec.specs.Bytes.{is_space, is_unquoted, is_word_byte};
 
-use crate::words::is_word_byte;
+use crate::words::{is_name_byte, is_word_byte};
 
 /// Whether the byte is a parenthesis.
 #[inline(always)]
@@ -16,10 +17,23 @@ pub(crate) fn is_paren(byte: u8) -> bool {
 pub(crate) fn word_bytes(bytes: &[u8]) -> usize
     ensures within { result ≤ length bytes.now }
     ensures all { list_all is_word_byte (take result bytes.now) ≡ true }
-    ensures ends { result < length bytes.now → is_word_byte (get_or bytes.now result 0) ≡ false }
 {
     for (i, byte) in bytes.iter().enumerate() {
         if !is_word_byte(*byte) {
+            return i;
+        }
+    }
+    bytes.len()
+}
+
+/// How many bytes of an identifier stand in front.
+#[inline(always)]
+pub(crate) fn name_bytes(bytes: &[u8]) -> usize
+    ensures within { result ≤ length bytes.now }
+    ensures all { list_all is_identifier_byte (take result bytes.now) ≡ true }
+{
+    for (i, byte) in bytes.iter().enumerate() {
+        if !is_name_byte(*byte) {
             return i;
         }
     }

@@ -1,6 +1,7 @@
 pub mod Bytes
 pub mod Ends
 pub mod Grammar
+pub mod Lent
 pub mod LexFaults
 pub mod Lexing
 pub mod Names

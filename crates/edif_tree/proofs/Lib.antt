@@ -6,6 +6,7 @@
 -- the form at a node.
 pub mod FaultSteps
 pub mod HereLemmas
+pub mod LentLemmas
 pub mod MakerLemmas
 pub mod MakingLemmas
 pub mod NodeLemmas

@@ -1,15 +1,17 @@
 -- What a maker that was fed tokens has read, and what it answers at the end.
-use Rattle.std.proofs.Common.{◌≡◌, ℕ, List, [], ◌∷◌, ◌++◌, Result, Ok, Err, None, length, inl, inr, ⊎_elim, refl, sym, ap, ◌∙◌, arith, append-nil}
+use Rattle.std.proofs.Common.{◌≡◌, ℕ, List, [], ◌∷◌, ◌++◌, Result, Ok, Err, None, Some, length, inl, inr, ⊎_elim, refl, sym, ap, ◌∙◌, arith, append-nil}
 use Rattle.std.specs.Prelude.{IfOk, IfErr}
 use Rattle.edif_spelling_spec.specs.Tree.{Placed}
 use Rattle.edif_spelling_spec.specs.TreeFaults.{Lists, fault_at, tree_fault}
+use Rattle.edif_spelling_spec.specs.Lent.{Gains}
 use Rattle.edif_spelling_spec.specs.declared.token.Token.{Token}
 use Rattle.edif_spelling_spec.specs.declared.tree_fault.TreeKind.TheVariants.{Unended}
 use Rattle.edif_tree.specs.Making.{Level, HasRead, fault_from}
-use Rattle.edif_tree.specs.Maker.{HaveNone, Finishes}
+use Rattle.edif_tree.specs.Maker.{Maker, HaveNone, Finishes, IsHanded}
 use Rattle.edif_tree.specs.Nodes.{IsAt, Table}
 use Rattle.edif_tree.specs.TreeError.{Names}
 use Rattle.edif_tree.specs.declared.errors.TreeError.{TreeError}
+use Rattle.edif_tree.specs.declared.errors.TreeError.TheVariants.{NoMemory}
 use Rattle.edif_tree.specs.declared.making.Making.{Making}
 use Rattle.edif_tree.proofs.FaultSteps.{end_fault, empty_fault, no_fault}
 use Rattle.edif_tree.proofs.ReadFaults.{is_file}
@@ -40,3 +42,7 @@ finishes fed end making (Ok made) h ok at =
     let all = ok fed h in
     (all.0, (all.1.0, all.1.1, is_file fed end all.1.0 all.0 all.1.2))
 finishes fed end making (Err e) h ok at = at fed h
+
+-- a maker to which memory was refused
+pub starved : (old new : Maker) → new.failed ≡ Some NoMemory → Gains IsHanded old new []
+starved old new after handed h = inr (record { error = NoMemory; stopped = after; fault = λ rest end. tt })

@@ -1,5 +1,5 @@
 -- What a maker of trees was fed, and what its calls answer.
-use Rattle.std.specs.Prelude.{◌≡◌, ◌⊎◌, ℕ, List, ◌++◌, Option, None, Result, Ok, Err}
+use Rattle.std.specs.Prelude.{◌≡◌, ◌⊎◌, ℕ, List, ◌++◌, Option, None, Some, Result, Ok, Err}
 use Rattle.edif_spelling_spec.specs.Tree.{Placed}
 use Rattle.edif_spelling_spec.specs.TreeFaults.{IsFile, fault_at, tree_fault}
 use Rattle.edif_spelling_spec.specs.declared.token.Token.{Token}
@@ -19,6 +19,16 @@ pub record Maker : Type 0 where
 pub record HasTaken (maker : Maker) (fed : List Token) : Type 0 where
   pub goes_on : maker.failed ≡ None
   pub read : HasRead maker.making fed
+
+-- the maker met the first fault of these tokens, whatever follows, or wants memory
+pub record HasMet (maker : Maker) (handed : List Token) : Type 0 where
+  pub error : TreeError
+  pub stopped : maker.failed ≡ Some error
+  pub fault : (rest : List Token) (end : ℕ) → Names error (tree_fault (handed ++ rest) end)
+
+-- the maker was handed these tokens
+abbrev pub IsHanded : Maker → List Token → Type 0
+IsHanded maker handed = HasTaken maker handed ⊎ HasMet maker handed
 
 -- the tokens have no fault, but that they may end too early
 abbrev pub HaveNone : List Token → Type 0

@@ -1,5 +1,6 @@
 //! A tree as it is made, token by token.
 ghost use Rattle.std.specs.Prelude.{◌≡◌, ◌<◌, ℕ, List, ◌∷◌, ◌++◌, [], length, Some, None, IfOk, IfErr, OnOk, IfSome, IfNone};
+ghost use Rattle.edif_spelling_spec.specs.Lent.{IsNamed, kind_of};
 ghost use Rattle.edif_spelling_spec.specs.Tree.{Placed};
 ghost use Rattle.edif_spelling_spec.specs.TreeFaults.{token_at, fault_at, tree_fault, Lists};
 ghost use Rattle.edif_spelling_spec.specs.declared.token.Token.{Token};
@@ -13,7 +14,7 @@ ghost use Rattle.edif_tree.specs.declared.errors.TreeError.TheVariants.{At};
 use crate::errors::TreeError;
 use crate::store::Store;
 use crate::tree::Tree;
-use edif_spelling_spec::{Token, TokenKind, TreeKind};
+use edif_spelling_spec::{LentKind, Token, TokenKind, TreeKind};
 use netlist_schema::{MOST_LEVELS, NoMemory};
 use std::alloc::Global;
 
@@ -57,18 +58,18 @@ impl Making {
     }
 
     /// The fault of a token that comes next, or none.
-    fn fault(&self, kind: &TokenKind) -> Option<TreeKind>
-        ensures some { IfSome result (λ k. (ts rest : List Token) (place end : ℕ) → HasRead self.now ts → tree_fault (ts ++ token_at kind.now place ∷ rest) end ≡ fault_at k place) }
-        ensures none { IfNone result (CanCome kind.now self.now) }
+    fn fault(&self, kind: &LentKind<'_>) -> Option<TreeKind>
+        ensures some { IfSome result (λ k. (ts rest : List Token) (place end : ℕ) → HasRead self.now ts → tree_fault (ts ++ token_at (kind_of kind.now) place ∷ rest) end ≡ fault_at k place) }
+        ensures none { IfNone result (CanCome (kind_of kind.now) self.now) }
     {
         match kind {
-            TokenKind::LeftParen if self.forms.len() >= MOST_LEVELS => Some(TreeKind::TooDeep),
-            TokenKind::LeftParen if self.forms.is_empty() && self.nodes.loose_len() > 0 => {
+            LentKind::LeftParen if self.forms.len() >= MOST_LEVELS => Some(TreeKind::TooDeep),
+            LentKind::LeftParen if self.forms.is_empty() && self.nodes.loose_len() > 0 => {
                 Some(TreeKind::Trailing)
             }
-            TokenKind::LeftParen => None,
-            TokenKind::RightParen if self.forms.is_empty() => Some(TreeKind::ExtraClose),
-            TokenKind::RightParen => None,
+            LentKind::LeftParen => None,
+            LentKind::RightParen if self.forms.is_empty() => Some(TreeKind::ExtraClose),
+            LentKind::RightParen => None,
             _ if !self.forms.is_empty() => None,
             _ if self.nodes.loose_len() == 0 => Some(TreeKind::NotForm),
             _ => Some(TreeKind::Trailing),
@@ -86,10 +87,11 @@ impl Making {
     }
 
     /// Adds a word, an integer or a string to the innermost form.
-    fn add_leaf(&mut self, place: u64, kind: TokenKind) -> Result<(), NoMemory>
-        requires leaf { IsLeaf kind }
+    fn add_leaf(&mut self, place: u64, kind: LentKind<'_>) -> Result<(), NoMemory>
+        requires leaf { IsLeaf (kind_of kind) }
+        requires named { IsNamed kind }
         requires inside { 0 < length self.old.forms.items }
-        ensures ok { OnOk result ((ts : List Token) → HasRead self.old ts → HasRead self.new (ts ++ token_at kind place ∷ [])) }
+        ensures ok { OnOk result ((ts : List Token) → HasRead self.old ts → HasRead self.new (ts ++ token_at (kind_of kind.entry) place ∷ [])) }
     {
         self.nodes.push_leaf(place, kind)
     }
@@ -106,22 +108,39 @@ impl Making {
         self.nodes.push_form(form.place, form.start)
     }
 
-    /// Reads the next token.
-    pub fn add(&mut self, token: Token) -> Result<(), TreeError>
+    /// Reads the next token, before which so many bytes of the input stand.
+    #[inline(always)]
+    pub fn add(&mut self, kind: LentKind<'_>, place: u64) -> Result<(), TreeError>
+        requires named { IsNamed kind }
+        requires reads { (ts : List Token) × HasRead self.old ts }
+        ensures ok { OnOk result ((ts : List Token) → HasRead self.old ts → HasRead self.new (ts ++ token_at (kind_of kind.entry) place ∷ [])) }
+        ensures at { IfErr result (λ e. (ts rest : List Token) (end : ℕ) → HasRead self.old ts → Names e (tree_fault (ts ++ token_at (kind_of kind.entry) place ∷ rest) end)) }
+    {
+        if let Some(kind) = self.fault(&kind) {
+            return Err(TreeError::At { kind, place });
+        }
+        match kind {
+            LentKind::LeftParen => self.begin(place)?,
+            LentKind::RightParen => self.close(place)?,
+            leaf => self.add_leaf(place, leaf)?,
+        }
+        Ok(())
+    }
+
+    /// Reads the next token, which is spent.
+    pub fn add_token(&mut self, token: Token) -> Result<(), TreeError>
         requires { (ts : List Token) × HasRead self.old ts }
         ensures ok { OnOk result ((ts : List Token) → HasRead self.old ts → HasRead self.new (ts ++ token ∷ [])) }
         ensures at { IfErr result (λ e. (ts rest : List Token) (end : ℕ) → HasRead self.old ts → Names e (tree_fault (ts ++ token ∷ rest) end)) }
     {
         let Token { kind, place } = token;
-        if let Some(kind) = self.fault(&kind) {
-            return Err(TreeError::At { kind, place });
-        }
         match kind {
-            TokenKind::LeftParen => self.begin(place)?,
-            TokenKind::RightParen => self.close(place)?,
-            leaf => self.add_leaf(place, leaf)?,
+            TokenKind::LeftParen => self.add(LentKind::LeftParen, place),
+            TokenKind::RightParen => self.add(LentKind::RightParen, place),
+            TokenKind::Word(name) => self.add(LentKind::Word(name.as_slice()), place),
+            TokenKind::Integer(value) => self.add(LentKind::Integer(value), place),
+            TokenKind::String(text) => self.add(LentKind::String(text), place),
         }
-        Ok(())
     }
 
     /// Reads the next tokens.
@@ -131,7 +150,7 @@ impl Making {
         ensures at { IfErr result (λ e. (ts rest : List Token) (end : ℕ) → HasRead self.old ts → Names e (tree_fault (ts ++ tokens.items ++ rest) end)) }
     {
         for token in tokens {
-            self.add(token)?;
+            self.add_token(token)?;
         }
         Ok(())
     }

@@ -21,7 +21,7 @@ pub fn read_tree(alloc: Global, tokens: &[Token], end: u64) -> Result<Tree, Tree
 {
     let mut making = Making::new(alloc);
     for token in tokens {
-        making.add(copied(alloc, token)?)?;
+        making.add_token(copied(alloc, token)?)?;
     }
     making.finish(end)
 }

@@ -1,5 +1,7 @@
 //! A list of nodes, which only grows until it is whole.
 ghost use Rattle.std.specs.Prelude.{◌≡◌, ◌≤◌, ◌∷◌, ◌++◌, [], length, IfOk, OnOk, OnErr};
+ghost use Rattle.edif_spelling_spec.specs.Lent.{IsNamed, kind_of};
+ghost use Rattle.netlist_schema.specs.Ident.{IsIdentifier};
 ghost use Rattle.edif_tree.specs.Making.{IsLeaf, leaf_of};
 ghost use Rattle.edif_tree.specs.Nodes.{IntegerOf, StringOf, WordOf, with_form, with_loose};
 
@@ -7,8 +9,8 @@ use crate::node_lists::{NodeLists, add_list};
 use crate::rows::Rows;
 use crate::stored::{NodeId, PackedKind, StoredKind, StoredNode};
 use crate::words::Words;
-use edif_spelling_spec::TokenKind;
-use netlist_schema::{Ident, NoMemory, Text};
+use edif_spelling_spec::LentKind;
+use netlist_schema::{NoMemory, Text};
 use std::alloc::Global;
 use std::marker::Model;
 
@@ -105,8 +107,9 @@ impl Store {
     }
 
     /// Adds the node of a word.
-    fn push_word(&mut self, place: u64, name: Ident) -> Result<(), NoMemory>
-        ensures ok { OnOk result (self.new ≡ with_loose self.old (record { place = place; shape = WordOf name })) }
+    fn push_word(&mut self, place: u64, name: &[u8]) -> Result<(), NoMemory>
+        requires { IsIdentifier name.now }
+        ensures ok { OnOk result (self.new ≡ with_loose self.old (record { place = place; shape = WordOf name.now })) }
     {
         let at = self.words.add(name)?;
         let at = small(at as u64)?;
@@ -132,15 +135,16 @@ impl Store {
     }
 
     /// Adds the node of a word, an integer or a string, which is loose.
-    pub fn push_leaf(&mut self, place: u64, kind: TokenKind) -> Result<(), NoMemory>
-        requires { IsLeaf kind }
-        ensures ok { OnOk result (self.new ≡ with_loose self.old (record { place = place; shape = leaf_of kind })) }
+    pub fn push_leaf(&mut self, place: u64, kind: LentKind<'_>) -> Result<(), NoMemory>
+        requires leaf { IsLeaf (kind_of kind) }
+        requires named { IsNamed kind }
+        ensures ok { OnOk result (self.new ≡ with_loose self.old (record { place = place; shape = leaf_of (kind_of kind.entry) })) }
     {
         match kind {
-            TokenKind::Word(name) => self.push_word(place, name),
-            TokenKind::Integer(value) => self.push_integer(place, value),
-            TokenKind::String(text) => self.push_string(place, text),
-            TokenKind::LeftParen | TokenKind::RightParen => unreachable!(),
+            LentKind::Word(name) => self.push_word(place, name),
+            LentKind::Integer(value) => self.push_integer(place, value),
+            LentKind::String(text) => self.push_string(place, text),
+            LentKind::LeftParen | LentKind::RightParen => unreachable!(),
         }
     }
 

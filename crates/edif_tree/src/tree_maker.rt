@@ -1,13 +1,16 @@
 //! `TreeMaker`: tokens that come in pieces to a tree.
-ghost use Rattle.std.specs.Prelude.{◌≡◌, ◌≢◌, [], ℕ, List, Ok, Err, Some, None, IfErr};
+ghost use Rattle.std.specs.Prelude.{◌≡◌, ◌≢◌, ◌∷◌, [], ℕ, List, Ok, Err, Some, None, IfErr, OnErr, OnOk};
+ghost use Rattle.edif_spelling_spec.specs.Lent.{Gains, IsNamed, kind_of};
+ghost use Rattle.edif_spelling_spec.specs.TreeFaults.{token_at};
 ghost use Rattle.edif_spelling_spec.specs.declared.token.Token.{Token};
-ghost use Rattle.edif_tree.specs.Maker.{Feeds, Finishes, HasTaken};
+ghost use Rattle.edif_tree.specs.Maker.{Feeds, Finishes, HasTaken, IsHanded};
 ghost use Rattle.edif_tree.specs.declared.errors.TreeError.{TreeError};
 
 use crate::errors::TreeError;
 use crate::making::Making;
 use crate::tree::Tree;
-use edif_spelling_spec::Token;
+use edif_spelling_spec::{LentKind, Token, Tokens};
+use netlist_schema::NoMemory;
 use std::alloc::Global;
 use std::marker::Model;
 
@@ -63,6 +66,27 @@ impl TreeMaker {
         }
     }
 
+    /// Reads the next token, where no fault came before, and keeps the fault that comes with it.
+    #[inline(always)]
+    fn go_on(&mut self, kind: LentKind<'_>, place: u64) -> Result<(), NoMemory>
+        requires named { IsNamed kind }
+        requires going { self.old.failed ≡ None }
+        ensures ok { OnOk result (Gains IsHanded self.old self.new (token_at (kind_of kind.entry) place ∷ [])) }
+        ensures err { OnErr result (Gains IsHanded self.old self.new []) }
+    {
+        match self.making.add(kind, place) {
+            Ok(()) => Ok(()),
+            Err(TreeError::NoMemory) => {
+                self.failed = Some(TreeError::NoMemory);
+                Err(NoMemory)
+            }
+            Err(fault) => {
+                self.failed = Some(fault);
+                Ok(())
+            }
+        }
+    }
+
     /// The tree of all tokens fed, where no others come and the input has so many bytes; or their first tree fault, as
     /// `read_tree` tells it of all of them. After an error of `feed` it answers that same error.
     pub fn finish(self, end: u64) -> Result<Tree, TreeError>
@@ -72,6 +96,19 @@ impl TreeMaker {
         match self.failed {
             Some(error) => Err(error),
             None => self.making.finish(end),
+        }
+    }
+}
+
+/// The first fault is kept, and what comes behind it is taken for nothing.
+impl Tokens for TreeMaker {
+    ghost took = { IsHanded };
+
+    #[inline(always)]
+    fn take(&mut self, kind: LentKind<'_>, place: u64) -> Result<(), NoMemory> {
+        match self.failed {
+            Some(_) => Ok(()),
+            None => self.go_on(kind, place),
         }
     }
 }

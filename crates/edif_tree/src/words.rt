@@ -2,6 +2,7 @@
 ghost use Rattle.std.specs.Prelude.{◌≡◌, ◌<◌, [], ℕ, List, IfOk, IfSome, OnErr, OnOk, Some, nat_eq, slice_get, true};
 ghost use Rattle.std.specs.Cmp.Lexicographic.{pointwise};
 ghost use Rattle.indexmap.specs.IndexSet.{insert_key};
+ghost use Rattle.netlist_schema.specs.Ident.{IsIdentifier};
 
 use crate::word_list::WordList;
 use edif_keywords::{Keyword, keyword};
@@ -44,6 +45,17 @@ impl Model for Words {
     ghost invariant = { λ w. w.keywords.items ≡ map keyword w.names.keys };
 }
 
+/// The identifier of these bytes.
+fn named(alloc: Global, name: &[u8]) -> Result<Ident, NoMemory>
+    requires { IsIdentifier name.now }
+    ensures { IfOk result (λ made. made ≡ name.now) }
+{
+    match Ident::of(alloc, name)? {
+        Some(name) => Ok(name),
+        None => unreachable!(),
+    }
+}
+
 impl Words {
     /// No words. Takes no memory.
     pub fn new(alloc: Global) -> Words
@@ -59,13 +71,13 @@ impl Words {
 
     /// The place of a word, where it is the one that came last to its slot.
     #[inline(always)]
-    fn found_lately(&self, name: &Ident, slot: usize) -> Option<usize>
+    fn found_lately(&self, name: &[u8], slot: usize) -> Option<usize>
         requires { slot < 1024 }
         ensures { IfSome result (λ at. slice_get self.now at ≡ Some name.now) }
     {
         let at = self.lately[slot] as usize;
         let known = self.names.get_index(at)?;
-        if *known == *name {
+        if known.as_slice() == name {
             return Some(at);
         }
         None
@@ -84,16 +96,17 @@ impl Words {
 
     /// Adds a word, unless it is there, and tells its place. After `NoMemory` the words are as before.
     #[inline(always)]
-    pub fn add(&mut self, name: Ident) -> Result<usize, NoMemory>
-        ensures keys { OnOk result (self.new ≡ insert_key (pointwise nat_eq) self.old name) }
-        ensures stored { IfOk result (λ at. (k : List ℕ) × (slice_get self.new at ≡ Some k) × (pointwise nat_eq name k ≡ true)) }
+    pub fn add(&mut self, name: &[u8]) -> Result<usize, NoMemory>
+        requires { IsIdentifier name.now }
+        ensures keys { OnOk result (self.new ≡ insert_key (pointwise nat_eq) self.old name.now) }
+        ensures stored { IfOk result (λ at. (k : List ℕ) × (slice_get self.new at ≡ Some k) × (pointwise nat_eq name.now k ≡ true)) }
         ensures err { OnErr result (self.new ≡ self.old) }
     {
-        let slot = slot_of(name.as_slice());
-        if let Some(at) = self.found_lately(&name, slot) {
+        let slot = slot_of(name);
+        if let Some(at) = self.found_lately(name, slot) {
             return Ok(at);
         }
-        let at = self.insert(name)?;
+        let at = self.insert(named(self.alloc, name)?)?;
         self.keep_lately(slot, at);
         Ok(at)
     }

@@ -1,7 +1,7 @@
 //! Texts, and the trees of their tokens.
 use crate::checks::same;
 use crate::lexing::{HEAD, read_two, tokens_of};
-use edif_lexer::Token;
+use edif_lexer::{Lexer, Token};
 use edif_spelling_spec::TreeKind;
 use edif_tree::{Shape, Tree, TreeError, TreeMaker, read_tree};
 use std::alloc::{AllocError, Global};
@@ -74,14 +74,24 @@ fn made_of(alloc: Global, text: &str) -> Result<Result<Tree, TreeError>, Fail> {
     Ok(maker.finish(end))
 }
 
-/// The tree faults of a text, of its tokens at once and one at a time.
-fn faults_of(alloc: Global, text: &str) -> Result<[Option<TreeError>; 2], Fail> {
+/// The tree or the tree fault of a text, whose lexer hands the tokens to a maker.
+fn handed_of(alloc: Global, text: &str) -> Result<Result<Tree, TreeError>, Fail> {
+    let mut lexer = Lexer::new(alloc);
+    let mut maker = TreeMaker::new(alloc);
+    lexer.feed_to(text.as_bytes(), &mut maker)?;
+    let end = lexer.finish_to(&mut maker)?;
+    Ok(maker.finish(end))
+}
+
+/// The tree faults of a text, of its tokens at once, one at a time, and as its lexer hands them on.
+fn faults_of(alloc: Global, text: &str) -> Result<[Option<TreeError>; 3], Fail> {
     let made = made_of(alloc, text)?.err();
-    Ok([fault_of(alloc, text)?, made])
+    let handed = handed_of(alloc, text)?.err();
+    Ok([fault_of(alloc, text)?, made, handed])
 }
 
 /// The same of HEAD and what follows it.
-fn faults_behind(alloc: Global, rest: &str) -> Result<[Option<TreeError>; 2], Fail> {
+fn faults_behind(alloc: Global, rest: &str) -> Result<[Option<TreeError>; 3], Fail> {
     let text = format!(in alloc; "{HEAD}{rest}")?;
     faults_of(alloc, &text)
 }
@@ -114,13 +124,13 @@ fn texts_have_their_first_tree_fault(rt: HostRuntime) -> Result<(), Fail> {
     let alloc = rt.alloc();
     for (rest, kind, place) in &FAULTS {
         let (kind, place) = (*kind, *place);
-        let wanted = [Some(TreeError::At { kind, place }); 2];
+        let wanted = [Some(TreeError::At { kind, place }); 3];
         let faults = faults_behind(alloc, rest)?;
         same(&rt, &faults, &wanted, rest);
     }
     for (text, kind, place) in &BEGINNINGS {
         let (kind, place) = (*kind, *place);
-        let wanted = [Some(TreeError::At { kind, place }); 2];
+        let wanted = [Some(TreeError::At { kind, place }); 3];
         let faults = faults_of(alloc, text)?;
         same(&rt, &faults, &wanted, text);
     }

@@ -13,20 +13,20 @@ pub loop-token-preserved : goal.loop-token-preserved
 loop-token-preserved c =
     let i = c.loop-token.token-index in
     let more : take (i + 1) c.args.tokens.now ≡ take i c.args.tokens.now ++ c.token-item.result ∷ [] = (take_at_read c.args.tokens.now i c.token-item.result c.loop-token-test.true).1 ∙ ap (λ x. take i c.args.tokens.now ++ x ∷ []) (sym c.token-item.is) in
-    let R : List Token → Type 0 = HasRead c.add.new.self in
+    let R : List Token → Type 0 = HasRead c.add_token.new.self in
     let same = c.in_ok-copied.ensures in
-    subst R (ap (λ t. take i c.args.tokens.now ++ t ∷ []) same ∙ sym more) (c.in_ok-add.ensures.ok (take i c.args.tokens.now) c.loop-token.invariant)
+    subst R (ap (λ t. take i c.args.tokens.now ++ t ∷ []) same ∙ sym more) (c.in_ok-add_token.ensures.ok (take i c.args.tokens.now) c.loop-token.invariant)
 
-pub returns-in_err-add-clause-at : goal.returns-in_err-add-clause-at
-returns-in_err-add-clause-at c =
+pub returns-in_err-add_token-clause-at : goal.returns-in_err-add_token-clause-at
+returns-in_err-add_token-clause-at c =
     let i = c.loop-token.token-index in
     let tokens = c.args.tokens.now in
     let more : take (i + 1) tokens ≡ take i tokens ++ c.token-item.result ∷ [] = (take_at_read tokens i c.token-item.result c.loop-token-test.true).1 ∙ ap (λ x. take i tokens ++ x ∷ []) (sym c.token-item.is) in
     let whole : take i tokens ++ c.token-item.result ∷ drop (i + 1) tokens ≡ tokens =
     sym (append_assoc (take i tokens) (c.token-item.result ∷ []) (drop (i + 1) tokens)) ∙ (ap (λ v. v ++ drop (i + 1) tokens) (sym more) ∙ take-append-drop (i + 1) tokens) in
-    let N : List Token → Type 0 = λ v. Names c.in_err-add.field-0.0 (tree_fault v c.args.end) in
-    let p = err_from_is_err_and c.from_residual-in_err-add.result c.from_residual-in_err-add.ensures.1 in
-    rw (p.1, p.2) (subst N (ap (λ t. take i tokens ++ t ∷ drop (i + 1) tokens) c.in_ok-copied.ensures ∙ whole) (c.in_err-add.ensures.at (take i tokens) (drop (i + 1) tokens) c.args.end c.loop-token.invariant))
+    let N : List Token → Type 0 = λ v. Names c.in_err-add_token.field-0.0 (tree_fault v c.args.end) in
+    let p = err_from_is_err_and c.from_residual-in_err-add_token.result c.from_residual-in_err-add_token.ensures.1 in
+    rw (p.1, p.2) (subst N (ap (λ t. take i tokens ++ t ∷ drop (i + 1) tokens) c.in_ok-copied.ensures ∙ whole) (c.in_err-add_token.ensures.at (take i tokens) (drop (i + 1) tokens) c.args.end c.loop-token.invariant))
 
 pub returns-clause-none : goal.returns-clause-none
 returns-clause-none c =

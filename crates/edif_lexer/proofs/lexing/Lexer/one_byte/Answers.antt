@@ -4,7 +4,7 @@ use Rattle.edif_lexer.proofs.StepLemmas.{front_stops}
 use Rattle.edif_lexer.proofs.lexing.Lexer.one_byte.Goals as goal
 
 pub returns-in_err-step-clause-read : goal.returns-in_err-step-clause-read
-returns-in_err-step-clause-read c =
+returns-in_err-step-clause-read g c =
     let next = c.in_err-step.ensures in
     let p = err_from_is_err_and c.from_residual.result c.from_residual.ensures.1 in
     (next.0, next.1, rw (p.1, p.2) (front_stops c.args.self.now c.args.rest.now (get_or c.args.rest.now 0 0) next.0 c.in_err-step.field-0.0 c.requires refl next.2))
