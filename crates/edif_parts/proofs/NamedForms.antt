@@ -1,6 +1,6 @@
 -- A list of forms of one keyword, as it is read: what each means, and the name that each defines, which differ.
-use Rattle.std.proofs.Common.{◌≡◌, ℕ, List, [], ◌∷◌, ◌++◌, map, refl, sym, ap, ◌∙◌, subst, None, Some, true, false}
-use Rattle.std.specs.List.{All, AllZip, AllByRecursion}
+use Rattle.std.proofs.Common.{◌≡◌, ◌<◌, ℕ, List, [], ◌∷◌, ◌++◌, map, refl, sym, ap, ◌∙◌, subst, None, Some, true, false, arith}
+use Rattle.std.specs.List.{All, AllZip, AllByRecursion, Contains}
 use Rattle.std.proofs.lemmas.List.{map-append}
 use Rattle.std.proofs.lemmas.List.Elements.{All-from_recursion}
 use Rattle.netlist_schema.proofs.Lists.{all_push}
@@ -13,7 +13,7 @@ use Rattle.edif_spec.specs.declared.fault.ClashKind.TheVariants.{Duplicate}
 use Rattle.edif_spec.specs.declared.fault.MeaningFault.{MeaningFault}
 use Rattle.edif_spec.specs.declared.fault.MeaningFault.TheVariants.{Clash}
 use Rattle.edif_spec.proofs.FaultForms.{filter_bare}
-use Rattle.edif_parts.specs.Adding.{Adds, DefinesAgain}
+use Rattle.edif_parts.specs.Adding.{Adds, DefinesAgain, MeansOne}
 use Rattle.edif_parts.specs.Names.{ids, Define, DefinesName, IsAgain}
 use Rattle.edif_parts.proofs.NameLists.{define_push, ids_named, ids_push, name_repeats, none_distinct, distinct_push}
 use Rattle.edif_parts.proofs.Steps.{those_keep, those_skip}
@@ -91,3 +91,23 @@ forms_valid M V g k ts xs ns f = All-from_recursion V xs f.valid
 
 pub forms_distinct : {A : Type 0} (M : Bare → A → Type 0) (V : A → Type 0) (g : A → List ℕ) (k : Keyword) (ts : List Placed) (xs : List A) (ns : List (List ℕ × ℕ)) → NamedForms M V g k ts xs ns → AreDistinct (map g xs)
 forms_distinct M V g k ts xs ns f = let P : List (List ℕ) → Type 0 = AreDistinct in subst P f.named f.distinct
+
+-- the list of the only one
+pub one_form : {A : Type 0} (M : Bare → A → Type 0) (V : A → Type 0) (g : A → List ℕ) (k : Keyword) (ts : List Placed) (t : Placed) (xs : List A) → those_of k ts ≡ t ∷ [] → MeansOne M V t xs → Each M (those k (map bare ts)) xs × All V xs × AreDistinct (map g xs)
+one_form {A} M V g k ts t xs e a =
+    let x : A = a.value in
+    let P : List Bare → Type 0 = λ w. Each M w (x ∷ []) in
+    let Q : List A → Type 0 = λ w. Each M (those k (map bare ts)) w × All V w × AreDistinct (map g w) in
+    let w : bare t ∷ [] ≡ those k (map bare ts) = ap (map bare) (sym e) ∙ filter_bare (has_keyword k) ts in
+    subst Q (sym a.list) (subst P w (a.means, tt), All-from_recursion V (x ∷ []) (a.valid, tt), distinct_push [] (g x) none_distinct not_there)
+  where
+    not_there : ¬ Contains [] (g a.value)
+    not_there h = let l : h.0 < 0 = h.1 in omega (arith, l)
+
+-- the list of none
+pub no_forms : {A : Type 0} (M : Bare → A → Type 0) (V : A → Type 0) (g : A → List ℕ) (k : Keyword) (ts : List Placed) → those_of k ts ≡ [] → Each M (those k (map bare ts)) [] × All V [] × AreDistinct (map g [])
+no_forms {A} M V g k ts e =
+    let none : List A = [] in
+    let P : List Bare → Type 0 = λ w. Each M w none in
+    let w : [] ≡ those k (map bare ts) = ap (map bare) (sym e) ∙ filter_bare (has_keyword k) ts in
+    (subst P w tt, All-from_recursion V none tt, none_distinct)

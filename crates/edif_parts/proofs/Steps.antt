@@ -1,7 +1,8 @@
 -- A step of a loop over forms: those before the next one, and those of one keyword.
-use Rattle.std.proofs.Common.{◌≡◌, List, [], ◌∷◌, ◌++◌, sym, ap, ◌∙◌, subst, inl, true, false, append-nil, append_assoc}
-use Rattle.std.specs.Prelude.{cond}
+use Rattle.std.proofs.Common.{◌≡◌, ◌≤◌, ◌+◌, ℕ, zero, suc, List, [], ◌∷◌, ◌++◌, length, refl, sym, ap, ◌∙◌, subst, inl, true, false, append-nil, append_assoc, Some, arith}
+use Rattle.std.specs.Prelude.{cond, drop, slice_get}
 use Rattle.std.proofs.lemmas.List.Elements.{filter-append}
+use Rattle.netlist_schema.proofs.Lists.{drop_next}
 use Rattle.edif_spelling_spec.specs.Tree.{Placed, bare}
 use Rattle.edif_spec.specs.Rows.{has_keyword}
 use Rattle.edif_spec.specs.Faults.{AtOne, Among, those_of}
@@ -35,3 +36,17 @@ pub fault_here : (F : Placed → MeaningFault → Type 0) (k : Keyword) (ts befo
 fault_here F k ts before us rest t f e g h b =
     let P : List Placed → Type 0 = λ v. AtOne (λ u. F u f) v in
     subst P (sym (here_first k ts before us rest t e g h)) (one_later (λ u. F u f) (those_of k before) (t ∷ those_of k rest) (inl b))
+
+-- those of a keyword from a place on, where the form there has it or not
+pub those_first : (k : Keyword) (ts : List Placed) (i : ℕ) (t : Placed) → slice_get ts i ≡ Some t → has_keyword k (bare t) ≡ true → those_of k (drop i ts) ≡ t ∷ those_of k (drop (i + 1) ts)
+those_first k ts i t g h = ap (those_of k) (drop_next ts i t g) ∙ ap (λ b. cond b (t ∷ those_of k (drop (i + 1) ts)) (those_of k (drop (i + 1) ts))) h
+
+pub those_passed : (k : Keyword) (ts : List Placed) (i : ℕ) (t : Placed) → slice_get ts i ≡ Some t → has_keyword k (bare t) ≡ false → those_of k (drop i ts) ≡ those_of k (drop (i + 1) ts)
+those_passed k ts i t g h = ap (those_of k) (drop_next ts i t g) ∙ ap (λ b. cond b (t ∷ those_of k (drop (i + 1) ts)) (those_of k (drop (i + 1) ts))) h
+
+-- nothing stands from the end on
+pub drop_end : (ts : List Placed) (i : ℕ) → length ts ≤ i → drop i ts ≡ []
+drop_end [] zero l = refl
+drop_end [] (suc i) l = refl
+drop_end (t ∷ ts) zero l = absurd (omega arith)
+drop_end (t ∷ ts) (suc i) l = drop_end ts i (omega arith)

@@ -21,3 +21,10 @@ pub record DefinesAgain (names : List (List ℕ × ℕ)) (t : Placed) (f : Meani
   pub place : ℕ
   pub defines : defined t ≡ Some (name, place)
   pub again : IsAgain names name place f
+
+-- the form means a value, which has the property and is the only one of the list
+pub record MeansOne {A : Type 0} (M : Bare → A → Type 0) (V : A → Type 0) (t : Placed) (xs : List A) : Type 0 where
+  pub value : A
+  pub means : M (bare t) value
+  pub valid : V value
+  pub list : xs ≡ value ∷ []

@@ -17,7 +17,7 @@ pub use error::{EdifError, bad_form, clash, fault_at, over_limit};
 pub use interface::{Interface, read_interface};
 pub use names::{NameAt, Names, read_name};
 pub use own_names::OwnNames;
-pub use parts::{integer_at, is_word, read_parts, room_for, word_at};
+pub use parts::{integer_at, is_word, read_parts, room_for, room_wanted, word_at};
 pub use ports::{BusName, read_bus_name};
 pub use properties::{PropertyAt, read_properties, read_property};
 pub use texts::read_text_among;

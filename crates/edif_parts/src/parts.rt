@@ -1,13 +1,13 @@
 //! The parts of a form whose keyword is known, and tokens in their places.
-ghost use Rattle.std.specs.Prelude.{◌≡◌, [], FitsSigned, IfOk, IsTrue, true};
+ghost use Rattle.std.specs.Prelude.{◌≡◌, ◌∷◌, [], FitsSigned, IfNone, IfOk, IfSome, IsTrue, true};
 ghost use Rattle.std.specs.Int.{w64};
 ghost use Rattle.edif_spelling_spec.specs.Tree.{Word', Integer', String', bare};
 ghost use Rattle.netlist_schema.specs.Ident.{IsIdentifier};
 ghost use Rattle.netlist_schema.specs.Typed.{IsBytes};
-ghost use Rattle.edif_spec.specs.Faults.{RowFault};
+ghost use Rattle.edif_spec.specs.Faults.{RowFault, those_of};
 ghost use Rattle.edif_spec.specs.Keyword.{AnIdentifier, AnInteger, AString, same};
 ghost use Rattle.edif_spec.specs.Rows.{has_keyword, is_choice};
-ghost use Rattle.edif_tree.specs.Handles.{here};
+ghost use Rattle.edif_tree.specs.Handles.{here, all};
 ghost use Rattle.edif_tree.specs.Nodes.{place_of};
 ghost use Rattle.edif_grammar.specs.Forms.{ArePartsOf};
 ghost use Rattle.edif_parts.specs.Reading.{Answers};
@@ -40,7 +40,7 @@ pub fn read_parts<'a>(
 }
 
 /// For how many forms of this keyword there is to be room. Takes no memory.
-pub(crate) fn room_wanted(nodes: Nodes<'_>, keyword: Keyword) -> usize {
+pub fn room_wanted(nodes: Nodes<'_>, keyword: Keyword) -> usize {
     let mut count: usize = 0;
     for node in nodes.iter() {
         if is_form_of(node, keyword) {
@@ -48,6 +48,22 @@ pub(crate) fn room_wanted(nodes: Nodes<'_>, keyword: Keyword) -> usize {
         }
     }
     count
+}
+
+/// The first form of this keyword among these nodes, and the nodes behind it. Takes no memory.
+#[inline(always)]
+pub(crate) fn first_form(nodes: Nodes<'_>, keyword: Keyword) -> Option<(Node<'_>, Nodes<'_>)>
+    ensures some { IfSome result (λ p. (those_of keyword (all nodes.entry) ≡ here p.0 ∷ those_of keyword (all p.1)) × (has_keyword keyword (bare (here p.0)) ≡ true)) }
+    ensures none { IfNone result (those_of keyword (all nodes.entry) ≡ []) }
+{
+    for i in 0..nodes.len() {
+        let node = nodes.at(i);
+        if is_form_of(node, keyword) {
+            let (_, behind) = nodes.split_at(i + 1);
+            return Some((node, behind));
+        }
+    }
+    None
 }
 
 /// An empty list with room for a value of each form of this keyword.
@@ -58,6 +74,7 @@ pub fn room_for<T>(alloc: Global, nodes: Nodes<'_>, keyword: Keyword) -> Result<
 }
 
 /// The word at a node where a word stands. Takes no memory.
+#[inline(always)]
 pub fn word_at(node: Node<'_>) -> &Ident
     requires { IsTrue (is_choice AnIdentifier (bare (here node))) }
     ensures { here node.entry ≡ Word' (place_of (here node.entry)) result.now }
@@ -76,6 +93,7 @@ pub fn is_word(word: &Ident, spelled: &[u8]) -> bool
 }
 
 /// The number at a node where a number stands. Takes no memory.
+#[inline(always)]
 pub fn integer_at(node: Node<'_>) -> i64
     requires { IsTrue (is_choice AnInteger (bare (here node))) }
     ensures value { here node.entry ≡ Integer' (place_of (here node.entry)) result }
@@ -88,6 +106,7 @@ pub fn integer_at(node: Node<'_>) -> i64
 }
 
 /// The string at a node where a string stands. Takes no memory.
+#[inline(always)]
 pub(crate) fn string_at(node: Node<'_>) -> &Text
     requires { IsTrue (is_choice AString (bare (here node))) }
     ensures { here node.entry ≡ String' (place_of (here node.entry)) result.now }

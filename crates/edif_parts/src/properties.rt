@@ -11,13 +11,13 @@ ghost use Rattle.edif_spec.specs.Rows.{has_keyword};
 ghost use Rattle.edif_spec.specs.Stands.{PropertiesFault, PropertyFault};
 ghost use Rattle.edif_spec.specs.declared.keyword.Keyword.TheVariants.{Property as PropertyWord};
 ghost use Rattle.edif_tree.specs.Handles.{here, all};
-ghost use Rattle.edif_parts.specs.Adding.{Adds, DefinesAgain};
+ghost use Rattle.edif_parts.specs.Adding.{Adds, DefinesAgain, MeansOne};
 ghost use Rattle.edif_parts.specs.Reading.{Answers};
 
 use crate::error::EdifError;
 use crate::names::{NameAt, read_name};
 use crate::own_names::Keys;
-use crate::parts::{read_parts, room_for};
+use crate::parts::{first_form, read_parts, room_for};
 use crate::texts::read_text_among;
 use crate::values::read_value;
 use edif_grammar::is_form_of;
@@ -83,12 +83,26 @@ fn add_properties(
     Ok(Row::of(properties))
 }
 
+/// The property at a node, in a list of its own.
+fn one_property(alloc: Global, node: Node<'_>) -> Result<Row<Property>, EdifError>
+    requires { has_keyword PropertyWord (bare (here node)) ≡ true }
+    ensures { Answers (MeansOne MeansProperty IsTypedProperty (here node.entry)) (PropertyFault (here node.entry)) result }
+{
+    let read = read_property(alloc, node)?;
+    let mut properties = Vec::with_capacity(alloc, 1)?;
+    properties.push(read.property)?;
+    Ok(Row::of(properties))
+}
+
 /// The properties among these followers of a form, in order, with keys that differ.
 pub fn read_properties(alloc: Global, inner: Nodes<'_>) -> Result<Row<Property>, EdifError>
     ensures { Answers (λ ps. MeansProperties (map bare (all inner.entry)) ps × All IsTypedProperty ps × HasDistinctKeys ps) (PropertiesFault (those_of PropertyWord (all inner.entry))) result }
 {
-    match inner.split_first() {
+    let Some((first, behind)) = first_form(inner, Keyword::Property) else {
+        return Ok(Row::of(Vec::new(alloc)));
+    };
+    match first_form(behind, Keyword::Property) {
         Some(_) => add_properties(alloc, inner, &mut Keys::new(alloc)),
-        None => Ok(Row::of(Vec::new(alloc))),
+        None => one_property(alloc, first),
     }
 }

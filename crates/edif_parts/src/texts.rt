@@ -38,6 +38,7 @@ pub fn read_text_among(
 }
 
 /// The string of the form at a node, which is a designator, an owner, or a value that is a string.
+#[inline(always)]
 pub(crate) fn read_text(alloc: Global, node: Node<'_>, keyword: Keyword) -> Result<Text, EdifError>
     requires text { IsTextForm keyword }
     requires keyword { has_keyword keyword (bare (here node)) ≡ true }
