@@ -6,7 +6,7 @@ use Rattle.std.specs.List.{Contains}
 use Rattle.netlist_bus_spec.specs.Members.{numbered}
 use Rattle.edif_spec.specs.Design as design
 use Rattle.edif_spec.specs.Faults.{AtOne, AtTwo, SameOfTwo}
-use Rattle.edif_spec.specs.Nets.{NetForm, net_at, nets_of, row_size}
+use Rattle.edif_spec.specs.Nets.{NetForm, bit_of, end_of, net_at, nets_of, row_size, single_form}
 use Rattle.edif_spec.specs.declared.fault.ClashKind.TheVariants.{Duplicate}
 use Rattle.edif_spec.specs.declared.fault.MeaningFault.{MeaningFault}
 use Rattle.edif_spec.specs.declared.fault.MeaningFault.TheVariants.{Clash}
@@ -111,3 +111,17 @@ only_added n place x old new a e h =
       places = h.places ∙ ap (λ v. old.places.items ++ v) (sym there);
       ends = h.ends;
     }
+
+-- a net by itself
+bits_again : (es : List design.End) → map (end_of 0) (map bit_of es) ≡ es
+bits_again [] = refl
+bits_again (e ∷ es) =
+    let b : 0 + e.bit ≡ e.bit = omega arith in
+    let r : map (end_of 0) (map bit_of es) ≡ es = bits_again es in
+    λ j. (let x : design.End = record { inst = e.inst; port = e.port; bit = b j } in x) ∷ r j
+
+pub single_added : (n : design.Net) (place : ℕ) (old new : NetList) → NetAdded n place old new → RowAdded (single_form n) place old new
+single_added n place old new h =
+    let e = sym (bits_again n.ends) in
+    let same : n ≡ net_at (single_form n) 0 = λ j. (let x : design.Net = record { name = n.name; ends = e j; properties = n.properties } in x) in
+    only_added (single_form n) place n old new refl same h

@@ -10,4 +10,4 @@ mod rows;
 pub use joins::{check_ends, row_places};
 pub use limits::{ends_room, nets_room};
 pub use net_list::{NetList, check_names};
-pub use rows::{add_row, row_size};
+pub use rows::{add_net, add_row, row_size};

@@ -1,7 +1,7 @@
 //! The nets for which the form of a net stands: one, or with an array a row of them.
 ghost use Rattle.std.specs.Prelude.{◌≡◌, ◌+◌, ◌^◌, ◌<◌, ◌≤◌, IfOk, None, OnOk, map};
 ghost use Rattle.std.specs.List.{All};
-ghost use Rattle.edif_spec.specs.Nets.{end_of, name_at, net_at, row_size};
+ghost use Rattle.edif_spec.specs.Nets.{end_of, name_at, net_at, row_size, single_form};
 ghost use Rattle.edif_nets.specs.NetLists.{RowAdded};
 
 use crate::net_list::NetList;
@@ -109,5 +109,12 @@ pub fn add_row(alloc: Global, form: NetForm, place: u64, list: &mut NetList) -> 
         return add_members(alloc, &form, place, list);
     }
     let net = only_net(alloc, form)?;
+    list.add(alloc, net, place)
+}
+
+/// Adds a net that stands in no row, whose name stands at this place.
+pub fn add_net(alloc: Global, net: Net, place: u64, list: &mut NetList) -> Result<(), NoMemory>
+    ensures { OnOk result (RowAdded (single_form net) place list.old list.new) }
+{
     list.add(alloc, net, place)
 }
