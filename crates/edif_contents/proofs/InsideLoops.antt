@@ -29,7 +29,7 @@ use Rattle.edif_parts.proofs.Steps.{fault_here, here_first, those_keep, those_sk
 use Rattle.edif_contents.specs.Inners as inners
 use Rattle.edif_contents.specs.Inners.{InstTakenFault, InstsFault, ReadInsts}
 use Rattle.edif_nets.specs.Joins.{SameBit, ends_of, places_of, row_of}
-use Rattle.edif_contents.specs.Nets.{AreMeant, IsFine, MeansNetIn, NetsFaultIn, NetsSoFar, ReadNet, ReadNets, RowFits, names_in, refs_in}
+use Rattle.edif_contents.specs.Nets.{AreMeant, IsFine, MeansNetIn, NetsFaultIn, NetsSoFar, ReadNet, ReadNets, RowFits, form_in, names_in, refs_in}
 use Rattle.edif_nets.specs.NetLists.{AreNamedAlike, AreNamedApart, JoinOnce, JoinTwice, named, row_names}
 use Rattle.edif_contents.specs.declared.ends.Surroundings.{Surroundings}
 use Rattle.edif_contents.specs.declared.insts.InstAt.{InstAt}
@@ -119,14 +119,14 @@ nets_start s l a b e = record {
 }
 
 -- the ends of a net that is read
-net_ends_are : (s : Surroundings) (t : Placed) (n : NetAt) (ss : List Stretch) (size : ℕ) → ss ≡ n.form.joined → size ≡ row_size n.form.array → ReadNet s t n → MeansEndsIn s size (ends_in t) ss
-net_ends_are s t n ss size e d r = wide_ends s.libs.now.libs s.ports.now s.insts.now t n.form ss size d e r.mean
+net_ends_are : (s : Surroundings) (t : Placed) (n : NetAt) (ss : List Stretch) (size : ℕ) → ss ≡ (form_in n.net).joined → size ≡ row_size (form_in n.net).array → ReadNet s t n → MeansEndsIn s size (ends_in t) ss
+net_ends_are s t n ss size e d r = wide_ends s.libs.now.libs s.ports.now s.insts.now t (form_in n.net) ss size d e r.mean
 
-pub net_ends_fit : (s : Surroundings) (t : Placed) (n : NetAt) (ss : List Stretch) (size : ℕ) → ss ≡ n.form.joined → size ≡ row_size n.form.array → size < 2 ^ 32 → ReadNet s t n → All (λ x. x.first + size ≤ 2 ^ 32) ss
+pub net_ends_fit : (s : Surroundings) (t : Placed) (n : NetAt) (ss : List Stretch) (size : ℕ) → ss ≡ (form_in n.net).joined → size ≡ row_size (form_in n.net).array → size < 2 ^ 32 → ReadNet s t n → All (λ x. x.first + size ≤ 2 ^ 32) ss
 net_ends_fit s t n ss size e d l r =
     let P : List Stretch → Type 0 = λ v. AllByRecursion (λ x. x.first < 2 ^ 32) v in
     All-from_recursion (λ x. x.first + size ≤ 2 ^ 32) ss
-    (all_fit s.libs.now.libs s.ports.now s.insts.now (ends_in t) ss size (net_ends_are s t n ss size e d r) l (subst P (sym e) (recursion_from_All (λ x. x.first < 2 ^ 32) n.form.joined r.within)))
+    (all_fit s.libs.now.libs s.ports.now s.insts.now (ends_in t) ss size (net_ends_are s t n ss size e d r) l (subst P (sym e) (recursion_from_All (λ x. x.first < 2 ^ 32) (form_in n.net).joined r.within)))
 
 -- a further row, with its ends
 row_refs : (s : Surroundings) (t : Placed) (n : NetForm) (size : ℕ) → MeansNetIn s (bare t) n → size ≡ row_size n.array → row_ends t ≡ row_of size (ends_in t)
@@ -140,33 +140,33 @@ pub row_small : (array : Option ℕ) → IfSome array IsWidth → row_size array
 row_small None h = omega arith
 row_small (Some w) h = omega (arith, h.1)
 
-pub nets_push : (s : Surroundings) (ts : List Placed) (t : Placed) (old new : NetList) (r : NetAt) → has_keyword keywords.Net (bare t) ≡ true → ReadNet s t r → RowFits old t r.form → new.nets.items ≡ old.nets.items ++ nets_of r.form
-    → new.places.items ≡ old.places.items ++ numbered (λ k. r.place) 0 (row_size r.form.array) → new.ends.items ≡ old.ends.items ++ places_of (row_of (row_size r.form.array) (all r.ends)) → NetsSoFar s ts old → NetsSoFar s (ts ++ t ∷ []) new
+pub nets_push : (s : Surroundings) (ts : List Placed) (t : Placed) (old new : NetList) (r : NetAt) → has_keyword keywords.Net (bare t) ≡ true → ReadNet s t r → RowFits old t (form_in r.net) → new.nets.items ≡ old.nets.items ++ nets_of (form_in r.net)
+    → new.places.items ≡ old.places.items ++ numbered (λ k. r.place) 0 (row_size (form_in r.net).array) → new.ends.items ≡ old.ends.items ++ places_of (row_of (row_size (form_in r.net).array) (all r.ends)) → NetsSoFar s ts old → NetsSoFar s (ts ++ t ∷ []) new
 nets_push s ts t old new r h a w b q e f =
-    let size : ℕ = row_size r.form.array in
+    let size : ℕ = row_size (form_in r.net).array in
     let xs = old.nets.items in
     let ps = old.places.items in
     let more : those_of keywords.Net (ts ++ t ∷ []) ≡ those_of keywords.Net ts ++ t ∷ [] = those_keep keywords.Net ts t h in
     let refs : refs_in (ts ++ t ∷ []) ≡ refs_in ts ++ row_of size (ends_in t) =
-    ap (flat_map row_ends) more ∙ (flat_push row_ends (those_of keywords.Net ts) t ∙ ap (λ v. refs_in ts ++ v) (row_refs s t r.form size a.mean refl)) in
+    ap (flat_map row_ends) more ∙ (flat_push row_ends (those_of keywords.Net ts) t ∙ ap (λ v. refs_in ts ++ v) (row_refs s t (form_in r.net) size a.mean refl)) in
     let places : places_of (refs_in (ts ++ t ∷ [])) ≡ places_of (refs_in ts) ++ places_of (row_of size (ends_in t)) =
     ap places_of refs ∙ map-append (λ (u : Placed × ℕ × ℕ). place_of u.0) (refs_in ts) (row_of size (ends_in t)) in
-    let names : names_in (ts ++ t ∷ []) ≡ names_in ts ++ row_names r.form r.place =
+    let names : names_in (ts ++ t ∷ []) ≡ names_in ts ++ row_names (form_in r.net) r.place =
     ap (flat_map net_names_in) more ∙ (flat_push net_names_in (those_of keywords.Net ts) t
-    ∙ ap (λ v. names_in ts ++ v) (names_read s.libs.now.libs s.ports.now s.insts.now t r.form r.place a.mean a.named)) in
-    let M : List Placed → Type 0 = λ v. AreMeant s v (f.forms ++ r.form ∷ []) in
-    let c : length new.nets.items ≡ length xs + length (nets_of r.form) = ap length b ∙ length-append xs (nets_of r.form) in
-    let k : length (nets_of r.form) ≡ row_size r.form.array = length_numbered (net_at r.form) 0 (row_size r.form.array) in
+    ∙ ap (λ v. names_in ts ++ v) (names_read s.libs.now.libs s.ports.now s.insts.now t (form_in r.net) r.place a.mean a.named)) in
+    let M : List Placed → Type 0 = λ v. AreMeant s v (f.forms ++ (form_in r.net) ∷ []) in
+    let c : length new.nets.items ≡ length xs + length (nets_of (form_in r.net)) = ap length b ∙ length-append xs (nets_of (form_in r.net)) in
+    let k : length (nets_of (form_in r.net)) ≡ row_size (form_in r.net).array = length_numbered (net_at (form_in r.net)) 0 (row_size (form_in r.net).array) in
     let ends : new.ends.items ≡ old.ends.items ++ places_of (row_of size (ends_in t)) = e ∙ ap (λ v. old.ends.items ++ places_of (row_of size v)) a.nodes in
     let g : length new.ends.items ≡ length old.ends.items + length (places_of (row_of size (ends_in t))) = ap length ends ∙ length-append old.ends.items (places_of (row_of size (ends_in t))) in
-    let m : length (places_of (row_of size (ends_in t))) ≡ length (ends_in t) * row_size r.form.array = length-map (row_of size (ends_in t)) (λ (u : Placed × ℕ × ℕ). place_of u.0) ∙ row_count size (ends_in t) in
+    let m : length (places_of (row_of size (ends_in t))) ≡ length (ends_in t) * row_size (form_in r.net).array = length-map (row_of size (ends_in t)) (λ (u : Placed × ℕ × ℕ). place_of u.0) ∙ row_count size (ends_in t) in
     record {
-      forms = f.forms ++ r.form ∷ [];
-      mean = subst M (sym more) (zip_append (λ u n. MeansNetIn s (bare u) n) (those_of keywords.Net ts) f.forms (t ∷ []) (r.form ∷ []) f.mean (a.mean, tt));
-      fine = all_push FineForm f.forms r.form f.fine a.fine;
-      nets = b ∙ (ap (λ v. v ++ nets_of r.form) f.nets ∙ sym (flat_push nets_of f.forms r.form));
-      places = ap length q ∙ (places_row_more r.form r.place xs ps f.places ∙ ap length (sym b));
-      names = ap (named new.nets.items) q ∙ (ap (λ v. named v (ps ++ numbered (λ k. r.place) 0 size)) b ∙ (named_row_more r.form r.place xs ps f.places ∙ (ap (λ v. v ++ row_names r.form r.place) f.names ∙ sym names)));
+      forms = f.forms ++ (form_in r.net) ∷ [];
+      mean = subst M (sym more) (zip_append (λ u n. MeansNetIn s (bare u) n) (those_of keywords.Net ts) f.forms (t ∷ []) ((form_in r.net) ∷ []) f.mean (a.mean, tt));
+      fine = all_push FineForm f.forms (form_in r.net) f.fine a.fine;
+      nets = b ∙ (ap (λ v. v ++ nets_of (form_in r.net)) f.nets ∙ sym (flat_push nets_of f.forms (form_in r.net)));
+      places = ap length q ∙ (places_row_more (form_in r.net) r.place xs ps f.places ∙ ap length (sym b));
+      names = ap (named new.nets.items) q ∙ (ap (λ v. named v (ps ++ numbered (λ k. r.place) 0 size)) b ∙ (named_row_more (form_in r.net) r.place xs ps f.places ∙ (ap (λ v. v ++ row_names (form_in r.net) r.place) f.names ∙ sym names)));
       count = let l = w.0 in omega (arith, c, k, l);
       ends = ends ∙ (ap (λ v. v ++ places_of (row_of size (ends_in t))) f.ends ∙ sym places);
       ends_count = let l = w.1 in omega (arith, g, m, l);

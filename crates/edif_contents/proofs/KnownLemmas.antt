@@ -1,16 +1,21 @@
 -- Libraries with the names of their cells, as they grow at the end.
 use Rattle.std.proofs.Common.{◌≡◌, ℕ, zero, suc, ◌-◌, ◌<◌, ◌≤◌, List, [], ◌∷◌, ◌++◌, map, length, refl, sym, ap, ◌∙◌, subst, Option, None, Some, arith, Result, Ok, Err}
 use Rattle.std.specs.Prelude.{slice_get, slice_set, slice_index_or, option_map, unwrap_or, IfNone, IfOk, IfSome, OnErr}
-use Rattle.std.specs.List.{Contains}
+use Rattle.std.specs.List.{AllZip, Contains}
+use Rattle.std.specs.Option.{option_map_or}
 use Rattle.std.proofs.lemmas.List.{length-map, map-append}
+use Rattle.netlist_schema.proofs.Lists.{zip_length}
 use Rattle.std.proofs.lemmas.Option.{slice_get_past, slice_get-map}
 use Rattle.edif_spec.specs.Design as design
 use Rattle.edif_spec.specs.Means.{meant}
+use Rattle.edif_spec.proofs.NetFaultsApart.{zip_append}
 use Rattle.edif_names.specs.declared.scope.Meant.{Meant}
 use Rattle.edif_names.specs.declared.scope.Meant.TheVariants as answers
 use Rattle.edif_parts.specs.Names.{ids, Tells, DefinesName}
 use Rattle.edif_parts.proofs.NameLists.{ids_named}
 use Rattle.edif_contents.specs.Known.{KnownLibs, NamedLib, last_names, with_cell, OpensLib, AddsTo, AddsCell}
+use Rattle.edif_contents.specs.NamesOf.{AreNamesOf, AreNamesThere}
+use Rattle.edif_contents.specs.declared.known.CellNames.{CellNames}
 
 -- what contracts see
 abbrev pub seen : List NamedLib → List (List ℕ × ℕ) → KnownLibs
@@ -185,3 +190,58 @@ counted old ls names l m n v b e k i c =
     let last : last_names ls ≡ l.names = ap last_names r.is ∙ last_pushed r.front l in
     let count : length m.lib.cells ≡ length m.names = sym (length-map m.lib.cells (λ (c : design.CellBody). c.name.id)) ∙ ap length (sym i) ∙ length-map m.names (λ (x : List ℕ × ℕ). x.0) in
     c ∙ count ∙ ap (λ (w : NamedLib). length w.names) k ∙ ap length (sym last) ∙ ap (λ (w : KnownLibs). length w.cell_names) v
+
+-- The names in the cells of a library: with one more cell, in the same lists, and at a place.
+pub zip_pushed : (ns : List CellNames) (cs : List design.CellBody) (n : CellNames) (c : design.CellBody) → AllZip AreNamesOf ns cs → AreNamesOf n c → AllZip AreNamesOf (ns ++ n ∷ []) (cs ++ c ∷ [])
+zip_pushed ns cs n c h a = zip_append AreNamesOf ns cs (n ∷ []) (c ∷ []) h (a, tt)
+
+pub zip_still : (cs more : List design.CellBody) (ns others : List CellNames) → more ≡ cs → others ≡ ns → AllZip AreNamesOf ns cs → AllZip AreNamesOf others more
+zip_still cs more ns others d e h =
+    let P : List design.CellBody → Type 0 = λ v. AllZip AreNamesOf others v in
+    let Q : List CellNames → Type 0 = λ v. AllZip AreNamesOf v cs in
+    subst P (sym d) (subst Q (sym e) h)
+
+pub names_there : (ns : List CellNames) (cs : List design.CellBody) (i : ℕ) (n : CellNames) → AllZip AreNamesOf ns cs → slice_get ns i ≡ Some n → AreNamesThere (slice_get cs i) n
+names_there [] cs i n h e = absurd (cc e)
+names_there (m ∷ ns) [] i n h e = absurd h
+names_there (m ∷ ns) (c ∷ cs) zero n h e =
+    let P : CellNames → Type 0 = λ v. AreNamesOf v c in
+    let w : m ≡ n = cc e in
+    record { cell = c; there = refl; names = subst P w h.0 }
+names_there (m ∷ ns) (c ∷ cs) (suc i) n h e = names_there ns cs i n h.1 e
+
+pub no_names : (ns : List CellNames) (cs : List design.CellBody) (i : ℕ) → AllZip AreNamesOf ns cs → length ns ≤ i → slice_get cs i ≡ None
+no_names ns cs i h l = slice_get_past cs i (let e = zip_length AreNamesOf ns cs h in omega (arith, e, l))
+
+-- a cell of a library that is there
+abbrev cell_in : Option design.Lib → ℕ → Option design.CellBody
+cell_in o slot = slice_get (option_map_or (λ (lib : design.Lib). lib.cells) o []) slot
+
+pub cell_there : (ls : List NamedLib) (id : design.CellId) (l : NamedLib) → id.lib.0 < length ls → l ≡ slice_index_or ls id.lib.0 l → design.cell_at (map (λ (l : NamedLib). l.lib) ls) id ≡ slice_get l.lib.cells id.slot
+cell_there ls id l b e =
+    let at : slice_get (map (λ (l : NamedLib). l.lib) ls) id.lib.0 ≡ Some l.lib = slice_get-map (λ (l : NamedLib). l.lib) ls id.lib.0 ∙ ap (option_map (λ (l : NamedLib). l.lib)) (get_at ls id.lib.0 l b e) in
+    ap (λ o. cell_in o id.slot) at
+
+pub no_cell : (ls : List NamedLib) (id : design.CellId) → length ls ≤ id.lib.0 → design.cell_at (map (λ (l : NamedLib). l.lib) ls) id ≡ None
+no_cell ls id b =
+    let at : slice_get (map (λ (l : NamedLib). l.lib) ls) id.lib.0 ≡ None = slice_get-map (λ (l : NamedLib). l.lib) ls id.lib.0 ∙ ap (option_map (λ (l : NamedLib). l.lib)) (slice_get_past ls id.lib.0 b) in
+    ap (λ o. cell_in o id.slot) at
+
+-- the names of the ports and of the instances of a cell that is there, and of one that is not
+abbrev ports_in : Option design.CellBody → List (List ℕ)
+ports_in o = design.port_ids (unwrap_or (option_map (λ (c : design.CellBody). c.ports) o) [])
+
+abbrev insts_in : Option design.CellBody → List (List ℕ)
+insts_in o = design.inst_ids (unwrap_or (option_map design.insts_of o) [])
+
+pub port_names : (libs : List design.Lib) (id : design.CellId) (n : CellNames) → AreNamesThere (design.cell_at libs id) n → ids n.ports ≡ design.port_ids (design.ports_at libs id)
+port_names libs id n h = h.names.ports ∙ ap ports_in (sym h.there)
+
+pub inst_names : (libs : List design.Lib) (id : design.CellId) (n : CellNames) → AreNamesThere (design.cell_at libs id) n → ids n.insts ≡ design.inst_ids (design.insts_at libs id)
+inst_names libs id n h = h.names.insts ∙ ap insts_in (sym h.there)
+
+pub no_ports : (libs : List design.Lib) (id : design.CellId) → design.cell_at libs id ≡ None → design.port_ids (design.ports_at libs id) ≡ []
+no_ports libs id e = ap ports_in e
+
+pub no_insts : (libs : List design.Lib) (id : design.CellId) → design.cell_at libs id ≡ None → design.inst_ids (design.insts_at libs id) ≡ []
+no_insts libs id e = ap insts_in e

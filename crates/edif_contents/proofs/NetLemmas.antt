@@ -1,17 +1,18 @@
 -- A net, from its parts.
-use Rattle.std.proofs.Common.{◌≡◌, ◌≢◌, ℕ, zero, suc, ◌<◌, List, [], ◌∷◌, ◌++◌, map, length, get_or, refl, ap, sym, ◌∙◌, subst, inl, inr, Option, None, Some, true, arith}
-use Rattle.std.specs.Prelude.{◌^◌, slice_get}
+use Rattle.std.proofs.Common.{◌≡◌, ◌≢◌, ℕ, ◌<◌, List, [], ◌∷◌, ◌++◌, map, refl, ap, sym, ◌∙◌, subst, inl, inr, Option, None, Some, true}
+use Rattle.std.specs.Prelude.{◌^◌, ◌⊎◌, IfSome, slice_get}
+use Rattle.std.proofs.lemmas.List.Elements.{All-from_recursion}
 use Rattle.std.specs.List.{All, AllByRecursion, AllZip}
 use Rattle.edif_spelling_spec.specs.Tree.{Bare, Placed, bare}
-use Rattle.netlist_schema.specs.Names.{HasDistinctKeys}
-use Rattle.netlist_schema.specs.Typed.{IsTypedProperty}
+use Rattle.netlist_schema.specs.Typed.{IsTypedName}
+use Rattle.netlist_schema.specs.Width.{IsWidth}
 use Rattle.edif_spec.specs.Design as design
 use Rattle.edif_spec.specs.Keyword.{Many, bus_name, the}
 use Rattle.edif_spec.specs.Rows.{has_keyword, Each, IsFormOf}
 use Rattle.edif_spec.specs.Faults.{AtOne, Among, arguments, followers, parts}
-use Rattle.edif_spec.specs.Means.{MeansProperties}
-use Rattle.edif_spec.specs.Nets.{FineForm, NetForm, Stretch, row_size}
-use Rattle.edif_spec.specs.Stands.{JoinedFault, ends_in, ends_joined, width_kind}
+use Rattle.edif_spec.specs.Means.{MeansBusName}
+use Rattle.edif_spec.specs.Nets.{NetForm, Stretch, bit_of, row_size}
+use Rattle.edif_spec.specs.Stands.{ends_in, ends_joined, width_kind}
 use Rattle.edif_spec.specs.Stands as stands
 use Rattle.edif_spec.specs.declared.keyword.Keyword.TheVariants as keywords
 use Rattle.edif_spec.specs.declared.fault.MeaningFault.{MeaningFault}
@@ -28,10 +29,9 @@ use Rattle.edif_parts.specs.Ports.{ReadBusName}
 use Rattle.edif_parts.specs.declared.ports.BusName.{BusName}
 use Rattle.edif_parts.proofs.PartLemmas.{Argument, TwoNodes, two_nodes}
 use Rattle.edif_contents.specs.Ends.{EndFaultIn, MeansEndIn, ReadEnd, WidthFaultIn}
-use Rattle.edif_contents.specs.Nets.{MeansNetIn, NetFaultIn, ReadJoined, ReadNet, StretchesFaultIn}
+use Rattle.edif_contents.specs.Nets.{HasEnds, HasParts, IsWideEnd, MeansNetIn, NetFaultIn, PartFault, ReadNet, form_in}
 use Rattle.edif_contents.specs.declared.ends.EndAt.{EndAt}
 use Rattle.edif_contents.specs.declared.ends.Surroundings.{Surroundings}
-use Rattle.edif_contents.specs.declared.nets.JoinedAt.{JoinedAt}
 use Rattle.edif_contents.specs.declared.nets.NetAt.{NetAt}
 use Rattle.edif_contents.proofs.Followers.{are_those, kept}
 
@@ -53,42 +53,68 @@ refs_follow t h =
     let all = followers_fit keywords.Joined [] (Many keywords.PortRef ∷ []) t refl h in
     (are_those keywords.PortRef (followers keywords.Joined t) all, kept keywords.PortRef (followers keywords.Joined t) all)
 
-pub joined_fails : (s : Surroundings) (t : Placed) (f : MeaningFault) → parts keywords.Joined keywords.PortRef t ≡ followers keywords.Joined t → Among (EndFaultIn s) (followers keywords.Joined t) f → JoinedFault s.libs.now.libs s.ports.now s.insts.now t f
-joined_fails s t f e b = let P : List Placed → Type 0 = λ v. Among (EndFaultIn s) v f in stands.joined_end (subst P (sym e) b)
-
-pub joined_read : (s : Surroundings) (t : Placed) (p : Form) (j : JoinedAt) → ArePartsOf keywords.Joined t p → AllZip (ReadEnd s) (all p.inner) j.ends → all j.nodes ≡ all p.inner → ReadJoined s t j
-joined_read s t p j a m n =
-    let e : followers keywords.Joined t ≡ parts keywords.Joined keywords.PortRef t = sym (refs_follow t a.fits).1 in
+pub joined_read : (t : Placed) (p : Form) (us : List Placed) → ArePartsOf keywords.Joined t p → us ≡ all p.inner → HasEnds t us
+joined_read t p us a n =
+    let e : us ≡ followers keywords.Joined t = n ∙ a.inner in
+    let r = refs_follow t a.fits in
     let f = fit0 keywords.Joined (Many keywords.PortRef ∷ []) t refl refl refl a.fits in
     let P : List Placed → Type 0 = λ v. IsFormOf keywords.Joined (bare t) [] (map bare v) in
-    let Q : List Placed → Type 0 = λ v. AllZip (ReadEnd s) v j.ends in
-    record { form = subst P e f.form; ends = subst Q (a.inner ∙ e) m; nodes = n ∙ (a.inner ∙ e) }
+    let Q : List Placed → Type 0 = λ v. AllByRecursion (λ u. has_keyword keywords.PortRef (bare u) ≡ true) v in
+    record { form = subst P (sym e) f.form; are = e ∙ sym r.1; refs = subst Q (sym e) r.0 }
 
--- Ends as wide as their net, and the first that is not.
-abbrev pub stretches : List EndAt → List Stretch
-stretches es = map (λ (e : EndAt). e.stretch) es
+-- Ends as wide as their net, and one that is not.
+pub wide_end : (s : Surroundings) (array : Option ℕ) (t : Placed) (e : EndAt) (x : Stretch) → ReadEnd s t e → x ≡ e.stretch → x.first < 2 ^ 32 → e.stretch.width ≡ row_size array → IsWideEnd s array t x
+wide_end s array t e x h d l w =
+    let P : Stretch → Type 0 = λ v. MeansEndIn s (bare t) v in
+    record { mean = subst P (sym d) h.mean; wide = ap (λ v. v.width) d ∙ w; within = l }
 
-mean_ends : (s : Surroundings) (us : List Placed) (es : List EndAt) → AllZip (ReadEnd s) us es → Each (MeansEndIn s) (map bare us) (stretches es)
-mean_ends s [] [] h = tt
-mean_ends s [] (e ∷ es) h = absurd h
-mean_ends s (u ∷ us) [] h = absurd h
-mean_ends s (u ∷ us) (e ∷ es) h = (h.0.mean, mean_ends s us es h.1)
+pub width_fails : (s : Surroundings) (array : Option ℕ) (t : Placed) (e : EndAt) (f : MeaningFault) → ReadEnd s t e → e.stretch.width ≢ row_size array → f ≡ At (width_kind array) e.place → WidthFaultIn s array t f
+width_fails s array t e f h n b = record { bits = h.named; there = h.there; stretch = e.stretch; means = h.mean; other = n; fault = b ∙ ap (λ v. At (width_kind array) v) h.place }
 
-wide_stretches : (size : ℕ) (es : List EndAt) → AllByRecursion (λ e. e.stretch.width ≡ size) es → AllByRecursion (λ s. s.width ≡ size) (stretches es)
-wide_stretches size [] h = tt
-wide_stretches size (e ∷ es) h = (h.0, wide_stretches size es h.1)
+-- one bit
+pub one_bit : (s : Surroundings) (t : Placed) (x : Stretch) (e : design.End) → e ≡ record { inst = x.inst; port = x.port; bit = x.first } → IsWideEnd s None t x → IsWideEnd s None t (bit_of e)
+one_bit s t x e d h =
+    let w : x.width ≡ 1 = h.wide in
+    let made : design.End = record { inst = x.inst; port = x.port; bit = x.first } in
+    let same : x ≡ bit_of made = λ i. (let v : Stretch = record { inst = x.inst; port = x.port; first = x.first; width = w i } in v) in
+    let P : Stretch → Type 0 = λ v. IsWideEnd s None t v in
+    let Q : design.End → Type 0 = λ v. IsWideEnd s None t (bit_of v) in
+    subst Q (sym d) (subst P same h)
 
--- what stands where no end does
-abbrev pub no_end : EndAt
-no_end = record { stretch = record { inst = None; port = 0; first = 0; width = 0 }; place = 0 }
+pub bits_wide : (s : Surroundings) (us : List Placed) (es : List design.End) → AllZip (λ u e. IsWideEnd s None u (bit_of e)) us es → AllZip (IsWideEnd s None) us (map bit_of es)
+bits_wide s [] [] h = tt
+bits_wide s [] (e ∷ es) h = absurd h
+bits_wide s (u ∷ us) [] h = absurd h
+bits_wide s (u ∷ us) (e ∷ es) h = (h.0, bits_wide s us es h.1)
 
-pub width_fails : (s : Surroundings) (array : Option ℕ) (us : List Placed) (es : List EndAt) (i : ℕ) (d : EndAt) (f : MeaningFault) → AllZip (ReadEnd s) us es → i < length es → (get_or es i d).stretch.width ≢ row_size array → f ≡ At (width_kind array) (get_or es i d).place → Among (WidthFaultIn s array) us f
-width_fails s array [] [] i d f h l n b = absurd (omega arith)
-width_fails s array [] (x ∷ es) i d f h l n b = absurd h
-width_fails s array (u ∷ us) [] i d f h l n b = absurd h
-width_fails s array (u ∷ us) (x ∷ es) zero d f h l n b =
-    inl (record { bits = h.0.named; there = h.0.there; stretch = x.stretch; means = h.0.mean; other = n; fault = b ∙ ap (λ v. At (width_kind array) v) h.0.place })
-width_fails s array (u ∷ us) (x ∷ es) (suc i) d f h l n b = inr (width_fails s array us es i d f h.1 (omega arith) n b)
+mean_ends : (s : Surroundings) (array : Option ℕ) (us : List Placed) (xs : List Stretch) → AllZip (IsWideEnd s array) us xs → Each (MeansEndIn s) (map bare us) xs
+mean_ends s array [] [] h = tt
+mean_ends s array [] (x ∷ xs) h = absurd h
+mean_ends s array (u ∷ us) [] h = absurd h
+mean_ends s array (u ∷ us) (x ∷ xs) h = (h.0.mean, mean_ends s array us xs h.1)
+
+wide_stretches : (s : Surroundings) (array other : Option ℕ) (us : List Placed) (xs : List Stretch) → other ≡ array → AllZip (IsWideEnd s array) us xs → AllByRecursion (λ x. x.width ≡ row_size other) xs
+wide_stretches s array other [] [] e h = tt
+wide_stretches s array other [] (x ∷ xs) e h = absurd h
+wide_stretches s array other (u ∷ us) [] e h = absurd h
+wide_stretches s array other (u ∷ us) (x ∷ xs) e h = (h.0.wide ∙ ap row_size (sym e), wide_stretches s array other us xs e h.1)
+
+stretches_within : (s : Surroundings) (array : Option ℕ) (us : List Placed) (xs : List Stretch) → AllZip (IsWideEnd s array) us xs → AllByRecursion (λ x. x.first < 2 ^ 32) xs
+stretches_within s array [] [] h = tt
+stretches_within s array [] (x ∷ xs) h = absurd h
+stretches_within s array (u ∷ us) [] h = absurd h
+stretches_within s array (u ∷ us) (x ∷ xs) h = (h.0.within, stretches_within s array us xs h.1)
+
+-- a fault of one of two kinds among forms
+among_either : (F G : Placed → MeaningFault → Type 0) (us : List Placed) (f : MeaningFault) → Among (λ u g. F u g ⊎ G u g) us f → Among F us f ⊎ Among G us f
+among_either F G [] f h = absurd h
+among_either F G (u ∷ us) f (inl (inl h)) = inl (inl h)
+among_either F G (u ∷ us) f (inl (inr h)) = inr (inl h)
+among_either F G (u ∷ us) f (inr h) = later (among_either F G us f h)
+  where
+    later : Among F us f ⊎ Among G us f → Among F (u ∷ us) f ⊎ Among G (u ∷ us) f
+    later (inl x) = inl (inr x)
+    later (inr x) = inr (inr x)
 
 -- A net.
 pub net_nodes : (t : Placed) (p : Form) → ArePartsOf keywords.Net t p → TwoNodes keywords.Net bus_name (the keywords.Joined) t p
@@ -103,38 +129,47 @@ net_width_fails s t u v n f g e a b =
     let P : List Placed → Type 0 = λ x. Among (WidthFaultIn s n.array) x f in
     stands.net_width (record { name_part = u; name = n.name; array = n.array; there = g; means = a.means; fault = subst P (sym e) b })
 
--- what is wrong with what a net joins
-pub net_joined_fails : (s : Surroundings) (t u v : Placed) (n : BusName) (f : MeaningFault) → slice_get (arguments t) 0 ≡ Some u → Argument 1 (the keywords.Joined) t v → ReadBusName u n → StretchesFaultIn s n.array v f → NetFaultIn s t f
-net_joined_fails s t u v n f g b a (inl h) = stands.net_joined (v, b.at, form_choice keywords.Joined v b.is, h)
-net_joined_fails s t u v n f g b a (inr h) = net_width_fails s t u v n f g (net_refs t v b) a h
+-- what is wrong with the ends or the properties of a net
+pub net_part_fails : (s : Surroundings) (t u v : Placed) (us : List Placed) (n : BusName) (f : MeaningFault) → slice_get (arguments t) 0 ≡ Some u → Argument 1 (the keywords.Joined) t v → ReadBusName u n → HasEnds v us → PartFault s n.array us (followers keywords.Net t) f → NetFaultIn s t f
+net_part_fails s t u v us n f g b a h (inr k) = stands.net_properties k
+net_part_fails s t u v us n f g b a h (inl k) = ends (among_either (EndFaultIn s) (WidthFaultIn s n.array) us f k)
+  where
+    E : List Placed → Type 0
+    E w = Among (EndFaultIn s) w f
 
-pub net_read : (s : Surroundings) (t u v : Placed) (a : BusName) (j : JoinedAt) (ps : List design.Property) (n : NetAt) → IsFormOf keywords.Net (bare t) (bare u ∷ bare v ∷ []) (map bare (followers keywords.Net t)) → slice_get (arguments t) 0 ≡ Some u → ends_in t ≡ parts keywords.Joined keywords.PortRef v
-    → n.form ≡ record { name = a.name; array = a.array; joined = stretches j.ends; properties = ps } → n.place ≡ a.place → all n.ends ≡ all j.nodes
-    → ReadBusName u a → ReadJoined s v j → AllByRecursion (λ e. e.stretch.width ≡ row_size a.array) j.ends → All (λ x. x.first < 2 ^ 32) (stretches j.ends)
-    → MeansProperties (map bare (followers keywords.Net t)) ps × All IsTypedProperty ps × HasDistinctKeys ps → ReadNet s t n
-net_read s t u v a j ps n form at refs e l d m b w x q =
-    let made : NetForm = record { name = a.name; array = a.array; joined = stretches j.ends; properties = ps } in
+    W : List Placed → Type 0
+    W w = Among (WidthFaultIn s n.array) w f
+
+    ends : Among (EndFaultIn s) us f ⊎ Among (WidthFaultIn s n.array) us f → NetFaultIn s t f
+    ends (inl x) = stands.net_joined (v, b.at, form_choice keywords.Joined v b.is, stands.joined_end (subst E h.are x))
+    ends (inr x) = net_width_fails s t u v n f g (net_refs t v b) a (subst W h.are x)
+
+pub net_read : (s : Surroundings) (t u v : Placed) (a : BusName) (n : NetAt) → IsFormOf keywords.Net (bare t) (bare u ∷ bare v ∷ []) (map bare (followers keywords.Net t)) → slice_get (arguments t) 0 ≡ Some u → ends_in t ≡ parts keywords.Joined keywords.PortRef v
+    → n.place ≡ a.place → ReadBusName u a → HasEnds v (all n.ends) → HasParts s a.name a.array (all n.ends) (followers keywords.Net t) (form_in n.net) → ReadNet s t n
+net_read s t u v a n form at refs l m b h =
+    let made : NetForm = form_in n.net in
+    let us : List Placed = all n.ends in
+    let N : design.Name → Type 0 = λ w. MeansBusName (bare u) w a.array in
+    let A : Option ℕ → Type 0 = λ w. MeansBusName (bare u) made.name w in
+    let T : design.Name → Type 0 = IsTypedName in
+    let W : Option ℕ → Type 0 = λ w. IfSome w IsWidth in
     let mean : MeansNetIn s (bare t) made = record {
       name_part = bare u;
       joined_part = bare v;
-      refs = map bare (parts keywords.Joined keywords.PortRef v);
+      refs = map bare us;
       inner = map bare (followers keywords.Net t);
       form = form;
       joined = b.form;
-      name = m.means;
-      ends = mean_ends s (parts keywords.Joined keywords.PortRef v) j.ends b.ends;
-      wide = wide_stretches (row_size a.array) j.ends w;
-      properties = q.0;
+      name = subst A (sym h.array) (subst N (sym h.name) m.means);
+      ends = mean_ends s a.array us made.joined h.ends;
+      wide = wide_stretches s a.array made.array us made.joined h.array h.ends;
+      properties = h.properties.0;
     } in
-    let fine : FineForm made = record { name = m.typed; array = m.width; properties = q.1; keys = q.2 } in
-    let P : NetForm → Type 0 = λ v. MeansNetIn s (bare t) v in
-    let F : NetForm → Type 0 = FineForm in
-    let X : NetForm → Type 0 = λ v. All (λ x. x.first < 2 ^ 32) v.joined in
-    let id : a.name.id ≡ n.form.name.id = sym (ap (λ v. v.name.id) e) in
+    let id : a.name.id ≡ made.name.id = ap (λ (w : design.Name). w.id) (sym h.name) in
     record {
-      mean = subst P (sym e) mean;
-      fine = subst F (sym e) fine;
-      within = subst X (sym e) x;
-      named = defined_bus t u _ (net_may t (keyword_of keywords.Net (bare t) (bare u ∷ bare v ∷ []) (map bare (followers keywords.Net t)) form)) at m.at ∙ (ap (λ v. Some (v, a.place)) id ∙ ap (λ v. Some (n.form.name.id, v)) (sym l));
-      nodes = d ∙ (b.nodes ∙ sym refs);
+      mean = mean;
+      fine = record { name = subst T (sym h.name) m.typed; array = subst W (sym h.array) m.width; properties = h.properties.1; keys = h.properties.2 };
+      within = All-from_recursion (λ x. x.first < 2 ^ 32) made.joined (stretches_within s a.array us made.joined h.ends);
+      named = defined_bus t u _ (net_may t (keyword_of keywords.Net (bare t) (bare u ∷ bare v ∷ []) (map bare (followers keywords.Net t)) form)) at m.at ∙ (ap (λ w. Some (w, a.place)) id ∙ ap (λ w. Some (made.name.id, w)) (sym l));
+      nodes = b.are ∙ sym refs;
     }

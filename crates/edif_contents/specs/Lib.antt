@@ -2,4 +2,5 @@ pub mod Ends
 pub mod Inners
 pub mod Insides
 pub mod Known
+pub mod NamesOf
 pub mod Nets

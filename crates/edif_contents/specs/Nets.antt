@@ -1,46 +1,58 @@
 -- What is read of nets.
-use Rattle.std.specs.Prelude.{◌≡◌, ◌^◌, ◌<◌, ◌≤◌, ◌⊎◌, ◌+◌, ◌*◌, ◌++◌, ℕ, List, [], ◌∷◌, Option, Some, map, length}
+use Rattle.std.specs.Prelude.{◌≡◌, ◌^◌, ◌<◌, ◌≤◌, ◌⊎◌, ◌+◌, ◌*◌, ◌++◌, ℕ, List, [], ◌∷◌, Option, Some, map, length, true}
 use Rattle.std.specs.List.{All, AllByRecursion, AllZip, flat_map}
 use Rattle.edif_spelling_spec.specs.Tree.{Bare, Placed, bare}
 use Rattle.netlist_schema.specs.Names.{AreDistinct, HasDistinctKeys}
-use Rattle.netlist_schema.specs.Typed.{IsTypedNet}
+use Rattle.netlist_schema.specs.Typed.{IsTypedNet, IsTypedProperty}
 use Rattle.netlist_schema.specs.declared.limits.TheConstants.{MOST_ENDS, MOST_NETS}
 use Rattle.edif_spec.specs.Design as design
 use Rattle.edif_spec.specs.Faults.{Among, AtTwo, Beyond, SameOfTwo, declared_width, defined, parts, repeated, those_of}
-use Rattle.edif_spec.specs.Nets.{FineForm, NetForm, nets_of, row_size}
-use Rattle.edif_spec.specs.Means.{MeansNet}
-use Rattle.edif_spec.specs.Rows.{Each, IsFormOf, those}
-use Rattle.edif_spec.specs.Stands.{JoinedFault, NetFault, SameEnd, counted_ends, ends_in, net_names_in, row_ends}
+use Rattle.edif_spec.specs.Nets.{FineForm, NetForm, Stretch, nets_of, row_size, single_form}
+use Rattle.edif_spec.specs.Means.{MeansNet, MeansProperties}
+use Rattle.edif_spec.specs.Rows.{Each, IsFormOf, has_keyword, those}
+use Rattle.edif_spec.specs.Stands.{NetFault, PropertiesFault, SameEnd, counted_ends, ends_in, net_names_in, row_ends}
 use Rattle.edif_spec.specs.declared.fault.MeaningFault.{MeaningFault}
 use Rattle.edif_spec.specs.declared.keyword.Keyword.TheVariants as keywords
 use Rattle.edif_tree.specs.Handles.{all}
-use Rattle.edif_contents.specs.Ends.{ReadEnd, WidthFaultIn}
+use Rattle.edif_contents.specs.Ends.{EndFaultIn, MeansEndIn, WidthFaultIn}
 use Rattle.edif_nets.specs.Joins.{places_of}
 use Rattle.edif_nets.specs.NetLists.{named}
-use Rattle.edif_contents.specs.declared.ends.EndAt.{EndAt}
 use Rattle.edif_contents.specs.declared.ends.Surroundings.{Surroundings}
 use Rattle.edif_nets.specs.declared.net_list.NetList.{NetList}
-use Rattle.edif_contents.specs.declared.nets.JoinedAt.{JoinedAt}
 use Rattle.edif_contents.specs.declared.nets.NetAt.{NetAt}
-use Rattle.edif_contents.specs.declared.nets.StretchesAt.{StretchesAt}
+use Rattle.edif_contents.specs.declared.nets.Written.{Written}
+use Rattle.edif_contents.specs.declared.nets.Written.TheVariants as written
 
--- What a net joins: the ends that its forms mean, and the nodes of these.
-pub record ReadJoined (s : Surroundings) (t : Placed) (j : JoinedAt) : Type 0 where
-  pub form : IsFormOf keywords.Joined (bare t) [] (map bare (parts keywords.Joined keywords.PortRef t))
-  pub ends : AllZip (ReadEnd s) (parts keywords.Joined keywords.PortRef t) j.ends
-  pub nodes : all j.nodes ≡ parts keywords.Joined keywords.PortRef t
+-- a net as it is written, as a form
+abbrev pub form_in : Written → NetForm
+form_in (written.One n) = single_form n
+form_in (written.Many f) = f
 
--- The bits that a form says that a net joins, which are as wide as its array says; they begin at numbers of 32 bits.
-pub record ReadStretches (s : Surroundings) (array : Option ℕ) (t : Placed) (j : StretchesAt) : Type 0 where
-  pub ends : List EndAt
-  pub joined : ReadJoined s t (record { ends = ends; nodes = j.nodes })
-  pub wide : AllByRecursion (λ (e : EndAt). e.stretch.width ≡ row_size array) ends
-  pub stretches : j.stretches ≡ map (λ (e : EndAt). e.stretch) ends
-  pub within : All (λ s. s.first < 2 ^ 32) j.stretches
+-- The forms of the ends that a form says that a net joins.
+pub record HasEnds (t : Placed) (us : List Placed) : Type 0 where
+  pub form : IsFormOf keywords.Joined (bare t) [] (map bare us)
+  pub are : us ≡ parts keywords.Joined keywords.PortRef t
+  pub refs : AllByRecursion (λ u. has_keyword keywords.PortRef (bare u) ≡ true) us
 
--- what is wrong with what a net joins: with the form, an end of another width
-abbrev pub StretchesFaultIn : Surroundings → Option ℕ → Placed → MeaningFault → Type 0
-StretchesFaultIn s array t f = JoinedFault s.libs.now.libs s.ports.now s.insts.now t f ⊎ Among (WidthFaultIn s array) (parts keywords.Joined keywords.PortRef t) f
+-- The bits that an end means, which are as wide as a net with this array, and begin at a number of 32 bits; and what is wrong with one.
+pub record IsWideEnd (s : Surroundings) (array : Option ℕ) (t : Placed) (x : Stretch) : Type 0 where
+  pub mean : MeansEndIn s (bare t) x
+  pub wide : x.width ≡ row_size array
+  pub within : x.first < 2 ^ 32
+
+abbrev pub WideEndFault : Surroundings → Option ℕ → Placed → MeaningFault → Type 0
+WideEndFault s array t f = EndFaultIn s t f ⊎ WidthFaultIn s array t f
+
+-- A net with this name and this array, which joins what these forms of ends mean, and has the properties among these followers; and what is
+-- wrong with one.
+pub record HasParts (s : Surroundings) (title : design.Name) (bus : Option ℕ) (us inner : List Placed) (n : NetForm) : Type 0 where
+  pub name : n.name ≡ title
+  pub array : n.array ≡ bus
+  pub ends : AllZip (IsWideEnd s bus) us n.joined
+  pub properties : MeansProperties (map bare inner) n.properties × All IsTypedProperty n.properties × HasDistinctKeys n.properties
+
+abbrev pub PartFault : Surroundings → Option ℕ → List Placed → List Placed → MeaningFault → Type 0
+PartFault s array us inner f = Among (WideEndFault s array) us f ⊎ PropertiesFault (those_of keywords.Property inner) f
 
 -- what a net means as it is written, and what is wrong with one
 abbrev pub MeansNetIn : Surroundings → Bare → NetForm → Type 0
@@ -55,10 +67,10 @@ IsFine n = IsTypedNet n × HasDistinctKeys n.properties
 
 -- The net that a form means as it is written, whose bits begin at numbers of 32 bits; the place of its name, and the nodes of its ends.
 pub record ReadNet (s : Surroundings) (t : Placed) (n : NetAt) : Type 0 where
-  pub mean : MeansNetIn s (bare t) n.form
-  pub fine : FineForm n.form
-  pub within : All (λ s. s.first < 2 ^ 32) n.form.joined
-  pub named : defined t ≡ Some (n.form.name.id, n.place)
+  pub mean : MeansNetIn s (bare t) (form_in n.net)
+  pub fine : FineForm (form_in n.net)
+  pub within : All (λ s. s.first < 2 ^ 32) (form_in n.net).joined
+  pub named : defined t ≡ Some ((form_in n.net).name.id, n.place)
   pub nodes : all n.ends ≡ ends_in t
 
 -- The nets for which the forms of nets among these stand, within the limits, with names that differ and each bit joined once.

@@ -1,9 +1,11 @@
 //! The libraries that a file has defined so far, with the names in them.
-ghost use Rattle.std.specs.Prelude.{◌≡◌, ◌<◌, ◌++◌, ◌∷◌, [], length, map, IfNone, IfOk, IfSome, OnErr, OnOk, vec_capacity, vec_len};
+ghost use Rattle.std.specs.Prelude.{◌≡◌, ◌<◌, ◌++◌, ◌∷◌, [], length, map, slice_get, IfNone, IfOk, IfSome, None, OnErr, OnOk, vec_capacity, vec_len};
+ghost use Rattle.std.specs.List.{AllZip};
 ghost use Rattle.std.specs.Option.{option_copied};
 ghost use Rattle.edif_spec.specs.Design as design;
 ghost use Rattle.edif_spec.specs.Means.{meant};
 ghost use Rattle.edif_contents.specs.Known.{AddsCell, AddsTo, NamedLib, OpensLib};
+ghost use Rattle.edif_contents.specs.NamesOf.{AreNamesOf, AreNamesThere};
 ghost use Rattle.edif_parts.specs.Names.{DefinesName, Tells, ids};
 
 use edif_names::Meant;
@@ -12,33 +14,36 @@ use netlist_schema::{CellBody, CellId, Ident, Lib, LibHead, NoMemory, Row};
 use std::alloc::Global;
 use std::marker::Model;
 
+/// The names of the ports and of the instances of a cell.
+#[derive(Drop)]
+pub struct CellNames {
+    /// Those of the ports.
+    pub ports: Names,
+    /// Those of the instances.
+    pub insts: Names,
+}
+
 /// A cell, with the names of its ports and of its instances. Contracts see the cell.
 pub struct KnownCell {
     body: CellBody,
-    ports: Names,
-    insts: Names,
+    names: CellNames,
 }
 
 impl Drop for KnownCell {
     fn drop(self) {
-        let KnownCell {
-            body: _,
-            ports: _,
-            insts: _,
-        } = self;
+        let KnownCell { body: _, names: _ } = self;
     }
 }
 
 impl Model for KnownCell {
-    ghost use Rattle.std.specs.Prelude.{◌≡◌};
     ghost use Rattle.edif_spec.specs.Design as design;
-    ghost use Rattle.edif_parts.specs.Names.{ids};
+    ghost use Rattle.edif_contents.specs.NamesOf.{AreNamesOf};
 
     ghost Value = { design.CellBody };
 
     ghost view = { λ c. c.body };
 
-    ghost invariant = { λ c. (ids c.ports ≡ design.port_ids c.body.ports) × (ids c.insts ≡ design.inst_ids (design.insts_of c.body)) };
+    ghost invariant = { λ c. AreNamesOf c.names c.body };
 }
 
 impl KnownCell {
@@ -48,7 +53,8 @@ impl KnownCell {
         requires insts { ids insts ≡ design.inst_ids (design.insts_of body) }
         ensures { result ≡ body }
     {
-        KnownCell { body, ports, insts }
+        let names = CellNames { ports, insts };
+        KnownCell { body, names }
     }
 
     /// The identifier of the cell. Takes no memory.
@@ -58,21 +64,25 @@ impl KnownCell {
         &self.body.name.id
     }
 
-    /// The cell without its names. Takes no memory.
-    fn into_body(self) -> CellBody
-        ensures { result ≡ self }
+    /// Adds the cell to these, and the names in it to those beside them, where there is room for both. Takes no memory.
+    fn push_to(self, cells: &mut Vec<CellBody>, inner: &mut Vec<CellNames>)
+        requires room { vec_len cells.old < vec_capacity cells.old }
+        requires more { vec_len inner.old < vec_capacity inner.old }
+        ensures cells { cells.new.items ≡ cells.old.items ++ self ∷ [] }
+        ensures names { AllZip AreNamesOf inner.old.items cells.old.items → AllZip AreNamesOf inner.new.items cells.new.items }
     {
-        let KnownCell { body, ports, insts } = self;
-        drop(ports);
-        drop(insts);
-        body
+        let KnownCell { body, names } = self;
+        cells.push_reserved(body);
+        inner.push_reserved(names);
     }
 }
 
 /// A library, with its cells so far and their names.
 pub struct KnownLib {
     head: LibHead,
-    cells: Vec<KnownCell>,
+    cells: Vec<CellBody>,
+    /// Of each cell the names in it.
+    inner: Vec<CellNames>,
     names: Names,
 }
 
@@ -81,6 +91,7 @@ impl Drop for KnownLib {
         let KnownLib {
             head: _,
             cells: _,
+            inner: _,
             names: _,
         } = self;
     }
@@ -88,7 +99,9 @@ impl Drop for KnownLib {
 
 impl Model for KnownLib {
     ghost use Rattle.std.specs.Prelude.{◌≡◌, map};
+    ghost use Rattle.std.specs.List.{AllZip};
     ghost use Rattle.edif_spec.specs.Design as design;
+    ghost use Rattle.edif_contents.specs.NamesOf.{AreNamesOf};
     ghost use Rattle.edif_contents.specs.Known.{NamedLib};
     ghost use Rattle.edif_parts.specs.Names.{ids};
 
@@ -96,7 +109,7 @@ impl Model for KnownLib {
 
     ghost view = { λ l. record { lib = record { head = l.head; cells = l.cells.items }; names = l.names } };
 
-    ghost invariant = { λ l. ids l.names ≡ map (λ (c : design.CellBody). c.name.id) l.cells.items };
+    ghost invariant = { λ l. (ids l.names ≡ map (λ (c : design.CellBody). c.name.id) l.cells.items) × AllZip AreNamesOf l.inner.items l.cells.items };
 }
 
 impl KnownLib {
@@ -106,9 +119,15 @@ impl KnownLib {
         ensures ok { IfOk result (λ earlier. AddsTo self.old cell place self.new earlier) }
         ensures err { OnErr result (self.new ≡ self.old) }
     {
-        match define_within(&mut self.cells, &mut self.names, cell.name(), place) {
+        match define_cell(
+            &mut self.cells,
+            &mut self.inner,
+            &mut self.names,
+            cell.name(),
+            place,
+        ) {
             Ok(earlier) => {
-                push_new(&mut self.cells, cell, earlier);
+                push_cell(&mut self.cells, &mut self.inner, cell, earlier);
                 Ok(earlier)
             }
             Err(NoMemory) => {
@@ -118,34 +137,50 @@ impl KnownLib {
         }
     }
 
-    /// The library without its names.
-    fn into_lib(self, alloc: Global) -> Result<Lib, NoMemory>
-        ensures { IfOk result (λ lib. lib ≡ self.lib) }
+    /// The names in the cell at a place, where there is one. Takes no memory.
+    fn names_in(&self, slot: usize) -> Option<&CellNames>
+        ensures some { IfSome result (λ n. AreNamesThere (slice_get self.now.lib.cells slot) n.now) }
+        ensures none { IfNone result (slice_get self.now.lib.cells slot ≡ None) }
     {
-        let KnownLib { head, cells, names } = self;
-        drop(names);
-        let cells = into_bodies(alloc, cells)?;
-        Ok(Lib { head, cells })
+        match self.inner.get(slot) {
+            Some(names) => Some(names),
+            None => None,
+        }
     }
-}
 
-/// The cells without their names, in order.
-fn into_bodies(alloc: Global, cells: Vec<KnownCell>) -> Result<Row<CellBody>, NoMemory>
-    ensures { IfOk result (λ bodies. bodies ≡ cells.items) }
-{
-    let mut bodies = Vec::new(alloc);
-    for cell in cells {
-        bodies.push(cell.into_body())?;
+    /// Makes room for so many more cells. The library stays.
+    fn make_room(&mut self, count: usize) -> Result<(), NoMemory>
+        ensures { self.new ≡ self.old }
+    {
+        self.inner.reserve(count)?;
+        self.cells.reserve(count)?;
+        Ok(())
     }
-    Ok(Row::of(bodies))
+
+    /// The library without its names.
+    fn into_lib(self) -> Lib
+        ensures { result ≡ self.lib }
+    {
+        let KnownLib {
+            head,
+            cells,
+            inner,
+            names,
+        } = self;
+        drop(inner);
+        drop(names);
+        Lib {
+            head,
+            cells: Row::of(cells),
+        }
+    }
 }
 
 /// Adds a library without its names to those that are given.
-fn give_lib(alloc: Global, lib: KnownLib, given: &mut Vec<Lib>) -> Result<(), NoMemory>
+fn give_lib(lib: KnownLib, given: &mut Vec<Lib>) -> Result<(), NoMemory>
     ensures { OnOk result (given.new.items ≡ given.old.items ++ lib.lib ∷ []) }
 {
-    let lib = lib.into_lib(alloc)?;
-    given.push(lib)?;
+    given.push(lib.into_lib())?;
     Ok(())
 }
 
@@ -155,7 +190,7 @@ fn give_libs(alloc: Global, libs: Vec<KnownLib>) -> Result<Row<Lib>, NoMemory>
 {
     let mut given = Vec::new(alloc);
     for lib in libs {
-        give_lib(alloc, lib, &mut given)?;
+        give_lib(lib, &mut given)?;
     }
     Ok(Row::of(given))
 }
@@ -186,6 +221,44 @@ fn push_new<T: Drop>(items: &mut Vec<T>, item: T, earlier: Option<u64>)
     if earlier.is_none() {
         items.push_reserved(item);
     }
+}
+
+/// Defines the name of a cell, where there is room for one more of these cells, and for the names in it. Otherwise as `define_within`.
+fn define_cell(
+    cells: &mut Vec<CellBody>,
+    inner: &mut Vec<CellNames>,
+    names: &mut Names,
+    name: &Ident,
+    place: u64,
+) -> Result<Option<u64>, NoMemory>
+    ensures ok { IfOk result (λ earlier. DefinesName names.old name.now place names.new earlier) }
+    ensures err { OnErr result (names.new ≡ names.old) }
+    ensures items { cells.new.items ≡ cells.old.items }
+    ensures inner { inner.new.items ≡ inner.old.items }
+    ensures room { OnOk result (vec_len cells.new < vec_capacity cells.new) }
+    ensures more { OnOk result (vec_len inner.new < vec_capacity inner.new) }
+{
+    inner.reserve(1)?;
+    define_within(cells, names, name, place)
+}
+
+/// Adds a cell where its name was not there earlier, and there is room for it, beside the names in it. Takes no memory.
+fn push_cell(
+    cells: &mut Vec<CellBody>,
+    inner: &mut Vec<CellNames>,
+    cell: KnownCell,
+    earlier: Option<u64>,
+)
+    requires room { vec_len cells.old < vec_capacity cells.old }
+    requires more { vec_len inner.old < vec_capacity inner.old }
+    ensures none { IfNone earlier (cells.new.items ≡ cells.old.items ++ cell ∷ []) }
+    ensures some { IfSome earlier (λ _. cells.new.items ≡ cells.old.items) }
+    ensures names { AllZip AreNamesOf inner.old.items cells.old.items → AllZip AreNamesOf inner.new.items cells.new.items }
+{
+    if earlier.is_some() {
+        return;
+    }
+    cell.push_to(cells, inner);
 }
 
 /// The libraries that a file has defined so far. A cell is among them from the end of its form on, a library from its head on.
@@ -239,6 +312,7 @@ impl Libraries {
         let lib = KnownLib {
             head,
             cells: Vec::new(self.alloc),
+            inner: Vec::new(self.alloc),
             names: Names::new(self.alloc),
         };
         push_new(&mut self.libs, lib, earlier);
@@ -256,6 +330,16 @@ impl Libraries {
             unreachable!();
         };
         lib.add(cell, place)
+    }
+
+    /// Makes room for so many more cells of the last library. The libraries stay.
+    pub fn make_room(&mut self, count: usize) -> Result<(), NoMemory>
+        ensures { self.new ≡ self.old }
+    {
+        match self.libs.last_mut() {
+            Some(lib) => lib.make_room(count),
+            None => Ok(()),
+        }
     }
 
     /// The number of libraries. Takes no memory.
@@ -301,28 +385,31 @@ impl Libraries {
         }
     }
 
-    /// A cell with its names, where there is such a cell. Takes no memory.
-    fn known(&self, id: CellId) -> Option<&KnownCell>
+    /// A cell, where there is such a cell. Takes no memory.
+    pub fn body(&self, id: CellId) -> Option<&CellBody>
         ensures { option_copied result ≡ design.cell_at self.now.libs id }
     {
         let lib = self.libs.get(id.lib.0 as usize)?;
         lib.cells.get(id.slot as usize)
     }
 
-    /// A cell, where there is such a cell. Takes no memory.
-    pub fn body(&self, id: CellId) -> Option<&CellBody>
-        ensures { option_copied result ≡ design.cell_at self.now.libs id }
+    /// The names in a cell, where there is such a cell. Takes no memory.
+    fn names_in(&self, id: CellId) -> Option<&CellNames>
+        ensures some { IfSome result (λ n. AreNamesThere (design.cell_at self.now.libs id) n.now) }
+        ensures none { IfNone result (design.cell_at self.now.libs id ≡ None) }
     {
-        let cell = self.known(id)?;
-        Some(&cell.body)
+        match self.libs.get(id.lib.0 as usize) {
+            Some(lib) => lib.names_in(id.slot as usize),
+            None => None,
+        }
     }
 
     /// What a name means among the ports of a cell; nothing where there is no such cell. Takes no memory.
     pub fn port(&self, id: CellId, name: &Ident) -> Meant
         ensures { Tells (meant (design.port_ids (design.ports_at self.now.libs id)) name.now) result }
     {
-        match self.known(id) {
-            Some(cell) => cell.ports.meant(name),
+        match self.names_in(id) {
+            Some(names) => names.ports.meant(name),
             None => Meant::Absent,
         }
     }
@@ -331,8 +418,8 @@ impl Libraries {
     pub fn inst(&self, id: CellId, name: &Ident) -> Meant
         ensures { Tells (meant (design.inst_ids (design.insts_at self.now.libs id)) name.now) result }
     {
-        match self.known(id) {
-            Some(cell) => cell.insts.meant(name),
+        match self.names_in(id) {
+            Some(names) => names.insts.meant(name),
             None => Meant::Absent,
         }
     }

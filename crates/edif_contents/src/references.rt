@@ -34,6 +34,7 @@ pub struct Reference<'a> {
 }
 
 /// The reference at a node where an identifier stands. Takes no memory.
+#[inline(always)]
 pub fn reference_at(node: Node<'_>) -> Reference<'_>
     requires { IsTrue (is_choice AnIdentifier (bare (here node))) }
     ensures { here node.entry ≡ Word' result.place result.name.now }
@@ -45,6 +46,7 @@ pub fn reference_at(node: Node<'_>) -> Reference<'_>
 }
 
 /// What is meant by a reference at a place, where its scope answers so: the one definition, or a fault. Takes no memory.
+#[inline(always)]
 pub(crate) fn resolve(answer: Meant, place: u64) -> Result<u32, EdifError>
     ensures { (scope : List (List ℕ)) (w : List ℕ) → Tells (meant scope w) answer → Answers (λ i. meant scope w ≡ edif.Found i) (Dangles scope (Word' place w)) result }
 {
@@ -56,6 +58,7 @@ pub(crate) fn resolve(answer: Meant, place: u64) -> Result<u32, EdifError>
 }
 
 /// The reference that a form of one identifier, and nothing else, makes.
+#[inline(always)]
 pub(crate) fn read_reference(
     alloc: Global,
     node: Node<'_>,

@@ -1,4 +1,4 @@
-use Rattle.std.proofs.Common.{[], ◌∷◌, ◌++◌, List, sym, ap, ◌∙◌, subst}
+use Rattle.std.proofs.Common.{[], ◌∷◌, ◌++◌, List, None, sym, ap, ◌∙◌, subst}
 use Rattle.std.specs.List.{AllZip}
 use Rattle.edif_spelling_spec.specs.Tree.{Placed}
 use Rattle.edif_spec.specs.Faults.{Among}
@@ -8,7 +8,9 @@ use Rattle.edif_tree.specs.Handles.{here, all}
 use Rattle.edif_tree.specs.Eaches.{left}
 use Rattle.edif_parts.proofs.Answering.{hand_on}
 use Rattle.edif_parts.proofs.Steps.{ended, stepped}
-use Rattle.edif_contents.specs.Ends.{EndFaultIn, ReadEnd}
+use Rattle.edif_spec.specs.Design as design
+use Rattle.edif_spec.specs.Nets.{bit_of}
+use Rattle.edif_contents.specs.Nets.{IsWideEnd, WideEndFault}
 use Rattle.edif_contents.proofs.Followers.{next_has}
 use Rattle.edif_contents.proofs.NetLemmas.{among_here}
 use Rattle.edif_contents.proofs.nets.read_ends.Goals as goal
@@ -20,8 +22,8 @@ loop-node-init c = record {
   ends = ([], sym (ap left c.into_iter-node-iterator.ensures.into_iter_gives ∙ c.iter-node-items.ensures), rw c.in_ok-ends.ensures.items tt);
 }
 
-pub read_end-requires-clause-keyword : goal.read_end-requires-clause-keyword
-read_end-requires-clause-keyword c =
+pub read_bit-requires-clause-keyword : goal.read_bit-requires-clause-keyword
+read_bit-requires-clause-keyword c =
     let b = c.loop-node.invariant.ends in
     next_has PortRef (all c.args.nodes) b.0 (left c.loop-node.node-iterator) (left c.next.new.self) (here c.in-Some.node) b.1 c.in-Some.ensures.steps c.requires.nodes
 
@@ -31,14 +33,14 @@ returns-in_err-end c =
     let ts = all c.args.nodes in
     let s = c.args.around.now in
     let b = c.loop-node.invariant.ends in
-    hand_on (AllZip (ReadEnd s) ts) (EndFaultIn s t) (Among (EndFaultIn s) ts) c.from_residual-in_err-end.result c.in_err-end.field-0.0 c.from_residual-in_err-end.ensures.1
-    (λ f h. among_here (EndFaultIn s) ts b.0 (left c.loop-node.node-iterator) (left c.next.new.self) t f b.1 c.in-Some.ensures.steps h) c.in_err-end.ensures
+    hand_on (AllZip (λ u e. IsWideEnd s None u (bit_of e)) ts) (WideEndFault s None t) (Among (WideEndFault s None) ts) c.from_residual-in_err-end.result c.in_err-end.field-0.0 c.from_residual-in_err-end.ensures.1
+    (λ f h. among_here (WideEndFault s None) ts b.0 (left c.loop-node.node-iterator) (left c.next.new.self) t f b.1 c.in-Some.ensures.steps h) c.in_err-end.ensures
 
 pub loop-node-preserved : goal.loop-node-preserved
 loop-node-preserved c =
     let t = here c.in-Some.node in
     let b = c.loop-node.invariant.ends in
-    let R = ReadEnd c.args.around.now in
+    let R : Placed → design.End → Type 0 = λ u e. IsWideEnd c.args.around.now None u (bit_of e) in
     record {
       can_next = tt;
       is_finite = tt;
@@ -48,5 +50,5 @@ loop-node-preserved c =
 pub returns : goal.returns
 returns c =
     let b = c.loop-node.invariant.ends in
-    let Z : List Placed → Type 0 = λ v. AllZip (ReadEnd c.args.around.now) v c.loop-node.ends.items in
+    let Z : List Placed → Type 0 = λ v. AllZip (λ u e. IsWideEnd c.args.around.now None u (bit_of e)) v c.loop-node.ends.items in
     rw c.of.ensures (subst Z (ended (all c.args.nodes) b.0 (left c.loop-node.node-iterator) b.1 c.in-None.ensures.steps.0) b.2)

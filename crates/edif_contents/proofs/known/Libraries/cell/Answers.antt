@@ -13,7 +13,7 @@ returns-in-Some c =
     let Q : NamedLib → Type 0 = λ v. Tells (meant (ids v.names) c.args.name.now) c.meant.result in
     let R : NamedLib → Type 0 = λ v. ids v.names ≡ design.cell_ids (v.lib ∷ []) 0 in
     let at = c.in-Some.ensures.lookup.3 in
-    subst P c.self.view_is (rw c.deref.ensures.value at (tells_cell c.deref.result.now c.args.lib c.in-Some.lib.now c.args.name.now c.meant.result at.0 (at.1 c.in-Some.lib.now) (subst R c.lib.view_is c.lib.invariant) (subst Q c.lib.view_is c.meant.ensures)))
+    subst P c.self.view_is (rw c.deref.ensures.value at (tells_cell c.deref.result.now c.args.lib c.in-Some.lib.now c.args.name.now c.meant.result at.0 (at.1 c.in-Some.lib.now) (subst R c.lib.view_is c.lib.invariant.0) (subst Q c.lib.view_is c.meant.ensures)))
 
 pub returns-in-None : goal.returns-in-None
 returns-in-None c =

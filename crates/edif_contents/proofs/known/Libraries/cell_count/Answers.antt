@@ -10,4 +10,4 @@ returns-in-Some c =
     let Q : List NamedLib → Type 0 = λ v. c.in-Some.lib.now ≡ slice_index_or v (length v - 1) c.in-Some.lib.now in
     let k = c.lib.inside.cells.ok.0 in
     counted c.args.self.now c.self.inside.libs.items c.self.inside.names c.in-Some.lib.now (named c.lib.inside.head c.lib.inside.cells.items c.lib.inside.names) c.len.result c.self.view_is
-    (subst P c.deref.ensures.value at.0) (subst Q c.deref.ensures.value (at.1 c.in-Some.lib.now)) c.lib.view_is c.lib.invariant (omega arith)
+    (subst P c.deref.ensures.value at.0) (subst Q c.deref.ensures.value (at.1 c.in-Some.lib.now)) c.lib.view_is c.lib.invariant.0 (omega arith)

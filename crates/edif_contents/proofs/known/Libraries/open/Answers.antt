@@ -10,7 +10,7 @@ invariant_of-self-2 c =
     let new = c.push_new.new.items.items in
     let head = c.args.head in
     ids_grown (λ (l : NamedLib). l.lib.head.name.id) libs new (named head [] []) c.self.inside.names c.define_within.new.names c.args.place o c.in_ok-earlier.ensures.ok
-    (pushed o (named head [] []) (named head c.new.result.items c.new-2.result) libs c.define_within.new.items.items new c.push_new.ensures.none c.push_new.ensures.some c.define_within.ensures.items (λ i. named head (c.new.ensures.items i) (c.new-2.ensures i))) c.self.invariant
+    (pushed o (named head [] []) (named head c.new.result.items c.new-3.result) libs c.define_within.new.items.items new c.push_new.ensures.none c.push_new.ensures.some c.define_within.ensures.items (λ i. named head (c.new.ensures.items i) (c.new-3.ensures i))) c.self.invariant
 
 pub returns-clause-ok : goal.returns-clause-ok
 returns-clause-ok c =
@@ -19,4 +19,4 @@ returns-clause-ok c =
     let new = c.push_new.new.items.items in
     let head = c.args.head in
     opened c.args.self.now libs new c.self.inside.names c.define_within.new.names head c.args.place o c.self.view_is c.in_ok-earlier.ensures.ok
-    (pushed o (named head [] []) (named head c.new.result.items c.new-2.result) libs c.define_within.new.items.items new c.push_new.ensures.none c.push_new.ensures.some c.define_within.ensures.items (λ i. named head (c.new.ensures.items i) (c.new-2.ensures i)))
+    (pushed o (named head [] []) (named head c.new.result.items c.new-3.result) libs c.define_within.new.items.items new c.push_new.ensures.none c.push_new.ensures.some c.define_within.ensures.items (λ i. named head (c.new.ensures.items i) (c.new-3.ensures i)))
