@@ -16,10 +16,10 @@ use crate::cells::read_cell;
 use crate::levels::read_level;
 use edif_contents::Libraries;
 use edif_grammar::is_form_of;
-use edif_parts::{EdifError, clash, over_limit, read_name, read_parts};
+use edif_parts::{EdifError, clash, over_limit, read_name, read_parts, room_wanted};
 use edif_spec::{ClashKind, Keyword};
 use edif_tree::{Node, Nodes};
-use netlist_schema::{LibHead, MOST_CELLS, MOST_LIBS};
+use netlist_schema::{LibHead, MOST_CELLS, MOST_LIBS, NoMemory};
 use std::alloc::Global;
 
 /// The head of a library, and what follows it.
@@ -112,6 +112,32 @@ fn add_cells(
     Ok(())
 }
 
+/// Makes room for the cells among these followers of the last library, where they are not too many. The libraries stay.
+fn room_for_cells(inner: Nodes<'_>, libs: &mut Libraries) -> Result<(), NoMemory>
+    ensures { libs.new ≡ libs.old }
+{
+    let count = room_wanted(inner, Keyword::Cell);
+    if count > MOST_CELLS {
+        return Ok(());
+    }
+    libs.make_room(count)
+}
+
+/// As `add_cells`, with room for all of them from the first on.
+fn fill_library(
+    alloc: Global,
+    inner: Nodes<'_>,
+    libs: &mut Libraries,
+    own: u32,
+) -> Result<(), EdifError>
+    requires { (before : List design.Lib) × (head : design.LibHead) × (names : List (List ℕ × ℕ)) × CellsAre before head names [] libs.old × (own ≡ length before) }
+    ensures { (before : List design.Lib) (head : design.LibHead) (names : List (List ℕ × ℕ)) → CellsAre before head names [] libs.old → own ≡ length before
+        → Answers (λ _. CellsAre before head names (those_of CellWord (all inner.entry)) libs.new) (CellsFail before head (those_of CellWord (all inner.entry))) result }
+{
+    room_for_cells(inner, libs)?;
+    add_cells(alloc, inner, libs, own)
+}
+
 /// Adds the library at a node.
 fn add_library(alloc: Global, node: Node<'_>, libs: &mut Libraries) -> Result<(), EdifError>
     requires keyword { is_library (bare (here node)) ≡ true }
@@ -125,7 +151,7 @@ fn add_library(alloc: Global, node: Node<'_>, libs: &mut Libraries) -> Result<()
     let head = read_head(alloc, node)?;
     match libs.open(head.head, head.place)? {
         Some(earlier) => Err(clash(ClashKind::Duplicate, head.place, earlier)),
-        None => add_cells(alloc, head.inner, libs, own as u32),
+        None => fill_library(alloc, head.inner, libs, own as u32),
     }
 }
 

@@ -30,8 +30,8 @@ returns-in-Some c = λ ts k.
     let P : Option ℕ → Type 0 = λ v. OpensLib c.args.libs.now c.in_ok-head.head.head c.in_ok-head.head.place c.«open».new.self v in
     rw c.clash.ensures (library_repeats ts t c.args.libs.now c.«open».new.self c.in_ok-head.head c.in-Some.earlier k c.in_ok-head.ensures (subst P c.in-Some.is c.in_ok-earlier.ensures.ok))
 
-pub add_cells-requires : goal.add_cells-requires
-add_cells-requires c =
+pub fill_library-requires : goal.fill_library-requires
+fill_library-requires c =
     let P : Option ℕ → Type 0 = λ v. OpensLib c.args.libs.now c.in_ok-head.head.head c.in_ok-head.head.place c.«open».new.self v in
     let h = c.in_ok-head.head in
     (c.args.libs.now.libs, h.head, c.args.libs.now.lib_names ++ (h.head.name.id, h.place) ∷ [], opened c.args.libs.now c.«open».new.self h.head h.place (subst P c.in-None.is c.in_ok-earlier.ensures.ok), c.len-own.ensures)
@@ -47,8 +47,8 @@ returns-in-None c = λ ts k.
     let names : List (List ℕ × ℕ) = old.lib_names ++ (h.head.name.id, h.place) ∷ [] in
     let l : length old.libs < 1024 = omega arith in
     let i = all h.inner in
-    answers_more (λ _. CellsAre old.libs h.head names (those_of Cell i) c.add_cells.new.libs) (λ _. LibsAre (ts ++ t ∷ []) c.add_cells.new.libs)
-    (CellsFail old.libs h.head (those_of Cell i)) (FailsAt LibsFail ts t) c.add_cells.result
-    (λ _ m. (let Q : List Placed → Type 0 = λ v. CellsAre old.libs h.head names (those_of Cell v) c.add_cells.new.libs in library_added ts t old c.«open».new.self c.add_cells.new.libs h k r l o (subst Q r.inner m)))
+    answers_more (λ _. CellsAre old.libs h.head names (those_of Cell i) c.fill_library.new.libs) (λ _. LibsAre (ts ++ t ∷ []) c.fill_library.new.libs)
+    (CellsFail old.libs h.head (those_of Cell i)) (FailsAt LibsFail ts t) c.fill_library.result
+    (λ _ m. (let Q : List Placed → Type 0 = λ v. CellsAre old.libs h.head names (those_of Cell v) c.fill_library.new.libs in library_added ts t old c.«open».new.self c.fill_library.new.libs h k r l o (subst Q r.inner m)))
     (λ f b. (let Q : List Placed → Type 0 = λ v. CellsFail old.libs h.head (those_of Cell v) f in library_fault ts t old f k (library_cells old.libs t h f r (subst Q r.inner b))))
-    (c.add_cells.ensures old.libs h.head names (opened old c.«open».new.self h.head h.place o) c.len-own.ensures)
+    (c.fill_library.ensures old.libs h.head names (opened old c.«open».new.self h.head h.place o) c.len-own.ensures)
