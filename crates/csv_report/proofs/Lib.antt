@@ -1,3 +1,3 @@
+mod PlainLemmas
 mod RowLemmas
-mod SinkLemmas
 pub mod TextLemmas

@@ -5,10 +5,8 @@ mod pin;
 mod pins;
 mod places;
 mod rows;
-mod sink;
 mod written;
 
-pub use pins::put_item;
+pub use pins::text_row;
 pub use places::{net_name, path_bytes, port_name};
 pub use rows::{header, pin_row};
-pub use sink::RowSink;

@@ -1,14 +1,13 @@
-//! The rows of pins on their way to a sink.
-ghost use Rattle.std.specs.Prelude.{◌≡◌, [], ◌∷◌};
-ghost use Rattle.netdb_outside.specs.Buffered.{Writes};
-ghost use Rattle.csv_report.specs.Parts.{first_fields, row_of_text};
+//! The row of an item in one piece, by the texts of its paths.
+ghost use Rattle.std.specs.Prelude.{◌≡◌, ◌++◌, ◌∷◌, [], map, OnErr, OnOk};
+ghost use Rattle.csv_report.specs.Parts.{first_fields, plain_row, row_of_text};
 
-use crate::sink::RowSink;
 use flat_items::{ItemText, NetText};
 use flat_lookup::{net_name, port_name};
 use itoa::Buffer;
-use netdb_outside::Sink;
-use netlist_schema::Shown;
+use joined_words::push_words;
+use netlist_schema::{NoMemory, Shown};
+use path_texts::PathText;
 
 /// The path of the occurrence of a net, and the net's identifier.
 #[derive(Clone, Copy)]
@@ -34,10 +33,58 @@ fn net_fields<'t, 'd, S: Shown>(design: &'d S, first: Option<NetText<'t>>) -> Ne
     }
 }
 
-/// Writes the row of an item whose paths are lent as texts, as `pin_row` appends it.
+/// Appends fields as they are, with a comma between each two and a line feed at the end. After `NoMemory` the bytes are as before.
 #[inline(always)]
-pub fn put_item<S: Shown, K: Sink>(design: &S, item: ItemText<'_>, rows: &mut RowSink, out: &mut K)
-    ensures { Writes K.written K.faults out.old rows.old out.new rows.new (row_of_text (S.design design.now) item.entry) }
+fn push_fields(fields: &[&[u8]], last: &[u8], out: &mut Vec<u8>) -> Result<(), NoMemory>
+    ensures ok { OnOk result (out.new.items ≡ out.old.items ++ plain_row (map (λ field. field.now) fields.now ++ last.now ∷ [])) }
+    ensures err { OnErr result (out.new.items ≡ out.old.items) }
+{
+    push_words(fields, last, b',', b'\n', out)?;
+    Ok(())
+}
+
+/// The row of a pin by its fields.
+#[inline(always)]
+fn push_row(
+    path: &[u8],
+    port: &[u8],
+    bit: &[u8],
+    net_path: &[u8],
+    net: &[u8],
+    out: &mut Vec<u8>,
+) -> Result<(), NoMemory>
+    ensures ok { OnOk result (out.new.items ≡ out.old.items ++ plain_row (path.now ∷ port.now ∷ bit.now ∷ net_path.now ∷ net.now ∷ [])) }
+    ensures err { OnErr result (out.new.items ≡ out.old.items) }
+{
+    push_fields(&[path, port, bit, net_path], net, out)
+}
+
+/// The row of a pin.
+#[inline(always)]
+fn push_pin<S: Shown>(
+    design: &S,
+    at: PathText<'_>,
+    port: u32,
+    bit: u32,
+    first: Option<NetText<'_>>,
+    out: &mut Vec<u8>,
+) -> Result<(), NoMemory>
+    ensures ok { OnOk result (out.new.items ≡ out.old.items ++ row_of_text (S.design design.now) (ItemText.Pin at.entry port bit first.entry)) }
+    ensures err { OnErr result (out.new.items ≡ out.old.items) }
+{
+    let name = port_name(design, Some(at.cell), port);
+    let net = net_fields(design, first);
+    let mut buffer = Buffer::new();
+    let digits = buffer.format(bit).as_bytes();
+    push_row(at.text, name, digits, net.path, net.name, out)
+}
+
+/// Appends the row of an item whose paths are lent as texts, as `pin_row` does, with its fields as they are: neither a path nor an
+/// identifier has a byte for which a field stands in quotes. After `NoMemory` the bytes are as before.
+#[inline(always)]
+pub fn text_row<S: Shown>(design: &S, item: ItemText<'_>, out: &mut Vec<u8>) -> Result<(), NoMemory>
+    ensures ok { OnOk result (out.new.items ≡ out.old.items ++ row_of_text (S.design design.now) item.entry) }
+    ensures err { OnErr result (out.new.items ≡ out.old.items) }
 {
     match item {
         ItemText::Pin {
@@ -45,14 +92,8 @@ pub fn put_item<S: Shown, K: Sink>(design: &S, item: ItemText<'_>, rows: &mut Ro
             port,
             bit,
             first,
-        } => {
-            let name = port_name(design, Some(at.cell), port);
-            let net = net_fields(design, first);
-            let mut buffer = Buffer::new();
-            let digits = buffer.format(bit).as_bytes();
-            rows.put_row(&[at.text, name, digits, net.path, net.name], out);
-        }
-        ItemText::Enter { .. } => (),
-        ItemText::Net { .. } => (),
+        } => push_pin(design, at, port, bit, first, out),
+        ItemText::Enter { .. } => Ok(()),
+        ItemText::Net { .. } => Ok(()),
     }
 }

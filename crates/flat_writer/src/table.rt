@@ -2,13 +2,17 @@
 ghost use Rattle.std.specs.Prelude.{◌≡◌, ◌↔◌, ◌≤◌, ◌++◌, Err, None, OnErr, OnOk, false};
 ghost use Rattle.netdb_outside.specs.Buffered.{Writes};
 ghost use Rattle.netdb_outside.specs.Outside.{Appends, AppendsFront, Rose};
-ghost use Rattle.flat_csv_spec.specs.PinTable.{header as names_of_columns, pin_rows, pin_table};
+ghost use Rattle.flat_csv_spec.specs.PinTable.{header as names_of_columns, pin_row, pin_rows, pin_table};
+ghost use Rattle.flat_items.specs.Texts.{IsItemText};
+ghost use Rattle.flat_spec.specs.Types.{Item};
 ghost use Rattle.flat_writer.specs.Given.{GivesRow};
 
 use crate::error::{FlatError, outcome};
-use csv_report::{RowSink, put_item};
-use netdb_outside::{Sink, WriteError};
-use netlist_schema::Shown;
+use crate::shown::PinRow;
+use csv_report::header;
+use flat_items::ItemText;
+use netdb_outside::{BufferedSink, Sink, WriteError};
+use netlist_schema::{Shown, design_is_valid};
 use occ_walk::{Walk, WalkError};
 use std::alloc::Global;
 
@@ -47,25 +51,23 @@ fn write_left<W: Shown + Drop, K: Sink>(
     ensures fault { result ≡ Err WriteError.WriteFault → Rose (K.faults out.old) (K.faults out.new) }
     ensures never_falls { K.faults out.old ≤ K.faults out.new }
 {
-    let mut page = RowSink::new(alloc);
-    put_header(&mut page, out);
-    put_left(walk, &mut page, out);
+    let mut page = BufferedSink::new(alloc);
+    page.put(header(), out);
+    put_left(alloc, walk, &mut page, out);
     page.finish(out)
 }
 
-/// Writes the names of the columns.
-fn put_header<K: Sink>(page: &mut RowSink, out: &mut K)
-    ensures { Writes K.written K.faults out.old page.old out.new page.new names_of_columns }
-{
-    page.put_row(&[b"path", b"port", b"bit", b"net_path", b"net"], out);
-}
-
 /// Writes the rows of the items that are left to a walk.
-fn put_left<W: Shown + Drop, K: Sink>(walk: &mut Walk<W>, page: &mut RowSink, out: &mut K)
+fn put_left<W: Shown + Drop, K: Sink>(
+    alloc: Global,
+    walk: &mut Walk<W>,
+    page: &mut BufferedSink,
+    out: &mut K,
+)
     ensures { Writes K.written K.faults out.old page.old out.new page.new (pin_rows walk.old.design walk.old.left) }
 {
     'rows: loop {
-        if !put_next(walk, page, out) {
+        if !put_next(alloc, walk, page, out) {
             return;
         }
     }
@@ -73,7 +75,12 @@ fn put_left<W: Shown + Drop, K: Sink>(walk: &mut Walk<W>, page: &mut RowSink, ou
 
 /// Writes the row of the next item that is left to a walk: whether there was one, and nothing failed before.
 #[inline(always)]
-fn put_next<W: Shown + Drop, K: Sink>(walk: &mut Walk<W>, page: &mut RowSink, out: &mut K) -> bool
+fn put_next<W: Shown + Drop, K: Sink>(
+    alloc: Global,
+    walk: &mut Walk<W>,
+    page: &mut BufferedSink,
+    out: &mut K,
+) -> bool
     ensures same { walk.new.design ≡ walk.old.design }
     ensures gives { GivesRow (Writes K.written K.faults out.old page.old out.new page.new) walk.old.design walk.old.left walk.new.left result }
 {
@@ -81,7 +88,7 @@ fn put_next<W: Shown + Drop, K: Sink>(walk: &mut Walk<W>, page: &mut RowSink, ou
         return false;
     }
     match walk.advance() {
-        Ok(true) => put_ahead(walk, page, out),
+        Ok(true) => put_ahead(alloc, walk, page, out),
         Ok(false) => false,
         Err(_) => {
             page.run_out();
@@ -92,7 +99,12 @@ fn put_next<W: Shown + Drop, K: Sink>(walk: &mut Walk<W>, page: &mut RowSink, ou
 
 /// The same, where the walk has gone on to its next item.
 #[inline(always)]
-fn put_ahead<W: Shown + Drop, K: Sink>(walk: &mut Walk<W>, page: &mut RowSink, out: &mut K) -> bool
+fn put_ahead<W: Shown + Drop, K: Sink>(
+    alloc: Global,
+    walk: &mut Walk<W>,
+    page: &mut BufferedSink,
+    out: &mut K,
+) -> bool
     requires { walk.old.over ≡ false }
     ensures same { walk.new.design ≡ walk.old.design }
     ensures gives { GivesRow (Writes K.written K.faults out.old page.old out.new page.new) walk.old.design walk.old.left walk.new.left result }
@@ -100,7 +112,22 @@ fn put_ahead<W: Shown + Drop, K: Sink>(walk: &mut Walk<W>, page: &mut RowSink, o
     let Some(item) = walk.text() else {
         return false;
     };
-    put_item(walk.design(), item, page, out);
+    put_item(alloc, walk.design(), item, page, out);
     walk.skip();
     true
+}
+
+/// Writes the row of an item.
+#[inline(always)]
+fn put_item<S: Shown, K: Sink>(
+    alloc: Global,
+    design: &S,
+    item: ItemText<'_>,
+    page: &mut BufferedSink,
+    out: &mut K,
+)
+    ensures { (shown : Item) → IsItemText (S.design design.now) shown item.entry → Writes K.written K.faults out.old page.old out.new page.new (pin_row (S.design design.now) shown) }
+{
+    design_is_valid(design);
+    page.put_text(alloc, &PinRow { design, item }, out);
 }

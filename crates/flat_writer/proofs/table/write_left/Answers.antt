@@ -7,12 +7,12 @@ pub returns-clause-ok : goal.returns-clause-ok
 returns-clause-ok g c =
     let rows = pin_rows c.args.walk.now.design c.args.walk.now.left in
     let given = writes_same (ap (λ v. header ++ v) (append-nil rows))
-    (writes_then c.put_header.ensures (writes_then c.put_left.ensures c.finish.ensures.written)) in
+    (writes_then (rw c.header.ensures at c.put.ensures) (writes_then c.put_left.ensures c.finish.ensures.written)) in
     finished_well c.finish.result given c.new-page.ensures c.finish.ensures.ok
 
 pub returns-clause-err : goal.returns-clause-err
 returns-clause-err g c =
     let rows = pin_rows c.args.walk.now.design c.args.walk.now.left in
     let given = writes_same (ap (λ v. header ++ v) (append-nil rows))
-    (writes_then c.put_header.ensures (writes_then c.put_left.ensures c.finish.ensures.written)) in
+    (writes_then (rw c.header.ensures at c.put.ensures) (writes_then c.put_left.ensures c.finish.ensures.written)) in
     finished_badly c.finish.result given c.new-page.ensures c.finish.ensures.err
