@@ -11,7 +11,7 @@ use Rattle.ver_table.proofs.Maps.{order_put, put_way}
 use Rattle.ver_table.proofs.Fronts.{Each-weaker, Each-append, Each-drop, put_behind, find_behind, put_before, find_none, find_before, Each-put, put_some, higher_than_first, order_append, order_drop, take_each, way_lower}
 
 -- a lower quotient is a lower number's
-quotients_rise : (size a b : ℕ) → 1 ≤ size → a ≤ b → a / size ≤ b / size
+pub quotients_rise : (size a b : ℕ) → 1 ≤ size → a ≤ b → a / size ≤ b / size
 quotients_rise size a b some h = le-div (a / size) b size (omega arith) (omega (arith, div-mul-le_self a size))
 
 lower_slot : (size a b : ℕ) → 1 ≤ size → a / size < b / size → a < b
@@ -127,86 +127,9 @@ module _ {X : Type 0} where
         order_append s.1 (spread sheets) h.each.0.ordered (spread_in_order sheets (rest_of_sheets s sheets h))
         (Each-weaker (λ p. p.0 / size ≡ s.0) (λ p. Each (λ q. p.0 < q.0) (spread sheets)) (λ p e. later p.0 s sheets h (omega arith)) s.1 h.each.0.own)
 
-    -- changes behind lower sheets
-    revise_all_behind : (front sheets : List (ℕ × List (ℕ × X))) (cs : List (ℕ × X)) → Each (λ c. Each (λ s. s.0 < c.0 / size) front) cs → revise_all size (front ++ sheets) cs ≡ front ++ revise_all size sheets cs
-    revise_all_behind front sheets [] h = refl
-    revise_all_behind front sheets (c ∷ cs) h = ap (λ ss. revise_all size ss cs) (revise_behind front sheets c h.0) ∙ revise_all_behind front (revise size sheets c) cs h.1
-
-    -- changes of the first sheet
-    revise_first : (number : ℕ) (ps : List (ℕ × X)) (back : List (ℕ × List (ℕ × X))) (run : List (ℕ × X)) → Each (λ c. c.0 / size ≡ number) run → revise_all size ((number, ps) ∷ back) run ≡ (number, with_all ps run) ∷ back
-    revise_first number ps back [] h = refl
-    revise_first number ps back (c ∷ run) h = rw (cmp_same (c.0 / size) number h.0) (revise_first number (put nat_cmp c.0 c.1 ps) back run h.1)
-
-    revise_all_append : (sheets : List (ℕ × List (ℕ × X))) (cs more : List (ℕ × X)) → revise_all size sheets (cs ++ more) ≡ revise_all size (revise_all size sheets cs) more
+    pub revise_all_append : (sheets : List (ℕ × List (ℕ × X))) (cs more : List (ℕ × X)) → revise_all size sheets (cs ++ more) ≡ revise_all size (revise_all size sheets cs) more
     revise_all_append sheets [] more = refl
     revise_all_append sheets (c ∷ cs) more = revise_all_append (revise size sheets c) cs more
 
-    -- the changes behind a run lie on later sheets
-    behind_run : (number count : ℕ) (cs : List (ℕ × X)) → Each (λ c. number ≤ c.0 / size) cs → IsInOrder cs → (count < length cs → slot_at cs count / size ≢ number) → Each (λ c. number < c.0 / size) (drop count cs)
-    behind_run number count [] low rising next = Each-drop (λ c. number < c.0 / size) count [] tt
-    behind_run number zero (c ∷ cs) low rising next =
-        let first : number < c.0 / size = omega (arith, low.0, next (omega arith)) in
-        (first, Each-weaker (λ d. c.0 < d.0) (λ d. number < d.0 / size) (λ d l. omega (arith, quotients_rise size c.0 d.0 some (omega arith))) cs (higher_than_first c cs rising))
-    behind_run number (suc count) (c ∷ cs) low rising next = behind_run number count cs low.1 (rest_in_order c cs rising) (λ l. next (omega arith))
-
     pub sheet_in_order : (number : ℕ) (sheets : List (ℕ × List (ℕ × X))) → AreSheets size sheets → IsInOrder (sheet_at sheets number)
     sheet_in_order number sheets h = (sheet_fits number sheets h.each).ordered
-
-  -- what was made and what is left to do give the whole
-  pub record Pending (size : ℕ) (whole made old : List (ℕ × List (ℕ × X))) (left : List (ℕ × X)) : Type 0 where
-    pub same : made ++ revise_all size old left ≡ whole
-    pub sheets : AreSheets size old
-    pub rising : IsInOrder left
-
-  -- a run of changes is not empty
-  pub run_some : (size number count : ℕ) (left : List (ℕ × X)) → 0 < length left → slot_at left 0 / size ≡ number → IsRun size number left count → 0 < count
-  run_some size number zero left some first run = absurd (run.next some first)
-  run_some size number (suc count) left some first run = omega arith
-
-  module _ (size : ℕ) (some : 1 ≤ size) where
-    -- the changes of one sheet
-    one_sheet : (old : List (ℕ × List (ℕ × X))) (c : ℕ × X) (run : List (ℕ × X)) (from to : ℕ) → GivesWay old (c.0 / size) from to → Each (λ d. d.0 / size ≡ c.0 / size) run
-        → revise_all size old (c ∷ run) ≡ take from old ++ (c.0 / size, with_all (sheet_at old (c.0 / size)) (c ∷ run)) ∷ drop to old
-    one_sheet old c run from to way own =
-        let number = c.0 / size in
-        let first = put nat_cmp c.0 c.1 (sheet_at old number) in
-        let lower = way_lower old number from to way in
-        ap (λ ss. revise_all size ss run) (put_way old number from to first way)
-        ∙ revise_all_behind size some (take from old) ((number, first) ∷ drop to old) run
-        (Each-weaker (λ d. d.0 / size ≡ number) (λ d. Each (λ s. s.0 < d.0 / size) (take from old)) (λ d e. subst (λ n. Each (λ s. s.0 < n) (take from old)) (sym e) lower) run own)
-        ∙ ap (λ ss. take from old ++ ss) (revise_first size some number first (drop to old) run own)
-
-    -- and then those of later sheets
-    more_sheets : (old : List (ℕ × List (ℕ × X))) (c : ℕ × X) (run more : List (ℕ × X)) (from to : ℕ) → IsInOrder old → GivesWay old (c.0 / size) from to → Each (λ d. d.0 / size ≡ c.0 / size) run → Each (λ d. c.0 / size < d.0 / size) more
-        → revise_all size old (c ∷ (run ++ more)) ≡ (take from old ++ (c.0 / size, with_all (sheet_at old (c.0 / size)) (c ∷ run)) ∷ []) ++ revise_all size (drop to old) more
-    more_sheets old c run more from to rising way own behind =
-        let number = c.0 / size in
-        let sheet : ℕ × List (ℕ × X) = (number, with_all (sheet_at old number) (c ∷ run)) in
-        let front = take from old ++ sheet ∷ [] in
-        let lower : Each (λ s. s.0 ≤ number) front = Each-append (λ s. s.0 ≤ number) (take from old) (sheet ∷ []) (Each-weaker (λ s. s.0 < number) (λ s. s.0 ≤ number) (λ s l. omega arith) (take from old) (way_lower old number from to way)) (omega arith, tt) in
-        revise_all_append size some old (c ∷ run) more
-        ∙ ap (λ ss. revise_all size ss more) (one_sheet old c run from to way own ∙ sym (append_assoc (take from old) (sheet ∷ []) (drop to old)))
-        ∙ revise_all_behind size some front (drop to old) more
-        (Each-weaker (λ d. number < d.0 / size) (λ d. Each (λ s. s.0 < d.0 / size) front) (λ d l. Each-weaker (λ s. s.0 ≤ number) (λ s. s.0 < d.0 / size) (λ s k. omega arith) front lower) more behind)
-
-    pub pending_step : (whole made old : List (ℕ × List (ℕ × X))) (left : List (ℕ × X)) (number from to count : ℕ) (ps : List (ℕ × X))
-        → Pending size whole made old left → 0 < length left → slot_at left 0 / size ≡ number → GivesWay old number from to → IsRun size number left count → ps ≡ with_all (sheet_at old number) (take count left)
-        → Pending size whole ((made ++ take from old) ++ (number, ps) ∷ []) (drop to old) (drop count left)
-    pending_step whole made old [] number from to count ps h present first way run e = absurd (omega arith)
-    pending_step whole made old (c ∷ cs) number from to zero ps h present first way run e = absurd (run.next present first)
-    pending_step whole made old (c ∷ cs) number from to (suc count) ps h present first way run e =
-        let own = take_each (λ n. n / size ≡ number) (suc count) (c ∷ cs) run.own in
-        let way_here : GivesWay old (c.0 / size) from to = subst (λ n. GivesWay old n from to) (sym first) way in
-        let own_here : Each (λ d. d.0 / size ≡ c.0 / size) (take count cs) = subst (λ n. Each (λ (d : ℕ × X). d.0 / size ≡ n) (take count cs)) (sym first) own.1 in
-        let low : Each (λ d. number ≤ d.0 / size) (c ∷ cs) =
-        (omega arith, Each-weaker (λ d. c.0 < d.0) (λ d. number ≤ d.0 / size) (λ d l. omega (arith, quotients_rise size c.0 d.0 some (omega arith))) cs (higher_than_first c cs h.rising)) in
-        let behind = behind_run size some number (suc count) (c ∷ cs) low h.rising run.next in
-        let behind_here : Each (λ d. c.0 / size < d.0 / size) (drop count cs) = subst (λ n. Each (λ (d : ℕ × X). n < d.0 / size) (drop count cs)) (sym first) behind in
-        let whole_left : c ∷ cs ≡ c ∷ (take count cs ++ drop count cs) = ap (λ ds. c ∷ ds) (sym (take-append-drop count cs)) in
-        let made_here : (c.0 / size, with_all (sheet_at old (c.0 / size)) (c ∷ take count cs)) ≡ (number, ps) = ap (λ n. (n, with_all (sheet_at old n) (c ∷ take count cs))) first ∙ ap (λ qs. (number, qs)) (sym e) in
-        let done = ap (revise_all size old) whole_left ∙ more_sheets old c (take count cs) (drop count cs) from to h.sheets.rising way_here own_here behind_here ∙ ap (λ s. (take from old ++ s ∷ []) ++ revise_all size (drop to old) (drop count cs)) made_here in
-        record {
-          same = simp append_assoc (sym (ap (λ ss. made ++ ss) (done ∙ append_assoc (take from old) ((number, ps) ∷ []) _)) ∙ h.same);
-          sheets = record { rising = order_drop to old h.sheets.rising; each = Each-drop (IsSheet size) to old h.sheets.each };
-          rising = order_drop (suc count) (c ∷ cs) h.rising;
-        }

@@ -1,9 +1,12 @@
 //! Entries in the order of their slots.
 ghost use Rattle.std.specs.Prelude.{◌≡◌, ◌++◌, IfOk, OnOk};
 ghost use Rattle.std.specs.Arc.{arc_value};
+ghost use Rattle.std.specs.Option.{option_copied};
+ghost use Rattle.std.specs.Ordering.{nat_cmp};
+ghost use Rattle.std.specs.FinMap.{find};
 ghost use Rattle.ver_table.specs.Entries.{pairs_of, pair_of, with_all, IsInOrder, IsPlace, GivesWay};
 
-use netlist_schema::NoMemory;
+use netlist_pages::NoMemory;
 use std::alloc::Global;
 use std::ops::Range;
 use std::sync::Arc;
@@ -16,11 +19,22 @@ pub struct Entry<T> {
 }
 
 /// Where the slot stands among the entries, or else where it belongs.
-pub(crate) fn place_of<T>(entries: &[Entry<T>], slot: u32) -> Result<usize, usize>
+fn place_of<T>(entries: &[Entry<T>], slot: u32) -> Result<usize, usize>
     requires { IsInOrder (pairs_of entries.now) }
     ensures { IsPlace (pairs_of entries.now) slot result }
 {
     entries.binary_search_by_key(&slot, |entry| entry.slot)
+}
+
+/// The item of the entry with the slot, where there is one.
+pub(crate) fn item_at<T>(entries: &[Entry<T>], slot: u32) -> Option<&T>
+    requires { IsInOrder (pairs_of entries.now) }
+    ensures { option_copied result ≡ find nat_cmp slot (pairs_of entries.now) }
+{
+    match place_of(entries, slot) {
+        Ok(at) => Some(&*entries[at].item),
+        Err(_) => None,
+    }
 }
 
 /// The entries that give way to a new one at the slot: the one with the slot, or none where the new one belongs.

@@ -4,11 +4,13 @@ ghost use Rattle.std.specs.Arc.{arc_value};
 ghost use Rattle.std.specs.Option.{option_copied};
 ghost use Rattle.std.specs.FinMap as map;
 ghost use Rattle.ver_table.specs.Entries.{pairs_of, IsInOrder};
+ghost use Rattle.ver_table.specs.Pages.{pages_of, sheet_at, sheets_of, AreRevised, AreSheets};
 ghost use Rattle.ver_table.specs.Rows.{Lists, set_all, page_count, numbered};
 
-use crate::entries::{Entry, place_of};
-use crate::pages::{Page, changed_pages, entries_of};
-use netlist_schema::NoMemory;
+use crate::directory::Directory;
+use crate::entries::{Entry, item_at};
+use crate::runs::{Page, changed_page, first_run, page_of};
+use netlist_pages::NoMemory;
 use std::alloc::Global;
 use std::marker::Model;
 use std::sync::Arc;
@@ -18,8 +20,8 @@ use std::sync::Arc;
 /// the page whose number is the slot divided by `P`. Only `pages` depends on it.
 #[derive(Drop)]
 pub struct Table<T, const P: usize> {
-    /// The pages with a slot that is set, in order.
-    pages: Vec<Page<T>>,
+    /// The entries of each page with a slot that is set, by the page's number.
+    pages: Directory<Vec<Entry<T>>>,
 }
 
 impl<T, const P: usize> Model for Table<T, P> {
@@ -31,11 +33,11 @@ impl<T, const P: usize> Model for Table<T, P> {
 
     ghost coded = { map.code coded_ℕ T.code };
 
-    ghost use Rattle.ver_table.specs.Pages.{map_of, IsTable};
+    ghost use Rattle.ver_table.specs.Pages.{map_of, pages_of, IsTable};
 
-    ghost view = { λ table. map_of table.pages.items };
+    ghost view = { λ table. map_of (pages_of table.pages) };
 
-    ghost invariant = { λ table. IsTable P table.pages.items };
+    ghost invariant = { λ table. IsTable P (pages_of table.pages) };
 }
 
 impl<T, const P: usize> Table<T, P> {
@@ -46,7 +48,7 @@ impl<T, const P: usize> Table<T, P> {
         ensures { result ≡ map.empty }
     {
         Table {
-            pages: Vec::new(alloc),
+            pages: Directory::new(alloc),
         }
     }
 
@@ -54,18 +56,14 @@ impl<T, const P: usize> Table<T, P> {
     pub fn get(&self, slot: u32) -> Option<&T>
         ensures { option_copied result ≡ map.get self.now slot }
     {
-        let entries = entries_of(self.pages.as_slice(), slot / P as u32);
-        match place_of(entries, slot) {
-            Ok(at) => Some(&*entries[at].item),
-            Err(_) => None,
-        }
+        item_at(entries_of(&self.pages, page_of(slot, P as u32)), slot)
     }
 
     /// The number of pages: of the different quotients of a set slot by `P`. Takes no memory.
     pub fn pages(&self) -> u64
         ensures { result ≡ page_count P self.now }
     {
-        self.pages.len() as u64
+        self.pages.len()
     }
 }
 
@@ -96,10 +94,42 @@ impl<T: Drop, const P: usize> Table<T, P> {
         requires rising { IsInOrder (pairs_of changes.now) }
         ensures { IfOk result (λ table. table ≡ set_all self.now (pairs_of changes.now)) }
     {
-        let alloc = *self.pages.allocator();
-        let pages = changed_pages(alloc, P as u32, self.pages.as_slice(), changes)?;
+        let changed = changed_pages(&self.pages, P as u32, changes)?;
+        let pages = self.pages.put_all(changed.as_slice())?;
         Ok(Table { pages })
     }
+}
+
+/// The entries of the page with the number: none where there is no such page.
+fn entries_of<T>(pages: &Directory<Vec<Entry<T>>>, number: u32) -> &[Entry<T>]
+    ensures { pairs_of result.now ≡ sheet_at (pages_of pages.now) number }
+{
+    match pages.get(number) {
+        Some(entries) => entries.as_slice(),
+        None => &[],
+    }
+}
+
+/// The pages that these changes touch, with the changes made.
+fn changed_pages<T: Drop>(
+    pages: &Directory<Vec<Entry<T>>>,
+    size: u32,
+    changes: &[Entry<T>],
+) -> Result<Vec<Page<T>>, NoMemory>
+    requires some { 1 ≤ size }
+    requires pages { AreSheets size (pages_of pages.now) }
+    requires rising { IsInOrder (pairs_of changes.now) }
+    ensures { IfOk result (λ changed. AreRevised size (pages_of pages.now) (pairs_of changes.now) (sheets_of changed.items)) }
+{
+    let alloc = pages.allocator();
+    let mut changed = Vec::new(alloc);
+    let mut left = changes;
+    while let Some(run) = first_run(left, size) {
+        let old = entries_of(pages, run.number);
+        changed.push(changed_page(alloc, run.number, old, run.changes)?)?;
+        left = run.rest;
+    }
+    Ok(changed)
 }
 
 /// The items with their slots, from 0 on.

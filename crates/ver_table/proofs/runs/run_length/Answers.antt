@@ -3,7 +3,7 @@ use Rattle.std.proofs.lemmas.List.{length-map}
 use Rattle.ver_table.specs.declared.entries.Entry.{Entry}
 use Rattle.ver_table.specs.Entries.{pair_of, pairs_of, slot_at}
 use Rattle.ver_table.proofs.Places.{slot_of}
-use Rattle.ver_table.proofs.pages.run_of.Goals as goal
+use Rattle.ver_table.proofs.runs.run_length.Goals as goal
 
 pub returns-then-change-size : goal.returns-then-change-size
 returns-then-change-size g c =
