@@ -50,3 +50,14 @@ drop_end [] zero l = refl
 drop_end [] (suc i) l = refl
 drop_end (t ∷ ts) zero l = absurd (omega arith)
 drop_end (t ∷ ts) (suc i) l = drop_end ts i (omega arith)
+
+-- those counted, and those of a keyword from a place on, are all, where the form there has it or not
+pub counted_first : (k : Keyword) (ts : List Placed) (i n : ℕ) (t : Placed) → slice_get ts i ≡ Some t → has_keyword k (bare t) ≡ true → n + length (those_of k (drop i ts)) ≡ length (those_of k ts) → (n + 1) + length (those_of k (drop (i + 1) ts)) ≡ length (those_of k ts)
+counted_first k ts i n t g h e = omega (arith, ap length (those_first k ts i t g h))
+
+pub counted_passed : (k : Keyword) (ts : List Placed) (i n : ℕ) (t : Placed) → slice_get ts i ≡ Some t → has_keyword k (bare t) ≡ false → n + length (those_of k (drop i ts)) ≡ length (those_of k ts) → n + length (those_of k (drop (i + 1) ts)) ≡ length (those_of k ts)
+counted_passed k ts i n t g h e = omega (arith, ap length (those_passed k ts i t g h))
+
+-- all are counted where none is left
+pub counted_all : (k : Keyword) (ts : List Placed) (i n : ℕ) → length ts ≤ i → n + length (those_of k (drop i ts)) ≡ length (those_of k ts) → n ≡ length (those_of k ts)
+counted_all k ts i n l e = omega (arith, ap (λ v. length (those_of k v)) (drop_end ts i l))

@@ -1,5 +1,5 @@
 //! The parts of a form whose keyword is known, and tokens in their places.
-ghost use Rattle.std.specs.Prelude.{◌≡◌, ◌∷◌, [], FitsSigned, IfNone, IfOk, IfSome, IsTrue, true};
+ghost use Rattle.std.specs.Prelude.{◌≡◌, ◌∷◌, [], FitsSigned, IfNone, IfOk, IfSome, IsTrue, length, true};
 ghost use Rattle.std.specs.Int.{w64};
 ghost use Rattle.edif_spelling_spec.specs.Tree.{Word', Integer', String', bare};
 ghost use Rattle.netlist_schema.specs.Ident.{IsIdentifier};
@@ -40,11 +40,13 @@ pub fn read_parts<'a>(
 }
 
 /// For how many forms of this keyword there is to be room. Takes no memory.
-pub fn room_wanted(nodes: Nodes<'_>, keyword: Keyword) -> usize {
-    let mut count: usize = 0;
-    for node in nodes.iter() {
-        if is_form_of(node, keyword) {
-            count = count.saturating_add(1);
+pub fn room_wanted(nodes: Nodes<'_>, keyword: Keyword) -> usize
+    ensures { result ≡ length (those_of keyword (all nodes.entry)) }
+{
+    let mut count = 0;
+    for i in 0..nodes.len() {
+        if is_form_of(nodes.at(i), keyword) {
+            count += 1;
         }
     }
     count
