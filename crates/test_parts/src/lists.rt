@@ -1,37 +1,10 @@
 //! Lists in pages and plain lists, changed alike.
 
-use netlist_pages::{Copied, Each, NoMemory};
+use crate::items::{Item, are, numbered};
+use netlist_pages::Copied;
 use netlist_parts::Parts;
 use std::alloc::Global;
 use std::test::Fail;
-
-/// A number, as an item.
-#[derive(Clone, Copy, Debug, PartialEq, Eq)]
-struct Item(u32);
-
-impl Copied for Item {
-    ghost typed = { λ _. Unit {0} };
-
-    fn copy(&self, _alloc: Global) -> Result<Item, NoMemory> {
-        Ok(*self)
-    }
-}
-
-/// Whether these items are those of a plain list.
-fn are(items: Each<'_, Item>, plain: &[Item]) -> bool {
-    let mut items = items;
-    for item in plain {
-        match items.next() {
-            Some(other) => {
-                if *other != *item {
-                    return false;
-                }
-            }
-            None => return false,
-        }
-    }
-    items.next().is_none()
-}
 
 /// Whether a list has the items of a plain one, however they are read.
 fn same(list: &Parts<Item>, plain: &[Item]) -> bool {
@@ -141,5 +114,21 @@ fn a_copy_stays_where_the_list_changes(rt: HostRuntime) -> Result<(), Fail> {
     assert!(rt; same(&list, plain.as_slice()));
     assert!(rt; same(&kept, old.as_slice()));
     assert!(rt; kept != list);
+    Ok(())
+}
+
+/// How many items a list has before one is added behind the last.
+const COUNTS: [u32; 4] = [0, 3, 512, 600];
+
+#[test]
+fn an_item_is_added_behind_the_last(rt: HostRuntime) -> Result<(), Fail> {
+    let alloc = rt.alloc();
+    for count in &COUNTS {
+        let mut plain = numbered(alloc, *count)?;
+        let mut list = Parts::of(alloc, plain.as_slice().to_vec(alloc)?)?;
+        list.push(alloc, Item(9000))?;
+        plain.push(Item(9000))?;
+        assert!(rt; same(&list, plain.as_slice()), "behind {count}");
+    }
     Ok(())
 }
