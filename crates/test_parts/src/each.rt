@@ -19,7 +19,11 @@ const LEFT: [(usize, Option<u32>, usize); 7] = [
 
 /// The first of the items that are left, and how many there are. They are left still.
 fn left(items: &Each<'_, Item>) -> (Option<u32>, usize) {
-    (number(items.first()), items.again().count())
+    let mut count = 0usize;
+    for _item in items.again() {
+        count = count.saturating_add(1);
+    }
+    (number(items.first()), count)
 }
 
 #[test]
