@@ -12,6 +12,7 @@ use Rattle.netlist_pages.specs.declared.memory.NoMemory.{NoMemory}
 use Rattle.netlist_schema.proofs.Lists.{drop_past, drop_next}
 use Rattle.flat_spec.specs.Below.{items_under}
 use Rattle.flat_spec.specs.Flattening.{flattening}
+use Rattle.flat_spec.specs.Occurrences.{Occurrence}
 use Rattle.flat_spec.specs.Paths.{Reaches}
 use Rattle.flat_spec.specs.Types.{Item}
 use Rattle.flat_spec.proofs.BelowLemmas.{flattening_is_under_top, items_go_down}
@@ -84,6 +85,17 @@ pub none_passed : (d : Design) (old : Stand) (stage : Stage) → GoesOn d (here_
 none_passed d old stage goes over =
     let none = over_left d (here_of old) old.stage over in
     ap (λ v. v ++ (below_from d old.path old.here.cell old.here.next ++ left_above d [] old.path old.above)) (goes.0 ∙ ap (drop 1) none ∙ sym none)
+
+-- and behind it none is left either
+pub over_behind : (d : Design) → IsValid d → (o : Occurrence) (old stage : Stage) → GoesOn d o (drop 1 (own_left d o old)) stage → is_over old ≡ true → is_over stage ≡ true
+over_behind d valid o old stage goes over = go (is_over stage) refl
+  where
+    go : (b : Bool) → is_over stage ≡ b → is_over stage ≡ true
+    go true is = is
+    go false is =
+        let own = own_opens d valid o stage goes.1 is in
+        let none : own.0 ∷ drop 1 (own_left d o stage) ≡ [] = sym own.1 ∙ goes.0 ∙ ap (drop 1) (over_left d o old over) in
+        absurd (cc none)
 
 -- the first own item is the first of all
 pub left_ahead : (d : Design) (s : Stand) (item : Item) → own_left d (here_of s) s.stage ≡ item ∷ drop 1 (own_left d (here_of s) s.stage)

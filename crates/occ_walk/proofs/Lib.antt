@@ -2,5 +2,6 @@
 -- The items whose paths begin with a path are those at and below it, since both lists are in path order.
 mod AtLemmas
 pub mod BelowLemmas
+mod FollowLemmas
 pub mod LeftLemmas
 mod StartLemmas

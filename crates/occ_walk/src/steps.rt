@@ -1,7 +1,7 @@
 //! The steps of a walk.
 ghost use Rattle.std.specs.Prelude.{◌≡◌, ◌≢◌, [], IfOk, Ok, OnErr, false, true};
 ghost use Rattle.occ_walk.specs.Left.{HasPassed, IsFirst, left, rest_of};
-ghost use Rattle.occ_walk.specs.Walk.{IsLent, IsSettled, IsTextLent};
+ghost use Rattle.occ_walk.specs.Walk.{IsLent, IsSettled, IsTextLent, another_follows};
 ghost use Rattle.flat_items.specs.Left.{is_over, own_left};
 ghost use Rattle.flat_items.specs.Stand.{IsGround, MayStand, here_of, stand_of};
 
@@ -88,6 +88,8 @@ pub fn skip_within<S: Shown + Drop>(ground: &Ground<S>, place: &mut Place) -> bo
     requires stands { MayStand (S.design ground.now.design) (stand_of place.old) }
     ensures stands { MayStand (S.design ground.now.design) (stand_of place.new) }
     ensures passed { result ≡ true → HasPassed (S.design ground.now.design) (stand_of place.old) (stand_of place.new) }
+    ensures over { is_over place.old.stage ≡ true → result ≡ false }
+    ensures follows { result ≡ another_follows (rest_of (S.design ground.now.design) (stand_of place.old)) }
     ensures ahead { result ≡ true → is_over place.new.stage ≡ false }
     ensures stays { result ≡ false → stand_of place.new ≡ stand_of place.old }
 {

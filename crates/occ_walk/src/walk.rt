@@ -4,7 +4,7 @@ ghost use Rattle.netlist_schema.specs.Valid.{IsValid};
 ghost use Rattle.flat_spec.specs.Flattening.{flattening};
 ghost use Rattle.flat_spec.specs.Paths.{cell_along};
 ghost use Rattle.occ_walk.specs.At.{items_below};
-ghost use Rattle.occ_walk.specs.Walk.{GivesNext, IsLent, IsSettled, IsTextLent};
+ghost use Rattle.occ_walk.specs.Walk.{GivesNext, IsLent, IsSettled, IsTextLent, another_follows};
 ghost use Rattle.flat_items.specs.Stand.{top_of};
 
 use crate::starts::{go_along, start};
@@ -186,6 +186,8 @@ impl<S: Shown + Drop> Walk<S> {
     pub fn skip_within(&mut self) -> bool
         ensures design { self.new.design ≡ self.old.design }
         ensures passed { result ≡ true → self.old.over ≡ false → self.new.left ≡ drop 1 self.old.left }
+        ensures over { self.old.over ≡ true → result ≡ false }
+        ensures follows { result ≡ another_follows self.old }
         ensures ahead { result ≡ true → self.new.over ≡ false }
         ensures stays { result ≡ false → self.new ≡ self.old }
     {
