@@ -1,7 +1,7 @@
 //! Walks, item by item.
 use crate::designs::{bare, board};
 use flat_lookup::cell_along;
-use flat_report::item_text;
+use flat_report::{item_text, lent_text};
 use flat_spec::{Item, Path};
 use netlist_schema::{Design, Shown};
 use occ_walk::{Walk, WalkError};
@@ -104,6 +104,52 @@ fn a_walk_begins_at_a_path_or_the_top_and_stays_at_its_end(rt: HostRuntime) -> R
         gives_at(&rt, alloc, &board, path, wanted);
     }
     gives_whole(&rt, alloc, &board, ITEMS);
+    Ok(())
+}
+
+/// The items of the board; `+` stands behind one that another one of the same occurrence follows.
+const PASSED: &str = "inst / w T
++net / X / X
++net / Y / X
+inst /u w F
++net /u x / X
+inst /v w V
++net /v y / X
+inst /v/l w P
++pin /v/l a 0 / X
+";
+
+/// Adds the line of a walk's next item, and passes over it: a walk whose occurrence has no other item stays at this one at first.
+fn add_passed(rt: &impl Abort, alloc: Global, walk: &mut Walk<&Design>, lines: &mut Vec<u8>) {
+    let item = walk.current().expect(rt, "an item");
+    lent_text(alloc, walk.design(), item, lines).expect(rt, "memory for a line");
+    if walk.skip_within() {
+        lines.push(b'+').expect(rt, "memory for a byte");
+        return;
+    }
+    assert!(rt;
+        walk.current().is_some(),
+        "the last item of an occurrence is passed over"
+    );
+    walk.skip();
+    assert!(rt;
+        !walk.skip_within() && walk.current().is_none(),
+        "an item of the next occurrence is passed over"
+    );
+}
+
+#[test]
+fn items_are_passed_over_within_an_occurrence(rt: HostRuntime) -> Result<(), Fail> {
+    let board = board(rt.alloc())?;
+    let mut walk = Walk::new(rt.alloc(), &board).expect(&rt, "a walk");
+    let mut lines = Vec::new(rt.alloc());
+    for _ in 0..100u32 {
+        if !walk.advance()? {
+            break;
+        }
+        add_passed(&rt, rt.alloc(), &mut walk, &mut lines);
+    }
+    assert_eq!(rt; lines.as_slice(), PASSED.as_bytes());
     Ok(())
 }
 
