@@ -1,5 +1,5 @@
 -- What a reader that was fed bytes says of the next piece, and of the end.
-use Rattle.std.proofs.Common.{◌≡◌, ℕ, List, [], ◌++◌, Result, Ok, Err, Some, None, length, inl, ⊎_elim, sym, ap, ◌∙◌, subst, append-nil}
+use Rattle.std.proofs.Common.{◌≡◌, ℕ, List, [], ◌++◌, Result, Ok, Err, Some, None, length, inl, inr, ⊎_elim, sym, ap, ◌∙◌, subst, append_assoc, append-nil}
 use Rattle.std.specs.Prelude.{IfErr}
 use Rattle.std.specs.Result.{IsErrAnd}
 use Rattle.edif_spelling_spec.specs.Lexing.{lex_fault, tokens}
@@ -10,7 +10,8 @@ use Rattle.edif_parts.specs.Reading.{Names as Answered}
 use Rattle.edif_parts.specs.declared.error.EdifError.{EdifError}
 use Rattle.edif_parts.specs.declared.error.EdifError.TheVariants as reader
 use Rattle.edif_spelling_spec.specs.declared.token.Token.{Token}
-use Rattle.edif_lexer.specs.Reading.{HasRead, Finishes as LexerFinishes}
+use Rattle.edif_spelling_spec.specs.declared.token.LexKind.{LexKind}
+use Rattle.edif_lexer.specs.Reading.{HasRead, Feeds as LexerFeeds, Finishes as LexerFinishes}
 use Rattle.edif_lexer.specs.declared.errors.LexError.{LexError}
 use Rattle.edif_lexer.specs.declared.errors.LexError.TheVariants as lexer
 use Rattle.edif_lexer.specs.declared.lexing.State.TheVariants.{Failed}
@@ -43,6 +44,22 @@ pub fed_on : (old new : Reader) (fed piece : List ℕ) (gained : List Token)
 fed_on old new fed piece gained read fails handed h = ⊎_elim
     (λ on. inl (record { handed = on.handed ++ gained; read = read fed on.handed on.read; taken = handed on.handed on.taken }))
     (λ stopped. absurd (fails (lexer.At stopped.kind stopped.place) stopped.stopped))
+    h
+
+-- the reader after a piece in which its lexer met the first fault, or before which it had met it
+pub stopped_on : (old new : Reader) (fed piece : List ℕ) (gained : List Token) (kind : LexKind) (place : ℕ)
+    → ((fed : List ℕ) (handed : List Token) → HasRead old.lexer fed handed → LexerFeeds fed piece handed gained new.lexer (Err (lexer.At kind place)))
+    → new.lexer.state ≡ Failed (lexer.At kind place)
+    → ((error : LexError) → old.lexer.state ≡ Failed error → lexer.At kind place ≡ error) → WasFed old fed → WasFed new (fed ++ piece)
+stopped_on old new fed piece gained kind place read stopped again h = ⊎_elim
+    (λ on. inr (record { kind = kind; place = place; stopped = stopped; fault = λ more. (read fed on.handed on.read more).0 }))
+    (λ before.
+    inr (record {
+      kind = before.kind;
+      place = before.place;
+      stopped = stopped ∙ ap Failed (again (lexer.At before.kind before.place) before.stopped);
+      fault = λ more. ap lex_fault (append_assoc fed piece more) ∙ before.fault (piece ++ more);
+    }))
     h
 
 -- what the end of the bytes says

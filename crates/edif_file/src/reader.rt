@@ -55,7 +55,9 @@ impl DesignReader {
         ensures { OnOk result ((fed : List ℕ) → WasFed self.old fed → WasFed self.new (fed ++ piece.now)) }
     {
         match self.lexer.feed_to(piece, &mut self.maker) {
-            Ok(()) | Err(LexError::At { .. }) => Ok(()),
+            Ok(()) => Ok(()),
+            // The lexer keeps the fault, and tells it at the end.
+            Err(LexError::At { .. }) => Ok(()),
             Err(LexError::NoMemory) => Err(NoMemory),
         }
     }
