@@ -1,5 +1,5 @@
 -- What the steps of a lexer do to what is ahead.
-use Rattle.std.proofs.Common.{◌≡◌, ℕ, zero, suc, ◌+◌, ◌<◌, ◌≤◌, inr, true, false, not, List, [], ◌∷◌, ◌++◌, length, None, Some, Result, Ok, Err, refl, sym, ap, ◌∙◌, subst, arith, append_assoc, append-nil, length-append, eqb, drop, take, get_or, take-append-drop}
+use Rattle.std.proofs.Common.{◌≡◌, ℕ, zero, suc, ◌+◌, ◌<◌, ◌≤◌, inr, true, false, not, Bool, ◌&&◌, List, [], ◌∷◌, ◌++◌, length, None, Some, Result, Ok, Err, refl, sym, ap, ◌∙◌, subst, arith, append_assoc, append-nil, length-append, eqb, drop, take, get_or, take-append-drop}
 use Rattle.std.specs.Prelude.{slice_get}
 use Rattle.std.proofs.Math.Seq.{take-add}
 use Rattle.edif_spelling_spec.proofs.RowLemmas.{lexed_gap, name_word}
@@ -13,7 +13,9 @@ use Rattle.std.proofs.lemmas.List.Sums.{AllPass-from_list_all}
 use Rattle.std.specs.Result.{OnOk, OnErr, IsOkUnless}
 use Rattle.std.specs.List.{list_all}
 use Rattle.std.proofs.lemmas.Bool.{and_parts, and_from, eqb-true, ne_eqb, eq-eqb, not_from_false, cond-false, cond-true}
-use Rattle.edif_spelling_spec.specs.Bytes.{is_space, is_word_byte, is_quote, is_unquoted, EndsRun}
+use Rattle.edif_spelling_spec.specs.Bytes.{is_percent, is_space, is_word_byte, is_quote, is_unquoted, EndsRun}
+use Rattle.edif_spelling_spec.proofs.TextLemmas.{stands_value}
+use Rattle.edif_lexer.specs.Lanes.{is_plain}
 use Rattle.edif_spelling_spec.specs.Words.{word_kind}
 use Rattle.edif_spelling_spec.specs.Strings.{segments, value, escape_fault}
 use Rattle.edif_spelling_spec.specs.Lent.{Gains}
@@ -120,6 +122,25 @@ spells_front rest zero some within all digit = absurd (omega (arith, some))
 spells_front [] (suc n) some within all digit = absurd (omega (arith, within))
 spells_front (b ∷ rest) (suc n) some within all digit = ((omega arith, AllPass-from_list_all is_identifier_byte (b ∷ take n rest) all), inr (refl, digit))
 
+-- what passes two tests passes each
+both_pass : (p q : ℕ → Bool) (xs : List ℕ) → list_all (λ b. p b && q b) xs ≡ true → (list_all p xs ≡ true) × (list_all q xs ≡ true)
+both_pass p q [] h = (refl, refl)
+both_pass p q (x ∷ xs) h =
+    let one = and_parts (p x && q x) (list_all (λ b. p b && q b) xs) h in
+    let here = and_parts (p x) (q x) one.0 in
+    let rest = both_pass p q xs one.1 in
+    (and_from (p x) (list_all p xs) here.0 rest.0, and_from (q x) (list_all q xs) here.1 rest.1)
+
+-- a string without escapes that begins and ends in these bytes
+pub continues_plain : (old : Reading) (text : List ℕ) (n : ℕ) → n ≡ length text + 2 → old.pending ≡ [] → list_all is_plain text ≡ true → Continues Anything old (34 ∷ (text ++ 34 ∷ [])) (record old { start = old.start + n; pending = [] }) (record { kind = String text; place = old.start } ∷ [])
+continues_plain old text n size e plain =
+    let tests = both_pass (λ b. not (is_quote b)) (λ b. not (is_percent b)) text plain in
+    let stands = stands_value true [] text text 0 (tests.1, refl) in
+    continues_token Anything old (34 ∷ (text ++ 34 ∷ [])) (record { kind = String text; place = old.start }) n (let none = ap length e in omega (arith, length-append text (34 ∷ [])))
+    (λ more p. fresh old ((34 ∷ (text ++ 34 ∷ [])) ++ more) e ∙ ap (λ v. lexed old.start 0 (34 ∷ v)) (append_assoc text (34 ∷ []) more) ∙ lexed_string_ok old.start text more tests.0 stands.0
+    ∙ ap (λ t. before (record { kind = String t; place = old.start } ∷ []) (lexed (old.start + length text + 2) 0 more)) (sym stands.1)
+    ∙ ap (λ m. before (record { kind = String text; place = old.start } ∷ []) (lexed m 0 more)) (omega arith))
+
 -- an error in the first bytes is one in all of them
 pub stops_ahead : (P Q : List ℕ → Type 0) (old : Reading) (xs ys : List ℕ) (g : List Token) (error : LexError) → ((more : List ℕ) → Q more → P (ys ++ more)) → Stops P old xs g error → Stops Q old (xs ++ ys) g error
 stops_ahead P Q old xs ys g NoMemory p s = λ more q. (let S : List ℕ → Type 0 = λ v. IsPrefix g (ahead old v).tokens in subst S (sym (append_assoc xs ys more)) (s (ys ++ more) (p more q)))
@@ -131,11 +152,20 @@ one_more n [] l = absurd (omega (arith, l))
 one_more zero (b ∷ bytes) l = refl
 one_more (suc n) (b ∷ bytes) l = let e : suc n + 1 ≡ suc (n + 1) = omega arith in rw e (ap (λ v. b ∷ v) (one_more n bytes (omega (arith, l))))
 
--- an error in so many bytes and one more is one in all of them
-pub more_stops : (old : Reading) (bytes : List ℕ) (n : ℕ) (g : List Token) (error : LexError) → n < length bytes → Stops Anything old (take n bytes ++ get_or bytes n 0 ∷ []) g error → Stops Anything old bytes g error
-more_stops old bytes n g error l s =
+-- a string in front
+pub quoted_front : (bytes rest : List ℕ) (n : ℕ) → bytes ≡ 34 ∷ rest → n < length rest → get_or rest n 0 ≡ 34 → take (n + 2) bytes ≡ 34 ∷ (take n rest ++ 34 ∷ [])
+quoted_front bytes rest n e l q =
+    let more : n + 2 ≡ suc (n + 1) = omega arith in
+    ap (take (n + 2)) e ∙ ap (λ k. take k (34 ∷ rest)) more ∙ ap (λ v. 34 ∷ v) (one_more n rest l ∙ ap (λ b. take n rest ++ b ∷ []) q)
+
+-- an error in so many bytes is one in all of them
+pub stops_in_front : (old : Reading) (bytes front : List ℕ) (n : ℕ) (g : List Token) (error : LexError) → take n bytes ≡ front → Stops Anything old front g error → Stops Anything old bytes g error
+stops_in_front old bytes front n g error e s =
     let S : List ℕ → Type 0 = λ xs. Stops Anything old xs g error in
-    subst S (take-append-drop (n + 1) bytes) (stops_ahead Anything Anything old (take (n + 1) bytes) (drop (n + 1) bytes) g error (λ more q. tt) (subst S (sym (one_more n bytes l)) s))
+    subst S (take-append-drop n bytes) (stops_ahead Anything Anything old (take n bytes) (drop n bytes) g error (λ more q. tt) (subst S (sym e) s))
+
+pub more_stops : (old : Reading) (bytes : List ℕ) (n : ℕ) (g : List Token) (error : LexError) → n < length bytes → Stops Anything old (take n bytes ++ get_or bytes n 0 ∷ []) g error → Stops Anything old bytes g error
+more_stops old bytes n g error l s = stops_in_front old bytes (take n bytes ++ get_or bytes n 0 ∷ []) (n + 1) g error (one_more n bytes l) s
 
 -- a string whose closing quote comes
 pub open_string_parts : (pending : List ℕ) → is_open_string pending ≡ true → (pending ≡ 34 ∷ drop 1 pending) × (is_unquoted (drop 1 pending) ≡ true)

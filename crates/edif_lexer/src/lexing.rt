@@ -1,17 +1,18 @@
 //! Bytes in pieces to tokens.
-ghost use Rattle.std.specs.Prelude.{◌≡◌, ◌≢◌, ◌+◌, ◌<◌, ◌≤◌, ◌∷◌, ◌++◌, [], false, get_or, true, length, take, List, ℕ, OnOk, OnErr, IfErr, IfOk, IsOkUnless};
+ghost use Rattle.std.specs.Prelude.{◌≡◌, ◌≢◌, ◌+◌, ◌<◌, ◌≤◌, ◌∷◌, ◌++◌, [], false, get_or, true, length, take, List, ℕ, OnOk, OnErr, IfErr, IfOk, IfSome, IsOkUnless};
 ghost use Rattle.std.specs.List.{list_all};
 ghost use Rattle.edif_spelling_spec.specs.Bytes.{is_space, is_word_byte, EndsRun};
 ghost use Rattle.edif_spelling_spec.specs.Grammar.{SpellsName};
 ghost use Rattle.edif_spelling_spec.specs.Lent.{Gains, IsNamed, kind_of};
 ghost use Rattle.edif_spelling_spec.specs.TreeFaults.{token_at};
+ghost use Rattle.edif_lexer.specs.Lanes.{IsQuoted, is_plain};
 ghost use Rattle.edif_lexer.specs.Reading.{is_open_string, is_pending, HasRead, Feeds, Finishes};
 ghost use Rattle.edif_lexer.specs.Steps.{Anything, Advances, BadEscapeOf, Ends, ReadsFront, StopsAtEnd};
 ghost use Rattle.edif_spelling_spec.specs.declared.token.Token.{Token};
 ghost use Rattle.edif_lexer.specs.declared.errors.LexError.{LexError};
 
 use crate::errors::LexError;
-use crate::runs::{blanks, is_paren, name_bytes, unquoted, word_bytes};
+use crate::runs::{blanks, is_paren, name_bytes, quoted, unquoted, word_bytes};
 use crate::strings::decode;
 use crate::words::{is_word_byte, word_kind};
 use edif_spelling_spec::{LentKind, LexKind, Token, Tokens};
@@ -174,7 +175,7 @@ impl Lexer {
     {
         let count = self.pending.len() as u64;
         match decode(self.alloc, &self.pending[1..], true)? {
-            Ok(text) => self.hand_out(LentKind::String(text), count + 1, out),
+            Ok(text) => self.hand_out(LentKind::String(text.as_slice()), count + 1, out),
             Err(at) => Err(self.bad_escape(at)),
         }
     }
@@ -288,6 +289,29 @@ impl Lexer {
         self.begin(byte, out)
     }
 
+    /// What stands between the quotes of the string that begins and ends in these bytes and has no escape, where no token has begun.
+    #[inline(always)]
+    fn whole_string<'a>(&self, rest: &'a [u8]) -> Option<&'a [u8]>
+        ensures quoted { IfSome result (λ text. IsQuoted rest.now text.now) }
+        ensures between { IfSome result (λ _. self.now.pending ≡ []) }
+    {
+        if !self.pending.is_empty() {
+            return None;
+        }
+        quoted(rest)
+    }
+
+    /// A string without escapes, by what stands between its quotes, where no token has begun.
+    #[inline(always)]
+    fn plain_string<S: Tokens>(&mut self, text: &[u8], out: &mut S) -> Result<(), LexError>
+        requires between { self.old.pending ≡ [] }
+        requires plain { list_all is_plain text.now ≡ true }
+        ensures { (gained : List Token) × Gains S.took out.old out.new gained
+            × Advances Anything self.old (34 ∷ (text.now ++ 34 ∷ [])) self.new gained result }
+    {
+        self.hand_out(LentKind::String(text), text.len() as u64 + 2, out)
+    }
+
     /// The next byte of the text, alone.
     #[inline(always)]
     fn one_byte<S: Tokens>(&mut self, rest: &[u8], out: &mut S) -> Result<usize, LexError>
@@ -321,6 +345,10 @@ impl Lexer {
         if name > 0 {
             self.name_before(&rest[..name], rest[name], out)?;
             return Ok(name + 1);
+        }
+        if let Some(text) = self.whole_string(rest) {
+            self.plain_string(text, out)?;
+            return Ok(text.len() + 2);
         }
         let kept = self.kept(rest);
         if kept > 0 {

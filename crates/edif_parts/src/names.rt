@@ -16,6 +16,7 @@ use crate::error::{EdifError, clash};
 use crate::few_names::FewNames;
 use crate::name_table::NameTable;
 use crate::parts::{read_parts, room_wanted, string_at, word_at};
+use crate::texts::text_of;
 use edif_names::Meant;
 use edif_spec::{ClashKind, Keyword};
 use edif_tree::{Node, Nodes, Shape};
@@ -56,7 +57,7 @@ fn read_rename(alloc: Global, node: Node<'_>) -> Result<NameAt, EdifError>
     let parts = read_parts(alloc, node, Keyword::Rename)?;
     let first = parts.fixed.at(0);
     let id = Copied::copy(word_at(first), alloc)?;
-    let text = string_at(parts.fixed.at(1)).copy(alloc)?;
+    let text = text_of(alloc, string_at(parts.fixed.at(1)))?;
     let place = first.place();
     let name = Name {
         id,

@@ -16,7 +16,7 @@ use crate::error::{EdifError, bad_form};
 use edif_grammar::{Breach, Form, is_form_of, parts_as};
 use edif_spec::{Keyword, MeaningFault};
 use edif_tree::{Node, Nodes, Shape};
-use netlist_schema::{Ident, NoMemory, Text};
+use netlist_schema::{Ident, NoMemory};
 use std::alloc::Global;
 
 /// The parts of a form with this keyword. Takes memory for a fault alone.
@@ -109,7 +109,7 @@ pub fn integer_at(node: Node<'_>) -> i64
 
 /// The string at a node where a string stands. Takes no memory.
 #[inline(always)]
-pub(crate) fn string_at(node: Node<'_>) -> &Text
+pub(crate) fn string_at(node: Node<'_>) -> &[u8]
     requires { IsTrue (is_choice AString (bare (here node))) }
     ensures { here node.entry ≡ String' (place_of (here node.entry)) result.now }
 {

@@ -1,5 +1,5 @@
 //! Forms of one string.
-ghost use Rattle.std.specs.Prelude.{◌≡◌, ◌⊎◌, ◌≤◌, IfSome, IsTrue, List, length, map, true};
+ghost use Rattle.std.specs.Prelude.{◌≡◌, ◌⊎◌, ◌≤◌, IfOk, IfSome, OnOk, IsTrue, List, length, map, true};
 ghost use Rattle.edif_spelling_spec.specs.Tree.{bare};
 ghost use Rattle.netlist_schema.specs.Typed.{IsBytes};
 ghost use Rattle.edif_spec.specs.Faults.{Among, RowFault, those_of};
@@ -15,7 +15,7 @@ use crate::parts::{read_parts, string_at};
 use edif_grammar::is_form_of;
 use edif_spec::Keyword;
 use edif_tree::{Node, Nodes};
-use netlist_schema::{Copied, Text};
+use netlist_schema::{NoMemory, Text};
 use std::alloc::Global;
 
 /// The text of the designator or the owner among these followers, where there is one.
@@ -37,6 +37,14 @@ pub fn read_text_among(
     Ok(None)
 }
 
+/// The text of these bytes.
+pub(crate) fn text_of(alloc: Global, bytes: &[u8]) -> Result<Text, NoMemory>
+    ensures same { IfOk result (λ text. text ≡ bytes.now) }
+    ensures typed { OnOk result (IsBytes bytes.now) }
+{
+    Ok(Text::of(Vec::from_slice(alloc, bytes)?))
+}
+
 /// The string of the form at a node, which is a designator, an owner, or a value that is a string.
 #[inline(always)]
 pub(crate) fn read_text(alloc: Global, node: Node<'_>, keyword: Keyword) -> Result<Text, EdifError>
@@ -45,6 +53,6 @@ pub(crate) fn read_text(alloc: Global, node: Node<'_>, keyword: Keyword) -> Resu
     ensures { Answers (λ s. MeansText keyword (bare (here node.entry)) s × IsBytes s) (RowFault keyword (here node.entry)) result }
 {
     let parts = read_parts(alloc, node, keyword)?;
-    let text = string_at(parts.fixed.at(0)).copy(alloc)?;
+    let text = text_of(alloc, string_at(parts.fixed.at(0)))?;
     Ok(text)
 }

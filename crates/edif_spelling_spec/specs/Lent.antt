@@ -1,4 +1,4 @@
--- Tokens whose names are lent, and what takes them.
+-- Tokens whose names and strings are lent, and what takes them.
 use Rattle.std.specs.Prelude.{List, ◌++◌}
 use Rattle.netlist_schema.specs.Ident.{IsIdentifier}
 use Rattle.edif_spelling_spec.specs.declared.token.Token.{Token}
@@ -13,7 +13,7 @@ kind_of lent.LeftParen = kinds.LeftParen
 kind_of lent.RightParen = kinds.RightParen
 kind_of (lent.Word name) = kinds.Word name.now
 kind_of (lent.Integer value) = kinds.Integer value
-kind_of (lent.String text) = kinds.String text
+kind_of (lent.String text) = kinds.String text.now
 
 -- a name that is lent is an identifier
 abbrev pub IsNamed : LentKind → Type 0

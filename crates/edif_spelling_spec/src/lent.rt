@@ -8,8 +8,8 @@ use crate::token::{Token, TokenKind};
 use netlist_schema::{Ident, NoMemory, Text};
 use std::alloc::Global;
 
-/// What a token is, as `TokenKind`, where its name is lent by who reads it.
-#[derive(Drop)]
+/// What a token is, as `TokenKind`, where its name or its string is lent by who reads it.
+#[derive(Clone, Copy)]
 pub enum LentKind<'a> {
     /// `(`.
     LeftParen,
@@ -20,7 +20,7 @@ pub enum LentKind<'a> {
     /// A number of 64 bits with sign.
     Integer(i64),
     /// The bytes that a string stands for, its escapes resolved.
-    String(Text),
+    String(&'a [u8]),
 }
 
 /// What takes the tokens of a text, one by one.
@@ -35,7 +35,7 @@ pub trait Tokens {
         ensures err { OnErr result (Gains took self.old self.new []) };
 }
 
-/// The same kind of token with a name of its own.
+/// The same kind of token with a name or a string of its own.
 fn owned(alloc: Global, kind: LentKind<'_>) -> Result<TokenKind, NoMemory>
     requires { IsNamed kind }
     ensures { IfOk result (λ made. made ≡ kind_of kind.entry) }
@@ -48,7 +48,10 @@ fn owned(alloc: Global, kind: LentKind<'_>) -> Result<TokenKind, NoMemory>
             None => unreachable!(),
         },
         LentKind::Integer(value) => Ok(TokenKind::Integer(value)),
-        LentKind::String(text) => Ok(TokenKind::String(text)),
+        LentKind::String(text) => {
+            let text = Text::of(Vec::from_slice(alloc, text)?);
+            Ok(TokenKind::String(text))
+        }
     }
 }
 

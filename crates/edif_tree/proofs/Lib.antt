@@ -16,4 +16,5 @@ pub mod OrderLemmas
 pub mod RangeLemmas
 pub mod ReadFaults
 pub mod SpelledLemmas
+pub mod StringLemmas
 pub mod WordLemmas

@@ -9,4 +9,5 @@ pub mod Nodes
 pub mod Order
 pub mod Packed
 pub mod Ranges
+pub mod Texts
 pub mod TreeError

@@ -11,6 +11,7 @@ mod read;
 mod rows;
 mod store;
 mod stored;
+mod texts;
 mod tree;
 mod tree_maker;
 mod word_list;

@@ -82,7 +82,12 @@ impl Making {
         ensures ok { OnOk result ((ts : List Token) → HasRead self.old ts → HasRead self.new (ts ++ token_at LeftParen place ∷ [])) }
     {
         let start = self.nodes.loose_len();
-        self.forms.push(OpenForm { place, start })?;
+        let form = OpenForm { place, start };
+        if self.forms.len() < self.forms.capacity() {
+            self.forms.push_reserved(form);
+            return Ok(());
+        }
+        self.forms.push(form)?;
         Ok(())
     }
 
@@ -139,7 +144,7 @@ impl Making {
             TokenKind::RightParen => self.add(LentKind::RightParen, place),
             TokenKind::Word(name) => self.add(LentKind::Word(name.as_slice()), place),
             TokenKind::Integer(value) => self.add(LentKind::Integer(value), place),
-            TokenKind::String(text) => self.add(LentKind::String(text), place),
+            TokenKind::String(text) => self.add(LentKind::String(text.as_slice()), place),
         }
     }
 

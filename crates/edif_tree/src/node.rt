@@ -7,7 +7,7 @@ use crate::each::Each;
 use crate::stored::{NodeId, NodeRange, StoredShape};
 use crate::tree::Tree;
 use edif_keywords::Keyword;
-use netlist_schema::{Ident, Text};
+use netlist_schema::Ident;
 
 /// A node of a tree.
 #[derive(Clone, Copy)]
@@ -35,7 +35,7 @@ pub enum Shape<'a> {
     /// A number.
     Integer(i64),
     /// A string, by the bytes that it stands for.
-    String(&'a Text),
+    String(&'a [u8]),
 }
 
 impl<'a> Node<'a> {

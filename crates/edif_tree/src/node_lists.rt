@@ -23,7 +23,8 @@ impl Model for NodeLists {
     ghost view = { λ l. record { lists = lists_from 0 l.ends.items; end = last_end 0 l.ends.items } };
 }
 
-/// Adds the place where a list ends.
+/// Adds the place where a list ends. Where there is room, it is put there without a call.
+#[inline(always)]
 fn add_end(ends: &mut Vec<u32>, end: usize) -> Result<(), NoMemory>
     ensures ok { OnOk result (ends.new.items ≡ ends.old.items ++ end ∷ []) }
     ensures err { OnErr result (ends.new.items ≡ ends.old.items) }
@@ -31,6 +32,10 @@ fn add_end(ends: &mut Vec<u32>, end: usize) -> Result<(), NoMemory>
     let Ok(end) = u32::try_from(end) else {
         return Err(NoMemory);
     };
+    if ends.len() < ends.capacity() {
+        ends.push_reserved(end);
+        return Ok(());
+    }
     ends.push(end)?;
     Ok(())
 }

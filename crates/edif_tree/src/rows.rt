@@ -5,9 +5,9 @@ ghost use Rattle.edif_tree.specs.Nodes.{seen};
 
 use crate::node_lists::NodeLists;
 use crate::stored::{NodeId, StoredKind, StoredNode, StoredShape};
+use crate::texts::Texts;
 use crate::word_list::WordList;
 use edif_keywords::Keyword;
-use netlist_schema::Text;
 use std::marker::Model;
 
 /// Nodes to which no others come, each with its place and shape, as contracts see them.
@@ -16,7 +16,7 @@ pub struct Rows {
     pub(crate) arguments: NodeLists,
     pub(crate) words: WordList,
     pub(crate) integers: Vec<i64>,
-    pub(crate) strings: Vec<Text>,
+    pub(crate) strings: Texts,
 }
 
 impl Drop for Rows {
@@ -37,9 +37,9 @@ impl Model for Rows {
 
     ghost Value = { List NodeRow };
 
-    ghost view = { λ a. map (row_of (record { arguments = a.arguments.lists; words = a.words; integers = a.integers.items; strings = a.strings.items })) a.nodes.items };
+    ghost view = { λ a. map (row_of (record { arguments = a.arguments.lists; words = a.words; integers = a.integers.items; strings = a.strings })) a.nodes.items };
 
-    ghost invariant = { λ a. AreWithin (record { arguments = a.arguments.lists; words = a.words; integers = a.integers.items; strings = a.strings.items }) a.nodes.items };
+    ghost invariant = { λ a. AreWithin (record { arguments = a.arguments.lists; words = a.words; integers = a.integers.items; strings = a.strings }) a.nodes.items };
 }
 
 impl Rows {
@@ -60,7 +60,7 @@ impl Rows {
             StoredKind::Form(at) => StoredShape::Form(self.arguments.get(at as usize)),
             StoredKind::Word(at) => StoredShape::Word(self.words.name(at as usize)),
             StoredKind::Integer(at) => StoredShape::Integer(self.integers[at as usize]),
-            StoredKind::String(at) => StoredShape::String(&self.strings[at as usize]),
+            StoredKind::String(at) => StoredShape::String(self.strings.get(at as usize)),
         }
     }
 

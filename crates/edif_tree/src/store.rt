@@ -8,9 +8,10 @@ ghost use Rattle.edif_tree.specs.Nodes.{IntegerOf, StringOf, WordOf, with_form, 
 use crate::node_lists::{NodeLists, add_list};
 use crate::rows::Rows;
 use crate::stored::{NodeId, PackedKind, StoredKind, StoredNode};
+use crate::texts::Texts;
 use crate::words::Words;
 use edif_spelling_spec::LentKind;
-use netlist_schema::{NoMemory, Text};
+use netlist_schema::NoMemory;
 use std::alloc::Global;
 use std::marker::Model;
 
@@ -23,7 +24,7 @@ pub struct Store {
     arguments: NodeLists,
     words: Words,
     integers: Vec<i64>,
-    strings: Vec<Text>,
+    strings: Texts,
 }
 
 impl Drop for Store {
@@ -44,9 +45,9 @@ impl Model for Store {
 
     ghost Value = { Made };
 
-    ghost view = { λ a. made_of (record { arguments = a.arguments.lists; words = a.words; integers = a.integers.items; strings = a.strings.items }) a.nodes.items a.loose.items };
+    ghost view = { λ a. made_of (record { arguments = a.arguments.lists; words = a.words; integers = a.integers.items; strings = a.strings }) a.nodes.items a.loose.items };
 
-    ghost invariant = { λ a. AreMade (record { arguments = a.arguments.lists; words = a.words; integers = a.integers.items; strings = a.strings.items }) a.arguments.end a.nodes.items a.loose.items };
+    ghost invariant = { λ a. AreMade (record { arguments = a.arguments.lists; words = a.words; integers = a.integers.items; strings = a.strings }) a.arguments.end a.nodes.items a.loose.items };
 }
 
 /// A number as a node keeps it.
@@ -68,12 +69,18 @@ fn stored(place: u64, kind: StoredKind) -> Result<StoredNode, NoMemory>
     Ok(StoredNode { place, kind })
 }
 
-/// Adds a node behind the others.
+/// Adds a node behind the others. Where there is room, it is put there without a call.
+#[inline(always)]
 fn add_node(nodes: &mut Vec<StoredNode>, place: u64, kind: StoredKind) -> Result<(), NoMemory>
     ensures ok { OnOk result (nodes.new.items ≡ nodes.old.items ++ record { place = place; kind = kind } ∷ []) }
     ensures err { OnErr result (nodes.new.items ≡ nodes.old.items) }
 {
-    nodes.push(stored(place, kind)?)?;
+    let node = stored(place, kind)?;
+    if nodes.len() < nodes.capacity() {
+        nodes.push_reserved(node);
+        return Ok(());
+    }
+    nodes.push(node)?;
     Ok(())
 }
 
@@ -88,7 +95,7 @@ impl Store {
             arguments: NodeLists::new(alloc),
             words: Words::new(alloc),
             integers: Vec::new(alloc),
-            strings: Vec::new(alloc),
+            strings: Texts::new(alloc),
         }
     }
 
@@ -126,8 +133,8 @@ impl Store {
     }
 
     /// Adds the node of a string.
-    fn push_string(&mut self, place: u64, text: Text) -> Result<(), NoMemory>
-        ensures ok { OnOk result (self.new ≡ with_loose self.old (record { place = place; shape = StringOf text })) }
+    fn push_string(&mut self, place: u64, text: &[u8]) -> Result<(), NoMemory>
+        ensures ok { OnOk result (self.new ≡ with_loose self.old (record { place = place; shape = StringOf text.now })) }
     {
         let at = small(self.strings.len() as u64)?;
         self.strings.push(text)?;

@@ -3,7 +3,7 @@ ghost use Rattle.std.specs.Prelude.{◌≡◌, ◌<◌, ◌≤◌, ◌∷◌, []
 ghost use Rattle.edif_tree.specs.Packed.{kind_of};
 ghost use Rattle.edif_tree.specs.Ranges.{ids_of};
 
-use netlist_schema::{Ident, NoMemory, Text};
+use netlist_schema::{Ident, NoMemory};
 use std::marker::Model;
 
 /// The place of a node in its tree's list of nodes, from 0.
@@ -78,7 +78,7 @@ pub enum StoredShape<'a> {
     /// A number.
     Integer(i64),
     /// A string, by the bytes that it stands for.
-    String(&'a Text),
+    String(&'a [u8]),
 }
 
 /// What stands at a node. The arguments of forms, words, integers and strings stand in lists of their own, and a node has the place

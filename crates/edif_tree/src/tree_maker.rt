@@ -1,10 +1,11 @@
 //! `TreeMaker`: tokens that come in pieces to a tree.
-ghost use Rattle.std.specs.Prelude.{◌≡◌, ◌≢◌, ◌∷◌, [], ℕ, List, Ok, Err, Some, None, IfErr, OnErr, OnOk};
+ghost use Rattle.std.specs.Prelude.{◌≡◌, ◌≢◌, ◌∷◌, [], List, Ok, Err, Some, None, IfErr, OnErr, OnOk};
 ghost use Rattle.edif_spelling_spec.specs.Lent.{Gains, IsNamed, kind_of};
 ghost use Rattle.edif_spelling_spec.specs.TreeFaults.{token_at};
 ghost use Rattle.edif_spelling_spec.specs.declared.token.Token.{Token};
 ghost use Rattle.edif_tree.specs.Maker.{Feeds, Finishes, HasTaken, IsHanded};
 ghost use Rattle.edif_tree.specs.declared.errors.TreeError.{TreeError};
+ghost use Rattle.edif_tree.specs.declared.errors.TreeError.TheVariants.{NoMemory as WantsMemory};
 
 use crate::errors::TreeError;
 use crate::making::Making;
@@ -73,6 +74,7 @@ impl TreeMaker {
         requires going { self.old.failed ≡ None }
         ensures ok { OnOk result (Gains IsHanded self.old self.new (token_at (kind_of kind.entry) place ∷ [])) }
         ensures err { OnErr result (Gains IsHanded self.old self.new []) }
+        ensures memory { OnOk result (self.new.failed ≢ Some WantsMemory) }
     {
         match self.making.add(kind, place) {
             Ok(()) => Ok(()),
@@ -104,8 +106,16 @@ impl TreeMaker {
 impl Tokens for TreeMaker {
     ghost took = { IsHanded };
 
+    /// Takes the next token, before which so many bytes of the text stand. Where memory is refused, the answer is `NoMemory`. After an
+    /// error of an earlier call the answer is Ok, and nothing changes.
     #[inline(always)]
-    fn take(&mut self, kind: LentKind<'_>, place: u64) -> Result<(), NoMemory> {
+    fn take(&mut self, kind: LentKind<'_>, place: u64) -> Result<(), NoMemory>
+        requires { IsNamed kind }
+        ensures ok { OnOk result (Gains IsHanded self.old self.new (token_at (kind_of kind.entry) place ∷ [])) }
+        ensures err { OnErr result (Gains IsHanded self.old self.new []) }
+        ensures memory { self.old.failed ≡ None → OnOk result (self.new.failed ≢ Some WantsMemory) }
+        ensures again { (error : TreeError) → self.old.failed ≡ Some error → (result ≡ Ok tt) × (self.new ≡ self.old) }
+    {
         match self.failed {
             Some(_) => Ok(()),
             None => self.go_on(kind, place),

@@ -12,9 +12,9 @@ returns-in-Ok g c =
     let found = rw c.in-Ok.is at c.in_ok-text.ensures in
     let parts = open_string_parts c.args.self.now.pending c.requires in
     moved g.S.Tokens.took Anything c.args.self.now (34 ∷ []) c.hand_out.new.self _ _ c.args.out.now c.hand_out.new.out c.hand_out.result c.hand_out.ensures.ok c.hand_out.ensures.err c.hand_out.ensures.memory
-    (continues_string c.args.self.now (drop 1 c.args.self.now.pending) c.in-Ok.text _ parts.0 parts.1
+    (continues_string c.args.self.now (drop 1 c.args.self.now.pending) c.as_slice.result.now _ parts.0 parts.1
     (ap (λ n. n + 1) (c.len-count.ensures ∙ sym c.deref.ensures.len ∙ ap length same))
-    (ap (λ b. escape_fault true 0 (segments b)) (sym body) ∙ found.0) (found.1 ∙ ap (λ b. value (segments b)) body))
+    (ap (λ b. escape_fault true 0 (segments b)) (sym body) ∙ found.0) (c.as_slice.ensures.value ∙ (found.1 ∙ ap (λ b. value (segments b)) body)))
 
 pub returns-in-Err : goal.returns-in-Err
 returns-in-Err g c =

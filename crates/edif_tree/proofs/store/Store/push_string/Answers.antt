@@ -6,22 +6,20 @@ use Rattle.edif_tree.proofs.store.Store.push_string.Goals as goal
 
 pub invariant_of-self-2 : goal.invariant_of-self-2
 invariant_of-self-2 c =
-    let s : Stores = record { arguments = c.self.inside.arguments.lists; words = c.self.inside.words; integers = c.self.inside.integers.items; strings = c.self.inside.strings.items } in
-    let t : Stores = record { arguments = c.self.inside.arguments.lists; words = c.self.inside.words; integers = c.self.inside.integers.items; strings = c.push.new.self.items } in
-    let ok = c.self.inside.strings.ok.0 in
-    let at : c.in_ok-at.at ≡ length c.self.inside.strings.items = omega (arith, c.in_ok-at.ensures, c.len.ensures) in
-    let last = read_last [] c.args.text c.self.inside.strings.items c.push.new.self.items c.in_ok-at.at c.in_ok-push.ensures.items at in
-    (added s t c.self.inside.arguments.end c.self.inside.nodes.items c.self.inside.loose.items c.add_node.new.nodes.items c.args.self.now c.args.place (kinds.String c.in_ok-at.at) (StringOf c.args.text) c.add_node.result c.self.view_is c.self.invariant
-    (record { arguments = stays c.self.inside.arguments.lists; words = stays c.self.inside.words; integers = stays c.self.inside.integers.items; strings = (c.args.text ∷ [], c.in_ok-push.ensures.items) }) last.0 (ap StringOf last.1) c.add_node.ensures.ok c.add_node.ensures.err).within
+    let s : Stores = record { arguments = c.self.inside.arguments.lists; words = c.self.inside.words; integers = c.self.inside.integers.items; strings = c.self.inside.strings } in
+    let t : Stores = record { arguments = c.self.inside.arguments.lists; words = c.self.inside.words; integers = c.self.inside.integers.items; strings = c.push.new.self } in
+    let at : c.in_ok-at.at ≡ length c.self.inside.strings = omega (arith, c.in_ok-at.ensures, c.len.ensures) in
+    let last = read_last [] c.args.text.now c.self.inside.strings c.push.new.self c.in_ok-at.at c.in_ok-push.ensures.ok at in
+    (added s t c.self.inside.arguments.end c.self.inside.nodes.items c.self.inside.loose.items c.add_node.new.nodes.items c.args.self.now c.args.place (kinds.String c.in_ok-at.at) (StringOf c.args.text.now) c.add_node.result c.self.view_is c.self.invariant
+    (record { arguments = stays c.self.inside.arguments.lists; words = stays c.self.inside.words; integers = stays c.self.inside.integers.items; strings = (c.args.text.now ∷ [], c.in_ok-push.ensures.ok) }) last.0 (ap StringOf last.1) c.add_node.ensures.ok c.add_node.ensures.err).within
 
 pub returns : goal.returns
 returns c =
-    let s : Stores = record { arguments = c.self.inside.arguments.lists; words = c.self.inside.words; integers = c.self.inside.integers.items; strings = c.self.inside.strings.items } in
-    let t : Stores = record { arguments = c.self.inside.arguments.lists; words = c.self.inside.words; integers = c.self.inside.integers.items; strings = c.push.new.self.items } in
-    let ok = c.self.inside.strings.ok.0 in
-    let at : c.in_ok-at.at ≡ length c.self.inside.strings.items = omega (arith, c.in_ok-at.ensures, c.len.ensures) in
-    let last = read_last [] c.args.text c.self.inside.strings.items c.push.new.self.items c.in_ok-at.at c.in_ok-push.ensures.items at in
+    let s : Stores = record { arguments = c.self.inside.arguments.lists; words = c.self.inside.words; integers = c.self.inside.integers.items; strings = c.self.inside.strings } in
+    let t : Stores = record { arguments = c.self.inside.arguments.lists; words = c.self.inside.words; integers = c.self.inside.integers.items; strings = c.push.new.self } in
+    let at : c.in_ok-at.at ≡ length c.self.inside.strings = omega (arith, c.in_ok-at.ensures, c.len.ensures) in
+    let last = read_last [] c.args.text.now c.self.inside.strings c.push.new.self c.in_ok-at.at c.in_ok-push.ensures.ok at in
     record {
-      ok = (added s t c.self.inside.arguments.end c.self.inside.nodes.items c.self.inside.loose.items c.add_node.new.nodes.items c.args.self.now c.args.place (kinds.String c.in_ok-at.at) (StringOf c.args.text) c.add_node.result c.self.view_is c.self.invariant
-          (record { arguments = stays c.self.inside.arguments.lists; words = stays c.self.inside.words; integers = stays c.self.inside.integers.items; strings = (c.args.text ∷ [], c.in_ok-push.ensures.items) }) last.0 (ap StringOf last.1) c.add_node.ensures.ok c.add_node.ensures.err).ok;
+      ok = (added s t c.self.inside.arguments.end c.self.inside.nodes.items c.self.inside.loose.items c.add_node.new.nodes.items c.args.self.now c.args.place (kinds.String c.in_ok-at.at) (StringOf c.args.text.now) c.add_node.result c.self.view_is c.self.invariant
+          (record { arguments = stays c.self.inside.arguments.lists; words = stays c.self.inside.words; integers = stays c.self.inside.integers.items; strings = (c.args.text.now ∷ [], c.in_ok-push.ensures.ok) }) last.0 (ap StringOf last.1) c.add_node.ensures.ok c.add_node.ensures.err).ok;
     }

@@ -1,0 +1,20 @@
+use Rattle.std.proofs.Common.{◌≡◌, ◌+◌, ◌*◌, ◌/◌, ℕ, length, take, true, subst, arith}
+use Rattle.std.specs.List.{list_all}
+use Rattle.edif_lexer.specs.Lanes.{is_plain}
+use Rattle.edif_lexer.proofs.LaneLemmas.{joined_fronts}
+use Rattle.edif_lexer.proofs.runs.plain_bytes.Goals as goal
+
+pub returns-then-run-lt-LANES-clause-all : goal.returns-then-run-lt-LANES-clause-all
+returns-then-run-lt-LANES-clause-all c = joined_fronts is_plain (c.loop-block.block * 16) c.plain_run-run.result c.args.bytes.now c.loop-block.invariant c.plain_run-run.ensures.1
+
+pub loop-block-preserved : goal.loop-block-preserved
+loop-block-preserved c =
+    let P : ℕ → Type 0 = λ n. list_all is_plain (take n c.args.bytes.now) ≡ true in
+    let e : c.loop-block.block * 16 + c.plain_run-run.result ≡ (c.loop-block.block + 1) * 16 = omega (arith, c.if-run-lt-LANES.false, c.plain_run-run.ensures.0) in
+    subst P e (joined_fronts is_plain (c.loop-block.block * 16) c.plain_run-run.result c.args.bytes.now c.loop-block.invariant c.plain_run-run.ensures.1)
+
+pub returns-clause-all : goal.returns-clause-all
+returns-clause-all c =
+    let P : ℕ → Type 0 = λ n. list_all is_plain (take (n * 16) c.args.bytes.now) ≡ true in
+    let e : c.loop-block.block ≡ length c.args.bytes.now / 16 = omega (arith, c.loop-block.auto.block-end, c.loop-block-test.false) in
+    joined_fronts is_plain (length c.args.bytes.now / 16 * 16) c.few_plain.result c.args.bytes.now (subst P e c.loop-block.invariant) c.few_plain.ensures.all
