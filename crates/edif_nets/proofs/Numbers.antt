@@ -1,5 +1,6 @@
 -- Numbers that differ, and what they are numbers of.
 use Rattle.std.proofs.Common.{◌≡◌, ◌≢◌, ℕ, List, map, length, get_or, eqb, ap, sym, ◌∙◌, arith}
+use Rattle.std.specs.Prelude.{Result, Ok, Err, IfOk}
 use Rattle.std.specs.List.{AllPairs}
 use Rattle.netlist_schema.specs.Names.{AreDistinct}
 use Rattle.std.specs.List.Sorted.{IsPermutation, IsStrictlyIncreasing}
@@ -9,6 +10,11 @@ use Rattle.std.proofs.lemmas.List.Kept.{AllPairs-from_increasing}
 use Rattle.std.proofs.lemmas.List.Sorted.{IsPermutation-sym}
 use Rattle.std.proofs.lemmas.Map.Keys.{IsDistinct-IsPermutation}
 use Rattle.std.proofs.lemmas.Map.Made.{AllPairs-from_IsDistinct, IsDistinct-from_AllPairs}
+
+-- what holds of a value that is answered holds in a weaker form
+pub if_ok_weaker : {T E : Type 0} {P Q : T → Type 0} (r : Result T E) → ((x : T) → P x → Q x) → IfOk r P → IfOk r Q
+if_ok_weaker (Ok x) f h = f x h
+if_ok_weaker (Err e) f h = tt
 
 flips : (x y : ℕ) → eqb x y ≡ eqb y x
 flips x y = same_from_decides (eqb x y) (eqb y x) (Decides-eqb x y) (let d = Decides-eqb y x in (λ e. sym (d.0 e), λ e. d.1 (sym e)))

@@ -163,7 +163,7 @@ fn ends_apart(alloc: Global, nets: &[Listed<Net>], count: usize) -> Result<bool,
     ensures { IfOk result (λ apart. IsTrue apart → AreDistinct (ends_of nets.now)) }
 {
     let mut keys = end_keys(alloc, nets, count)?;
-    Ok(differ(&mut keys))
+    differ(alloc, &mut keys)
 }
 
 /// Whether the ends of nets join each bit once; else the error is that an end joins one again. Their numbers take far less memory than a

@@ -115,7 +115,7 @@ fn names_apart(alloc: Global, nets: &[Listed<Net>]) -> Result<bool, NoMemory>
     ensures { IfOk result (λ apart. IsTrue apart → AreDistinct (map (λ n. n.name.id) nets.now)) }
 {
     let mut keys = name_keys(alloc, nets)?;
-    Ok(differ(&mut keys))
+    differ(alloc, &mut keys)
 }
 
 /// Whether the names of nets differ; else the error is that one is defined again. Their numbers take far less memory than a table of

@@ -1,7 +1,7 @@
 use Rattle.std.proofs.Common.{List, ℕ, subst}
 use Rattle.std.specs.List.Sorted.{IsStrictlyIncreasing}
 use Rattle.edif_nets.proofs.Numbers.{differ_by}
-use Rattle.edif_nets.proofs.differ.differ.Goals as goal
+use Rattle.edif_nets.proofs.differ.differ_in_order.Goals as goal
 
 pub returns : goal.returns
 returns c = λ t.
