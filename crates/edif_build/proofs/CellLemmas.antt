@@ -3,7 +3,7 @@ use Rattle.std.proofs.Common.{◌≡◌, ℕ, List, [], ◌∷◌, ◌++◌, map
 use Rattle.std.specs.Prelude.{IsTrue, cond, slice_get}
 use Rattle.std.specs.List.{All, AllByRecursion}
 use Rattle.netlist_schema.specs.Design.{insts_of, nets_of, insts_in, nets_in}
-use Rattle.netlist_schema.specs.Names.{HasDistinctKeys}
+use Rattle.netlist_schema.specs.Names.{AreDistinct, HasDistinctKeys}
 use Rattle.netlist_schema.specs.Typed.{IsTypedName, IsTypedProperty}
 use Rattle.edif_spelling_spec.specs.Tree.{Bare, Placed, Word', bare}
 use Rattle.edif_spec.specs.Keyword.{same, row, Takes, Choice, Follower, name_definition, identifier, the}
@@ -12,7 +12,7 @@ use Rattle.edif_spec.specs.Canonical.{kind_word}
 use Rattle.edif_spec.specs.Design as design
 use Rattle.edif_spec.specs.Means.{IsNetlist, MeansCell, MeansContents, MeansKind, MeansName, MeansPort, MeansProperties, MeansView}
 use Rattle.edif_spec.specs.Faults.{AtTwo, Among, place_of, arguments, defined, followers, name_of, those_of, token_kind}
-use Rattle.edif_spec.specs.Stands.{CellTypeFault, ContentsFault, TypeFault, ViewFault, CellFault, is_cell_type, is_netlist, ports_in}
+use Rattle.edif_spec.specs.Stands.{CellTypeFault, ContentsFault, TypeFault, ViewFault, CellFault, is_cell_type, is_netlist}
 use Rattle.edif_spec.specs.Stands as stands
 use Rattle.edif_spec.specs.declared.keyword.Keyword.{Keyword}
 use Rattle.edif_spec.specs.declared.keyword.Keyword.TheVariants as keywords
@@ -26,12 +26,11 @@ use Rattle.edif_spec.proofs.KnownRows.{follow_none}
 use Rattle.edif_tree.specs.Nodes as nodes
 use Rattle.edif_tree.specs.Handles.{here, all}
 use Rattle.edif_tree.specs.declared.node.Node.{Node}
-use Rattle.edif_build.specs.Cells.{IsSoundCell, OneNode, ReadCell, ReadOnce, ReadView, ViewsFault, body_of, contents_of, names_of}
+use Rattle.edif_build.specs.Cells.{IsSoundCell, OneNode, ReadCell, ReadOnce, ReadView, ViewsFault, body_of}
 use Rattle.edif_grammar.specs.Forms.{ArePartsOf}
 use Rattle.edif_contents.specs.Insides.{ReadContents}
 use Rattle.edif_build.specs.declared.cells.CellAt.{CellAt}
 use Rattle.edif_build.specs.declared.cells.View.{View}
-use Rattle.edif_contents.specs.declared.contents.Inside.{Inside}
 use Rattle.edif_grammar.specs.declared.lent.Form.{Form}
 use Rattle.edif_parts.specs.declared.names.NameAt.{NameAt}
 use Rattle.edif_grammar.proofs.FormLemmas.{are_plain, fit3, fit_cell}
@@ -145,7 +144,7 @@ inside_fails libs own t u ports f g k m b =
     stands.view_contents (record { interface = u; ports = ports; there = g; is_interface = k; means = subst P (sym (parts_bare keywords.Interface keywords.Port u)) m; fault = b })
 
 -- what is inside a cell
-inside_means : (libs : List design.Lib) (own : Option ℕ) (ports : List design.Port) (us : List Placed) (o : Option Inside) → ReadOnce (ReadContents libs own ports) us o → Perhaps (MeansContents libs own ports) (map bare us) (contents_of o)
+inside_means : (libs : List design.Lib) (own : Option ℕ) (ports : List design.Port) (us : List Placed) (o : Option design.Contents) → ReadOnce (ReadContents libs own ports) us o → Perhaps (MeansContents libs own ports) (map bare us) o
 inside_means libs own ports [] None h = tt
 inside_means libs own ports [] (Some x) h = absurd h
 inside_means libs own ports (t ∷ []) None h = absurd h
@@ -153,13 +152,7 @@ inside_means libs own ports (t ∷ []) (Some x) h = h.mean
 inside_means libs own ports (t ∷ u ∷ us) None h = absurd h
 inside_means libs own ports (t ∷ u ∷ us) (Some x) h = absurd h
 
-pub inside_names : (libs : List design.Lib) (own : Option ℕ) (ports : List design.Port) (us : List Placed) (o : Option Inside) → ReadOnce (ReadContents libs own ports) us o → names_of o ≡ design.inst_ids (insts_in (contents_of o))
-inside_names libs own ports us None h = refl
-inside_names libs own ports [] (Some x) h = absurd h
-inside_names libs own ports (t ∷ []) (Some x) h = h.names
-inside_names libs own ports (t ∷ u ∷ us) (Some x) h = absurd h
-
-inside_fine : (libs : List design.Lib) (own : Option ℕ) (ports : List design.Port) (us : List Placed) (o : Option Inside) → ReadOnce (ReadContents libs own ports) us o → FineInside (insts_in (contents_of o)) (nets_in (contents_of o))
+inside_fine : (libs : List design.Lib) (own : Option ℕ) (ports : List design.Port) (us : List Placed) (o : Option design.Contents) → ReadOnce (ReadContents libs own ports) us o → FineInside (insts_in o) (nets_in o)
 inside_fine libs own ports us None h = nothing_inside
 inside_fine libs own ports [] (Some x) h = absurd h
 inside_fine libs own ports (t ∷ u ∷ us) (Some x) h = absurd h
@@ -179,7 +172,7 @@ inside_fine libs own ports (t ∷ []) (Some x) h = record {
 -- A view says the same of its cell whatever the cell's name, type and properties.
 pub view_means : (libs : List design.Lib) (own : Option ℕ) (u : Placed) (v : View) (n : design.Name) (k : design.CellKind) (ps : List design.Property) → ReadView libs own u v → MeansView libs own (bare u) (body_of v n k ps)
 view_means libs own u v n k ps r =
-    let P : List Bare → Type 0 = λ w. Perhaps (MeansContents libs own v.body.interface.ports) w (contents_of v.body.inside) in
+    let P : List Bare → Type 0 = λ w. Perhaps (MeansContents libs own v.body.interface.ports) w v.body.inside in
     record {
       name_part = bare r.name_part;
       type_part = bare r.type_part;
@@ -193,8 +186,9 @@ view_means libs own u v n k ps r =
       properties = r.heading.properties.0;
     }
 
-pub view_names : (libs : List design.Lib) (own : Option ℕ) (u : Placed) (v : View) → ReadView libs own u v → names_of v.body.inside ≡ design.inst_ids (insts_in (contents_of v.body.inside))
-view_names libs own u v r = inside_names libs own v.body.interface.ports (those_of keywords.Contents (followers keywords.View u)) v.body.inside r.body.inside
+-- the names of the instances of a cell differ
+pub insts_differ : (libs : List design.Lib) (own : Option ℕ) (u : Placed) (v : View) → ReadView libs own u v → AreDistinct (design.inst_ids (insts_in v.body.inside))
+insts_differ libs own u v r = (inside_fine libs own v.body.interface.ports (those_of keywords.Contents (followers keywords.View u)) v.body.inside r.body.inside).inst_names
 
 sound_body : (libs : List design.Lib) (own : Option ℕ) (u : Placed) (v : View) (n : design.Name) (k : design.CellKind) (ps : List design.Property) → ReadView libs own u v → IsTypedName n → All IsTypedProperty ps → HasDistinctKeys ps → IsSoundCell (body_of v n k ps)
 sound_body libs own u v n k ps r tn tp d =

@@ -9,4 +9,5 @@ pub mod LibraryLemmas
 pub mod NoteKeyLemmas
 pub mod NoteLemmas
 pub mod NotedLemmas
+pub mod ReachedLemmas
 pub mod TopLemmas

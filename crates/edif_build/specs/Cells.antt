@@ -1,5 +1,5 @@
 -- What is read of a view and of a cell.
-use Rattle.std.specs.Prelude.{◌≡◌, ◌⊎◌, ℕ, List, [], ◌∷◌, Option, None, Some, map, option_map}
+use Rattle.std.specs.Prelude.{◌≡◌, ◌⊎◌, ℕ, List, [], ◌∷◌, Option, None, Some, map}
 use Rattle.edif_spelling_spec.specs.Tree.{Placed, bare}
 use Rattle.netlist_schema.specs.Design.{ends_of}
 use Rattle.netlist_schema.specs.Limits.{IsCellWithinLimits}
@@ -19,12 +19,10 @@ use Rattle.edif_tree.specs.Handles.{here}
 use Rattle.edif_tree.specs.declared.node.Node.{Node}
 use Rattle.edif_contents.specs.Insides.{ReadContents}
 use Rattle.edif_parts.specs.Interfaces.{ReadInterface}
-use Rattle.edif_parts.specs.Names.{ids}
 use Rattle.edif_build.specs.Headings.{ReadHeading}
 use Rattle.edif_build.specs.declared.cells.CellAt.{CellAt}
 use Rattle.edif_build.specs.declared.cells.View.{View}
 use Rattle.edif_build.specs.declared.cells.ViewBody.{ViewBody}
-use Rattle.edif_contents.specs.declared.contents.Inside.{Inside}
 
 -- nothing is read of no form, and of one form what stands in it
 abbrev pub ReadOnce : {A : Type 0} → (Placed → A → Type 0) → List Placed → Option A → Type 0
@@ -74,14 +72,6 @@ pub record ReadCell (libs : List design.Lib) (own : Option ℕ) (t : Placed) (c 
   pub sound : IsSoundCell c.cell
   pub place : defined t ≡ Some (c.cell.name.id, c.place)
 
--- what is inside a view, and the names of its instances
-abbrev pub contents_of : Option Inside → Option design.Contents
-contents_of o = option_map (λ i. i.contents) o
-
-abbrev pub names_of : Option Inside → List (List ℕ)
-names_of None = []
-names_of (Some i) = ids i.insts
-
 -- a cell by its view, its name, its type and its properties
 abbrev pub body_of : View → design.Name → design.CellKind → List design.Property → design.CellBody
 body_of v name kind properties = record {
@@ -92,5 +82,5 @@ body_of v name kind properties = record {
   view_properties = v.heading.properties;
   interface_properties = v.body.interface.properties;
   ports = v.body.interface.ports;
-  contents = contents_of v.body.inside;
+  contents = v.body.inside;
 }

@@ -4,3 +4,4 @@ pub mod Headings
 pub mod Levels
 pub mod Libraries
 pub mod Notes
+pub mod Reached

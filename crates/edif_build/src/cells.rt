@@ -1,5 +1,6 @@
 //! Views and cells.
 ghost use Rattle.std.specs.Prelude.{◌≡◌, ◌≤◌, IfNone, IfSome, IsTrue, Some, false, length, true};
+ghost use Rattle.netlist_schema.specs.Names.{AreDistinct};
 ghost use Rattle.edif_spelling_spec.specs.Tree.{bare};
 ghost use Rattle.edif_spec.specs.Canonical.{kind_word};
 ghost use Rattle.edif_spec.specs.Design as design;
@@ -10,13 +11,13 @@ ghost use Rattle.edif_spec.specs.Rows.{has_keyword};
 ghost use Rattle.edif_spec.specs.Stands.{CellFault, CellTypeFault, ContentsFault, TypeFault, ViewFault, is_cell_type};
 ghost use Rattle.edif_spec.specs.declared.keyword.Keyword.TheVariants.{Cell as CellWord, CellType, Contents as ContentsWord, Interface as InterfaceWord, View as ViewWord, ViewType};
 ghost use Rattle.edif_tree.specs.Handles.{here, all};
-ghost use Rattle.edif_build.specs.Cells.{OneNode, ReadCell, ReadOnce, ReadView, ReadViewBody, ViewBodyFault, ViewsFault, body_of, contents_of, names_of};
+ghost use Rattle.edif_build.specs.Cells.{OneNode, ReadCell, ReadOnce, ReadView, ReadViewBody, ViewBodyFault, ViewsFault, body_of};
 ghost use Rattle.edif_contents.specs.Insides.{ReadContents};
 ghost use Rattle.edif_parts.specs.Names.{ids};
 ghost use Rattle.edif_parts.specs.Reading.{Answers};
 
 use crate::headings::{Heading, read_heading};
-use edif_contents::{Inside, KnownCell, Libraries, read_contents, reference_at};
+use edif_contents::{KnownCell, Libraries, read_contents, reference_at};
 use edif_grammar::is_form_of;
 use edif_parts::{
     EdifError, Interface, NameAt, Names, bad_form, clash, fault_at, is_word, read_interface,
@@ -33,7 +34,7 @@ pub struct ViewBody {
     /// Its interface.
     pub interface: Interface,
     /// Its contents; a leaf has none.
-    pub inside: Option<Inside>,
+    pub inside: Option<Shared<Contents>>,
 }
 
 /// What a view says.
@@ -48,7 +49,7 @@ pub struct View {
 /// A cell, and where its identifier stands.
 #[derive(Drop)]
 pub struct CellAt {
-    /// The cell, with the names of its ports and of its instances.
+    /// The cell, with the names of its ports.
     pub cell: KnownCell,
     /// The number of bytes before its identifier.
     pub place: u64,
@@ -104,7 +105,7 @@ fn read_contents_among(
     own: Option<u32>,
     ports: &[Port],
     names: &Names,
-) -> Result<Option<Inside>, EdifError>
+) -> Result<Option<Shared<Contents>>, EdifError>
     requires few { length (those_of ContentsWord (all inner)) ≤ 1 }
     requires names { ids names.now ≡ design.port_ids ports.now }
     ensures { Answers (ReadOnce (ReadContents libs.now.libs own ports.now) (those_of ContentsWord (all inner.entry))) (Among (ContentsFault libs.now.libs own ports.now) (those_of ContentsWord (all inner.entry))) result }
@@ -174,39 +175,10 @@ fn one_view(inner: Nodes<'_>, place: u64) -> Result<Node<'_>, EdifError>
     }
 }
 
-/// Contents apart from the names of their instances.
-#[derive(Drop)]
-struct Pieces {
-    /// The contents, where there are some.
-    contents: Option<Shared<Contents>>,
-    /// The names of the instances.
-    insts: Names,
-}
-
-/// Contents apart from the names of their instances. Takes no memory.
-fn apart(alloc: Global, inside: Option<Inside>) -> Pieces
-    ensures contents { result.contents ≡ contents_of inside }
-    ensures insts { ids result.insts ≡ names_of inside }
-{
-    match inside {
-        Some(inside) => {
-            let Inside { contents, insts } = inside;
-            Pieces {
-                contents: Some(contents),
-                insts,
-            }
-        }
-        None => Pieces {
-            contents: None,
-            insts: Names::new(alloc),
-        },
-    }
-}
-
 /// A cell by its parts. Takes no memory.
-fn cell_of(alloc: Global, heading: Heading, kind: CellKind, view: View) -> CellAt
+fn cell_of(heading: Heading, kind: CellKind, view: View) -> CellAt
     requires ports { ids view.body.interface.names ≡ design.port_ids view.body.interface.ports }
-    requires insts { names_of view.body.inside ≡ design.inst_ids (design.insts_of (body_of view heading.name.name kind heading.properties)) }
+    requires insts { AreDistinct (design.inst_ids (design.insts_of (body_of view heading.name.name kind heading.properties))) }
     ensures cell { result.cell ≡ body_of view heading.name.name kind heading.properties }
     ensures place { result.place ≡ heading.name.place }
 {
@@ -223,7 +195,6 @@ fn cell_of(alloc: Global, heading: Heading, kind: CellKind, view: View) -> CellA
         properties: interface_properties,
         names,
     } = interface;
-    let Pieces { contents, insts } = apart(alloc, inside);
     let body = CellBody {
         name,
         kind,
@@ -232,9 +203,9 @@ fn cell_of(alloc: Global, heading: Heading, kind: CellKind, view: View) -> CellA
         view_properties,
         interface_properties,
         ports,
-        contents,
+        contents: inside,
     };
-    let cell = KnownCell::of(body, names, insts);
+    let cell = KnownCell::of(body, names);
     CellAt { cell, place }
 }
 
@@ -253,5 +224,5 @@ pub(crate) fn read_cell(
     let kind = read_kind(alloc, parts.fixed.at(1))?;
     let heading = read_heading(alloc, parts.fixed.at(0), parts.inner)?;
     let view = read_view(alloc, found, libs, Some(own))?;
-    Ok(cell_of(alloc, heading, kind, view))
+    Ok(cell_of(heading, kind, view))
 }

@@ -3,24 +3,23 @@ ghost use Rattle.std.specs.Prelude.{◌≡◌, ◌<◌, ◌≤◌, ◌++◌, [],
 ghost use Rattle.edif_spelling_spec.specs.Tree.{Placed, bare};
 ghost use Rattle.edif_spec.specs.Design as design;
 ghost use Rattle.edif_spec.specs.Faults.{arguments};
-ghost use Rattle.edif_spec.specs.Means.{is_note};
+ghost use Rattle.edif_spec.specs.Means.{is_note, meant};
 ghost use Rattle.edif_spec.specs.Stands.{NoteFault, PathFault, StepFault, StepsTo};
 ghost use Rattle.edif_tree.specs.Handles.{here, all};
-ghost use Rattle.edif_parts.specs.Names.{DefinesName};
+ghost use Rattle.edif_parts.specs.Names.{DefinesName, Tells};
 ghost use Rattle.edif_build.specs.Notes.{AreNoted, FailsBehind, HasNoteParts, IsAgain, NotesFail, ReadNote, ReadNotes, ReadPath, ShapeFault, StepAdded, flat, is_mark};
 ghost use Rattle.edif_parts.specs.Reading.{Answers, Names as FailsBy};
 
 use edif_contents::Libraries;
 use edif_grammar::is_form_of;
 use edif_names::Meant;
-use edif_parts::{EdifError, bad_form, clash, fault_at, is_word, over_limit, read_property};
+use edif_parts::{EdifError, Names, bad_form, clash, fault_at, is_word, over_limit, read_property};
 use edif_spec::{ClashKind, Keyword, Kind};
 use edif_tree::{Node, Nodes, Shape};
 use indexmap::IndexMap;
-use netlist_schema::{
-    CellId, Copied, Ident, Inst, Listed, MOST_NOTES, NoMemory, Note, PartsRef, Row,
-};
+use netlist_schema::{CellId, Copied, Ident, Inst, MOST_NOTES, NoMemory, Note, Row};
 use std::alloc::Global;
+use std::collections::BTreeMap;
 use std::marker::Model;
 
 /// A note, and where the key of its property stands.
@@ -133,60 +132,119 @@ fn note_parts(node: Node<'_>) -> Result<NoteParts<'_>, EdifError>
     Ok(NoteParts { path, property })
 }
 
-/// The instances of a cell, none where there is no such cell. Takes no memory.
-fn insts_at(libs: &Libraries, id: CellId) -> PartsRef<'_, Listed<Inst>>
-    ensures { result ≡ design.insts_at libs.now.libs id }
-{
-    let Some(cell) = libs.body(id) else {
-        return PartsRef::none();
-    };
-    let Some(contents) = &cell.contents else {
-        return PartsRef::none();
-    };
-    contents.insts.lent()
+/// The libraries, and the names of the instances of each cell that notes have reached, which are made once. Contracts see the
+/// libraries.
+struct Reached<'a> {
+    libs: &'a Libraries,
+    names: BTreeMap<CellId, Names>,
 }
 
-/// The instance that the step at a node means, in a cell. Takes no memory.
-fn read_step<'a>(node: Node<'_>, libs: &'a Libraries, id: CellId) -> Result<&'a Inst, EdifError>
-    ensures { Answers (λ x. StepsTo libs.now.libs id (here node.entry) x.now) (StepFault libs.now.libs id (λ _. ⊥) (here node.entry)) result }
+impl Drop for Reached<'_> {
+    fn drop(self) {
+        let Reached { libs: _, names: _ } = self;
+    }
+}
+
+impl<'a> Model for Reached<'a> {
+    ghost use Rattle.std.specs.BTreeMap.{get};
+    ghost use Rattle.netlist_schema.specs.Order.{cell_cmp};
+    ghost use Rattle.edif_spec.specs.Design as design;
+    ghost use Rattle.edif_contents.specs.Known.{KnownLibs};
+    ghost use Rattle.edif_build.specs.Reached.{AreNamesAt};
+
+    ghost Value = { KnownLibs };
+
+    ghost view = { λ r. r.libs.now };
+
+    ghost invariant = { λ r. AreNamesAt r.libs.now.libs (get cell_cmp r.names) };
+}
+
+impl<'a> Reached<'a> {
+    /// The libraries, where notes have reached no cell yet. Takes no memory.
+    fn new(alloc: Global, libs: &'a Libraries) -> Reached<'a>
+        ensures { result ≡ libs.now }
+    {
+        Reached {
+            libs,
+            names: BTreeMap::new(alloc),
+        }
+    }
+
+    /// The libraries. Takes no memory.
+    fn libs(&self) -> &'a Libraries
+        ensures { result.now ≡ self.now }
+    {
+        self.libs
+    }
+
+    /// What a name means among the instances of a cell; nothing where there is no such cell. The first question about a cell makes the
+    /// names of its instances.
+    fn meant(&mut self, alloc: Global, id: CellId, name: &Ident) -> Result<Meant, NoMemory>
+        ensures same { self.new ≡ self.old }
+        ensures ok { IfOk result (λ m. Tells (meant (design.inst_ids (design.insts_at self.old.libs id)) name.now) m) }
+    {
+        if let Some(names) = self.names.get(&id) {
+            return Ok(names.meant(name));
+        }
+        let names = self.libs.inst_names(alloc, id)?;
+        let meant = names.meant(name);
+        self.names.insert(id, names)?;
+        Ok(meant)
+    }
+}
+
+/// The instance that the step at a node means, in a cell. The libraries stay.
+fn read_step<'a>(
+    alloc: Global,
+    node: Node<'_>,
+    reached: &mut Reached<'a>,
+    id: CellId,
+) -> Result<&'a Inst, EdifError>
+    ensures same { reached.new ≡ reached.old }
+    ensures read { Answers (λ x. StepsTo reached.old.libs id (here node.entry) x.now) (StepFault reached.old.libs id (λ _. ⊥) (here node.entry)) result }
 {
     let place = node.place();
     let Shape::Word(name) = node.shape() else {
         return Err(bad_form(place));
     };
-    let Meant::Found(index) = libs.inst(id, name) else {
+    let libs = reached.libs();
+    let meant = reached.meant(alloc, id, name)?;
+    let Meant::Found(index) = meant else {
         return Err(fault_at(Kind::BadPath, place));
     };
-    match insts_at(libs, id).get(index as usize) {
+    match libs.insts(id).get(index as usize) {
         Some(inst) => Ok(inst.get()),
         None => Err(fault_at(Kind::BadPath, place)),
     }
 }
 
-/// Adds the identifier of the instance that the step at a node means, in a cell; the answer is the cell that the instance is of.
+/// Adds the identifier of the instance that the step at a node means, in a cell; the answer is the cell that the instance is of. The
+/// libraries stay.
 fn add_step(
     alloc: Global,
     node: Node<'_>,
-    libs: &Libraries,
+    reached: &mut Reached<'_>,
     id: CellId,
     path: &mut Vec<Ident>,
 ) -> Result<CellId, EdifError>
-    ensures { Answers (StepAdded libs.now.libs id (here node.entry) path.old.items path.new.items) (StepFault libs.now.libs id (λ _. ⊥) (here node.entry)) result }
+    ensures same { reached.new ≡ reached.old }
+    ensures added { Answers (StepAdded reached.old.libs id (here node.entry) path.old.items path.new.items) (StepFault reached.old.libs id (λ _. ⊥) (here node.entry)) result }
 {
-    let inst = read_step(node, libs, id)?;
+    let inst = read_step(alloc, node, reached, id)?;
     let name = Copied::copy(&inst.name.id, alloc)?;
     path.push(name)?;
     Ok(inst.of)
 }
 
-/// The identifiers that the steps of the path at a node mean, from the top cell on.
+/// The identifiers that the steps of the path at a node mean, from the top cell on. The libraries stay.
 fn read_path(
     alloc: Global,
     node: Node<'_>,
-    libs: &Libraries,
+    reached: &mut Reached<'_>,
     top: CellId,
 ) -> Result<Row<Ident>, EdifError>
-    ensures { Answers (ReadPath libs.now.libs top (here node.entry)) (PathFault libs.now.libs top (here node.entry)) result }
+    ensures same { reached.new ≡ reached.old }
+    ensures read { Answers (ReadPath reached.old.libs top (here node.entry)) (PathFault reached.old.libs top (here node.entry)) result }
 {
     let Some(steps) = arguments_at(node, 1) else {
         return Err(fault_at(Kind::BadPath, node.place()));
@@ -194,23 +252,24 @@ fn read_path(
     let mut path = Vec::new(alloc);
     let mut id = top;
     for step in steps.iter() {
-        id = add_step(alloc, step, libs, id, &mut path)?;
+        id = add_step(alloc, step, reached, id, &mut path)?;
     }
     Ok(Row::of(path))
 }
 
-/// The note at a node, from the top cell on.
+/// The note at a node, from the top cell on. The libraries stay.
 fn read_note(
     alloc: Global,
     node: Node<'_>,
-    libs: &Libraries,
+    reached: &mut Reached<'_>,
     top: CellId,
 ) -> Result<NoteAt, EdifError>
     requires { is_note (bare (here node)) ≡ true }
-    ensures { Answers (ReadNote libs.now.libs top (here node.entry)) (NoteFault libs.now.libs top (here node.entry)) result }
+    ensures same { reached.new ≡ reached.old }
+    ensures read { Answers (ReadNote reached.old.libs top (here node.entry)) (NoteFault reached.old.libs top (here node.entry)) result }
 {
     let parts = note_parts(node)?;
-    let path = read_path(alloc, parts.path, libs, top)?;
+    let path = read_path(alloc, parts.path, reached, top)?;
     let property = read_property(alloc, parts.property)?;
     Ok(NoteAt {
         note: Note {
@@ -252,45 +311,48 @@ fn add_key(alloc: Global, note: &NoteAt, keys: &mut NoteKeys) -> Result<(), Edif
     keys.add(key, note.place)
 }
 
-/// Adds the note at a node to the notes, whose keys are `keys`.
+/// Adds the note at a node to the notes, whose keys are `keys`. The libraries stay.
 fn add_note(
     alloc: Global,
     node: Node<'_>,
-    libs: &Libraries,
+    reached: &mut Reached<'_>,
     top: CellId,
     keys: &mut NoteKeys,
     notes: &mut Vec<Note>,
 ) -> Result<(), EdifError>
     requires { is_note (bare (here node)) ≡ true }
-    ensures { (ts : List Placed) → AreNoted libs.now.libs top ts notes.old.items keys.old
-        → Answers (λ _. AreNoted libs.now.libs top (ts ++ here node.entry ∷ []) notes.new.items keys.new) (FailsBehind libs.now.libs top ts (here node.entry)) result }
+    ensures same { reached.new ≡ reached.old }
+    ensures added { (ts : List Placed) → AreNoted reached.old.libs top ts notes.old.items keys.old
+        → Answers (λ _. AreNoted reached.old.libs top (ts ++ here node.entry ∷ []) notes.new.items keys.new) (FailsBehind reached.old.libs top ts (here node.entry)) result }
 {
     if notes.len() >= MOST_NOTES {
         return Err(over_limit(MOST_NOTES as u64, node.place()));
     }
-    let note = read_note(alloc, node, libs, top)?;
+    let note = read_note(alloc, node, reached, top)?;
     add_key(alloc, &note, keys)?;
     notes.push(note.note)?;
     Ok(())
 }
 
-/// The notes among these followers of a design's form, as `read_notes` gives them; their keys are put into a table without keys.
+/// The notes among these followers of a design's form, as `read_notes` gives them; their keys are put into a table without keys. The
+/// libraries stay.
 fn add_notes(
     alloc: Global,
     inner: Nodes<'_>,
-    libs: &Libraries,
+    reached: &mut Reached<'_>,
     top: CellId,
     keys: &mut NoteKeys,
 ) -> Result<Row<Note>, EdifError>
     requires { keys.old ≡ [] }
-    ensures { Answers (ReadNotes libs.now.libs top (filter (λ u. is_note (bare u)) (all inner.entry))) (NotesFail libs.now.libs top (filter (λ u. is_note (bare u)) (all inner.entry))) result }
+    ensures same { reached.new ≡ reached.old }
+    ensures read { Answers (ReadNotes reached.old.libs top (filter (λ u. is_note (bare u)) (all inner.entry))) (NotesFail reached.old.libs top (filter (λ u. is_note (bare u)) (all inner.entry))) result }
 {
     let mut notes = Vec::new(alloc);
     for node in inner.iter() {
         if !is_note(node) {
             continue;
         }
-        add_note(alloc, node, libs, top, keys, &mut notes)?;
+        add_note(alloc, node, reached, top, keys, &mut notes)?;
     }
     Ok(Row::of(notes))
 }
@@ -304,6 +366,7 @@ pub(crate) fn read_notes(
 ) -> Result<Row<Note>, EdifError>
     ensures { Answers (ReadNotes libs.now.libs top (filter (λ u. is_note (bare u)) (all inner.entry))) (NotesFail libs.now.libs top (filter (λ u. is_note (bare u)) (all inner.entry))) result }
 {
+    let mut reached = Reached::new(alloc, libs);
     let mut keys = NoteKeys::new(alloc);
-    add_notes(alloc, inner, libs, top, &mut keys)
+    add_notes(alloc, inner, &mut reached, top, &mut keys)
 }

@@ -15,7 +15,6 @@ use Rattle.edif_contents.specs.Inners.{InstsFault, ReadInsts}
 use Rattle.edif_contents.specs.Insides.{ReadContents}
 use Rattle.edif_contents.specs.Nets.{NetsFaultIn, ReadNets}
 use Rattle.edif_grammar.specs.Forms.{ArePartsOf}
-use Rattle.edif_contents.specs.declared.contents.Inside.{Inside}
 use Rattle.edif_contents.specs.declared.ends.Surroundings.{Surroundings}
 use Rattle.edif_grammar.specs.declared.lent.Form.{Form}
 use Rattle.edif_contents.specs.declared.insts.Insts.{Insts}
@@ -48,12 +47,12 @@ nets_fail s own t r f a e b =
     go m (inr (inr (inr (inr b)))) = stands.many_ends b
 
 -- the contents
-pub contents_read : (s : Surroundings) (own : Option ℕ) (t : Placed) (p : Form) (r : Insts) (nets : List design.Net) (i : Inside) → ArePartsOf keywords.Contents t p → ReadInsts s.libs.now.libs own (followers keywords.Contents t) r → s.insts.now ≡ r.list.items
-    → ReadNets s (followers keywords.Contents t) nets → i.contents.insts ≡ r.list.items → i.contents.nets ≡ nets → i.insts ≡ r.names → ReadContents s.libs.now.libs own s.ports.now t i
-contents_read s own t p r nets i a x e y d n m =
+pub contents_read : (s : Surroundings) (own : Option ℕ) (t : Placed) (p : Form) (r : Insts) (nets : List design.Net) (i : design.Contents) → ArePartsOf keywords.Contents t p → ReadInsts s.libs.now.libs own (followers keywords.Contents t) r → s.insts.now ≡ r.list.items
+    → ReadNets s (followers keywords.Contents t) nets → i.insts ≡ r.list.items → i.nets ≡ nets → ReadContents s.libs.now.libs own s.ports.now t i
+contents_read s own t p r nets i a x e y d n =
     let f = fit0 keywords.Contents follows t refl refl refl a.fits in
     let P : List design.Inst → Type 0 = λ v. Each (MeansNet s.libs.now.libs s.ports.now v) (those keywords.Net (map bare (followers keywords.Contents t))) y.rows in
-    let made : Inside = record { contents = record { insts = r.list.items; nets = nets }; insts = r.names } in
+    let made : design.Contents = record { insts = r.list.items; nets = nets } in
     let whole : ReadContents s.libs.now.libs own s.ports.now t made = record {
       mean = record { inner = map bare (followers keywords.Contents t); form = f.form; insts = x.mean; rows = y.rows; written = subst P e y.mean; nets = y.nets };
       typed = record { insts = λ k z l. (x.fine k z l).0; nets = λ k z l. (y.fine k z l).0 };
@@ -65,8 +64,7 @@ contents_read s own t p r nets i a x e y d n m =
       inst_keys = λ k z l. (x.fine k z l).1;
       net_keys = λ k z l. (y.fine k z l).1;
       joined_once = y.joined_once;
-      names = x.names;
     } in
-    let same : made ≡ i = λ j. record { contents = record { insts = sym d j; nets = sym n j }; insts = sym m j } in
-    let Q : Inside → Type 0 = λ v. ReadContents s.libs.now.libs own s.ports.now t v in
+    let same : made ≡ i = λ j. record { insts = sym d j; nets = sym n j } in
+    let Q : design.Contents → Type 0 = λ v. ReadContents s.libs.now.libs own s.ports.now t v in
     subst Q same whole

@@ -5,6 +5,7 @@ use Rattle.std.specs.List.{AllZip, Contains}
 use Rattle.std.specs.Option.{option_map_or}
 use Rattle.std.proofs.lemmas.List.{length-map, map-append}
 use Rattle.netlist_schema.proofs.Lists.{zip_length}
+use Rattle.netlist_schema.specs.Names.{AreDistinct}
 use Rattle.std.proofs.lemmas.Option.{slice_get_past, slice_get-map}
 use Rattle.edif_spec.specs.Design as design
 use Rattle.edif_spec.specs.Means.{meant}
@@ -15,7 +16,6 @@ use Rattle.edif_parts.specs.Names.{ids, Tells, DefinesName}
 use Rattle.edif_parts.proofs.NameLists.{ids_named}
 use Rattle.edif_contents.specs.Known.{KnownLibs, NamedLib, last_names, with_cell, OpensLib, AddsTo, AddsCell}
 use Rattle.edif_contents.specs.NamesOf.{AreNamesOf, AreNamesThere}
-use Rattle.edif_contents.specs.declared.known.CellNames.{CellNames}
 
 -- what contracts see
 abbrev pub seen : List NamedLib → List (List ℕ × ℕ) → KnownLibs
@@ -192,25 +192,25 @@ counted old ls names l m n v b e k i c =
     c ∙ count ∙ ap (λ (w : NamedLib). length w.names) k ∙ ap length (sym last) ∙ ap (λ (w : KnownLibs). length w.cell_names) v
 
 -- The names in the cells of a library: with one more cell, in the same lists, and at a place.
-pub zip_pushed : (ns : List CellNames) (cs : List design.CellBody) (n : CellNames) (c : design.CellBody) → AllZip AreNamesOf ns cs → AreNamesOf n c → AllZip AreNamesOf (ns ++ n ∷ []) (cs ++ c ∷ [])
+pub zip_pushed : (ns : List (List (List ℕ × ℕ))) (cs : List design.CellBody) (n : List (List ℕ × ℕ)) (c : design.CellBody) → AllZip AreNamesOf ns cs → AreNamesOf n c → AllZip AreNamesOf (ns ++ n ∷ []) (cs ++ c ∷ [])
 zip_pushed ns cs n c h a = zip_append AreNamesOf ns cs (n ∷ []) (c ∷ []) h (a, tt)
 
-pub zip_still : (cs more : List design.CellBody) (ns others : List CellNames) → more ≡ cs → others ≡ ns → AllZip AreNamesOf ns cs → AllZip AreNamesOf others more
+pub zip_still : (cs more : List design.CellBody) (ns others : List (List (List ℕ × ℕ))) → more ≡ cs → others ≡ ns → AllZip AreNamesOf ns cs → AllZip AreNamesOf others more
 zip_still cs more ns others d e h =
     let P : List design.CellBody → Type 0 = λ v. AllZip AreNamesOf others v in
-    let Q : List CellNames → Type 0 = λ v. AllZip AreNamesOf v cs in
+    let Q : List (List (List ℕ × ℕ)) → Type 0 = λ v. AllZip AreNamesOf v cs in
     subst P (sym d) (subst Q (sym e) h)
 
-pub names_there : (ns : List CellNames) (cs : List design.CellBody) (i : ℕ) (n : CellNames) → AllZip AreNamesOf ns cs → slice_get ns i ≡ Some n → AreNamesThere (slice_get cs i) n
+pub names_there : (ns : List (List (List ℕ × ℕ))) (cs : List design.CellBody) (i : ℕ) (n : List (List ℕ × ℕ)) → AllZip AreNamesOf ns cs → slice_get ns i ≡ Some n → AreNamesThere (slice_get cs i) n
 names_there [] cs i n h e = absurd (cc e)
 names_there (m ∷ ns) [] i n h e = absurd h
 names_there (m ∷ ns) (c ∷ cs) zero n h e =
-    let P : CellNames → Type 0 = λ v. AreNamesOf v c in
+    let P : List (List ℕ × ℕ) → Type 0 = λ v. AreNamesOf v c in
     let w : m ≡ n = cc e in
     record { cell = c; there = refl; names = subst P w h.0 }
 names_there (m ∷ ns) (c ∷ cs) (suc i) n h e = names_there ns cs i n h.1 e
 
-pub no_names : (ns : List CellNames) (cs : List design.CellBody) (i : ℕ) → AllZip AreNamesOf ns cs → length ns ≤ i → slice_get cs i ≡ None
+pub no_names : (ns : List (List (List ℕ × ℕ))) (cs : List design.CellBody) (i : ℕ) → AllZip AreNamesOf ns cs → length ns ≤ i → slice_get cs i ≡ None
 no_names ns cs i h l = slice_get_past cs i (let e = zip_length AreNamesOf ns cs h in omega (arith, e, l))
 
 -- a cell of a library that is there
@@ -227,18 +227,20 @@ no_cell ls id b =
     let at : slice_get (map (λ (l : NamedLib). l.lib) ls) id.lib.0 ≡ None = slice_get-map (λ (l : NamedLib). l.lib) ls id.lib.0 ∙ ap (option_map (λ (l : NamedLib). l.lib)) (slice_get_past ls id.lib.0 b) in
     ap (λ o. cell_in o id.slot) at
 
--- the names of the ports and of the instances of a cell that is there, and of one that is not
+-- the names of the ports of a cell that is there, and of one that is not, and the same of the instances, which differ
 abbrev ports_in : Option design.CellBody → List (List ℕ)
 ports_in o = design.port_ids (unwrap_or (option_map (λ (c : design.CellBody). c.ports) o) [])
 
 abbrev insts_in : Option design.CellBody → List (List ℕ)
 insts_in o = design.inst_ids (unwrap_or (option_map design.insts_of o) [])
 
-pub port_names : (libs : List design.Lib) (id : design.CellId) (n : CellNames) → AreNamesThere (design.cell_at libs id) n → ids n.ports ≡ design.port_ids (design.ports_at libs id)
+pub port_names : (libs : List design.Lib) (id : design.CellId) (n : List (List ℕ × ℕ)) → AreNamesThere (design.cell_at libs id) n → ids n ≡ design.port_ids (design.ports_at libs id)
 port_names libs id n h = h.names.ports ∙ ap ports_in (sym h.there)
 
-pub inst_names : (libs : List design.Lib) (id : design.CellId) (n : CellNames) → AreNamesThere (design.cell_at libs id) n → ids n.insts ≡ design.inst_ids (design.insts_at libs id)
-inst_names libs id n h = h.names.insts ∙ ap insts_in (sym h.there)
+pub insts_differ : (libs : List design.Lib) (id : design.CellId) (n : List (List ℕ × ℕ)) → AreNamesThere (design.cell_at libs id) n → AreDistinct (design.inst_ids (design.insts_at libs id))
+insts_differ libs id n h =
+    let P : List (List ℕ) → Type 0 = λ v. AreDistinct v in
+    subst P (ap insts_in (sym h.there)) h.names.insts
 
 pub no_ports : (libs : List design.Lib) (id : design.CellId) → design.cell_at libs id ≡ None → design.port_ids (design.ports_at libs id) ≡ []
 no_ports libs id e = ap ports_in e

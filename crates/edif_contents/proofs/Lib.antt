@@ -4,6 +4,7 @@ pub mod EndLemmas
 pub mod Followers
 pub mod InsideLoops
 pub mod InstLemmas
+pub mod InstNames
 pub mod KnownLemmas
 pub mod NetLemmas
 pub mod NetRows

@@ -20,15 +20,6 @@ use edif_tree::Node;
 use netlist_schema::{Contents, Parts, Port, Shared};
 use std::alloc::Global;
 
-/// What contents say.
-#[derive(Drop)]
-pub struct Inside {
-    /// The instances and the nets.
-    pub contents: Shared<Contents>,
-    /// The names of the instances.
-    pub insts: Names,
-}
-
 /// The contents that a form at a node means, in a cell with these ports, whose names are `names`, of the library `own`.
 pub fn read_contents(
     alloc: Global,
@@ -37,7 +28,7 @@ pub fn read_contents(
     own: Option<u32>,
     ports: &[Port],
     names: &Names,
-) -> Result<Inside, EdifError>
+) -> Result<Shared<Contents>, EdifError>
     requires keyword { has_keyword ContentsWord (bare (here node)) ≡ true }
     requires names { ids names.now ≡ design.port_ids ports.now }
     ensures { Answers (ReadContents libs.now.libs own ports.now (here node.entry)) (ContentsFault libs.now.libs own ports.now (here node.entry)) result }
@@ -53,13 +44,11 @@ pub fn read_contents(
     };
     let nets = read_nets(alloc, parts.inner, &around)?;
     let Insts { list, names } = insts;
+    drop(names);
     let placed = Parts::of(alloc, list)?;
     let contents = Contents {
         insts: placed,
         nets,
     };
-    Ok(Inside {
-        contents: Shared::of(alloc, contents)?,
-        insts: names,
-    })
+    Ok(Shared::of(alloc, contents)?)
 }

@@ -1,7 +1,8 @@
 //! The libraries that a file has defined so far, with the names in them.
 ghost use Rattle.std.specs.Prelude.{◌≡◌, ◌<◌, ◌++◌, ◌∷◌, [], length, map, slice_get, IfNone, IfOk, IfSome, None, OnErr, OnOk, vec_capacity, vec_len};
-ghost use Rattle.std.specs.List.{AllZip};
+ghost use Rattle.std.specs.List.{AllZip, Contains};
 ghost use Rattle.std.specs.Option.{option_copied};
+ghost use Rattle.netlist_schema.specs.Names.{AreDistinct};
 ghost use Rattle.edif_spec.specs.Design as design;
 ghost use Rattle.edif_spec.specs.Means.{meant};
 ghost use Rattle.edif_contents.specs.Known.{AddsCell, AddsTo, NamedLib, OpensLib};
@@ -10,28 +11,21 @@ ghost use Rattle.edif_parts.specs.Names.{DefinesName, Tells, ids};
 
 use edif_names::Meant;
 use edif_parts::Names;
-use netlist_schema::{CellBody, CellId, Ident, Lib, LibHead, NoMemory, Row};
+use netlist_schema::{
+    CellBody, CellId, Ident, Inst, Lib, LibHead, Listed, NoMemory, PartsRef, Row,
+};
 use std::alloc::Global;
 use std::marker::Model;
 
-/// The names of the ports and of the instances of a cell.
-#[derive(Drop)]
-pub struct CellNames {
-    /// Those of the ports.
-    pub ports: Names,
-    /// Those of the instances.
-    pub insts: Names,
-}
-
-/// A cell, with the names of its ports and of its instances. Contracts see the cell.
+/// A cell, with the names of its ports, whose instances have names that differ. Contracts see the cell.
 pub struct KnownCell {
     body: CellBody,
-    names: CellNames,
+    ports: Names,
 }
 
 impl Drop for KnownCell {
     fn drop(self) {
-        let KnownCell { body: _, names: _ } = self;
+        let KnownCell { body: _, ports: _ } = self;
     }
 }
 
@@ -43,18 +37,17 @@ impl Model for KnownCell {
 
     ghost view = { λ c. c.body };
 
-    ghost invariant = { λ c. AreNamesOf c.names c.body };
+    ghost invariant = { λ c. AreNamesOf c.ports c.body };
 }
 
 impl KnownCell {
-    /// A cell with the names of its ports and of its instances. Takes no memory.
-    pub fn of(body: CellBody, ports: Names, insts: Names) -> KnownCell
+    /// A cell with the names of its ports. Takes no memory.
+    pub fn of(body: CellBody, ports: Names) -> KnownCell
         requires ports { ids ports ≡ design.port_ids body.ports }
-        requires insts { ids insts ≡ design.inst_ids (design.insts_of body) }
+        requires insts { AreDistinct (design.inst_ids (design.insts_of body)) }
         ensures { result ≡ body }
     {
-        let names = CellNames { ports, insts };
-        KnownCell { body, names }
+        KnownCell { body, ports }
     }
 
     /// The identifier of the cell. Takes no memory.
@@ -64,16 +57,16 @@ impl KnownCell {
         &self.body.name.id
     }
 
-    /// Adds the cell to these, and the names in it to those beside them, where there is room for both. Takes no memory.
-    fn push_to(self, cells: &mut Vec<CellBody>, inner: &mut Vec<CellNames>)
+    /// Adds the cell to these, and the names of its ports to those beside them, where there is room for both. Takes no memory.
+    fn push_to(self, cells: &mut Vec<CellBody>, inner: &mut Vec<Names>)
         requires room { vec_len cells.old < vec_capacity cells.old }
         requires more { vec_len inner.old < vec_capacity inner.old }
         ensures cells { cells.new.items ≡ cells.old.items ++ self ∷ [] }
         ensures names { AllZip AreNamesOf inner.old.items cells.old.items → AllZip AreNamesOf inner.new.items cells.new.items }
     {
-        let KnownCell { body, names } = self;
+        let KnownCell { body, ports } = self;
         cells.push_reserved(body);
-        inner.push_reserved(names);
+        inner.push_reserved(ports);
     }
 }
 
@@ -81,8 +74,8 @@ impl KnownCell {
 pub struct KnownLib {
     head: LibHead,
     cells: Vec<CellBody>,
-    /// Of each cell the names in it.
-    inner: Vec<CellNames>,
+    /// Of each cell the names of its ports.
+    inner: Vec<Names>,
     names: Names,
 }
 
@@ -137,8 +130,8 @@ impl KnownLib {
         }
     }
 
-    /// The names in the cell at a place, where there is one. Takes no memory.
-    fn names_in(&self, slot: usize) -> Option<&CellNames>
+    /// The names of the ports of the cell at a place, where there is one. Takes no memory.
+    fn names_in(&self, slot: usize) -> Option<&Names>
         ensures some { IfSome result (λ n. AreNamesThere (slice_get self.now.lib.cells slot) n.now) }
         ensures none { IfNone result (slice_get self.now.lib.cells slot ≡ None) }
     {
@@ -223,10 +216,11 @@ fn push_new<T: Drop>(items: &mut Vec<T>, item: T, earlier: Option<u64>)
     }
 }
 
-/// Defines the name of a cell, where there is room for one more of these cells, and for the names in it. Otherwise as `define_within`.
+/// Defines the name of a cell, where there is room for one more of these cells, and for the names of its ports. Otherwise as
+/// `define_within`.
 fn define_cell(
     cells: &mut Vec<CellBody>,
-    inner: &mut Vec<CellNames>,
+    inner: &mut Vec<Names>,
     names: &mut Names,
     name: &Ident,
     place: u64,
@@ -242,10 +236,10 @@ fn define_cell(
     define_within(cells, names, name, place)
 }
 
-/// Adds a cell where its name was not there earlier, and there is room for it, beside the names in it. Takes no memory.
+/// Adds a cell where its name was not there earlier, and there is room for it, beside the names of its ports. Takes no memory.
 fn push_cell(
     cells: &mut Vec<CellBody>,
-    inner: &mut Vec<CellNames>,
+    inner: &mut Vec<Names>,
     cell: KnownCell,
     earlier: Option<u64>,
 )
@@ -393,8 +387,21 @@ impl Libraries {
         lib.cells.get(id.slot as usize)
     }
 
-    /// The names in a cell, where there is such a cell. Takes no memory.
-    fn names_in(&self, id: CellId) -> Option<&CellNames>
+    /// The instances of a cell, none where there is no such cell. Takes no memory.
+    pub fn insts(&self, id: CellId) -> PartsRef<'_, Listed<Inst>>
+        ensures { result ≡ design.insts_at self.now.libs id }
+    {
+        let Some(cell) = self.body(id) else {
+            return PartsRef::none();
+        };
+        let Some(contents) = &cell.contents else {
+            return PartsRef::none();
+        };
+        contents.insts.lent()
+    }
+
+    /// The names of the ports of a cell, where there is such a cell. Takes no memory.
+    fn names_in(&self, id: CellId) -> Option<&Names>
         ensures some { IfSome result (λ n. AreNamesThere (design.cell_at self.now.libs id) n.now) }
         ensures none { IfNone result (design.cell_at self.now.libs id ≡ None) }
     {
@@ -409,18 +416,42 @@ impl Libraries {
         ensures { Tells (meant (design.port_ids (design.ports_at self.now.libs id)) name.now) result }
     {
         match self.names_in(id) {
-            Some(names) => names.ports.meant(name),
+            Some(ports) => ports.meant(name),
             None => Meant::Absent,
         }
     }
 
-    /// What a name means among the instances of a cell; nothing where there is no such cell. Takes no memory.
-    pub fn inst(&self, id: CellId, name: &Ident) -> Meant
-        ensures { Tells (meant (design.inst_ids (design.insts_at self.now.libs id)) name.now) result }
+    /// The names of the instances of a cell, in order; none where there is no such cell. They are made from the instances, with time
+    /// and memory in proportion to them, and are not kept here. `NoMemory` comes where an allocation is refused.
+    pub fn inst_names(&self, alloc: Global, id: CellId) -> Result<Names, NoMemory>
+        ensures { IfOk result (λ names. ids names ≡ design.inst_ids (design.insts_at self.now.libs id)) }
     {
         match self.names_in(id) {
-            Some(names) => names.insts.meant(name),
-            None => Meant::Absent,
+            Some(_) => names_of_insts(alloc, &self.insts(id)),
+            None => Ok(Names::new(alloc)),
         }
     }
+}
+
+/// Defines a name that is not there yet. After `NoMemory` the names are as before.
+fn define_new(name: &Ident, place: u64, names: &mut Names) -> Result<(), NoMemory>
+    requires { ¬ Contains (ids names.old) name.now }
+    ensures { OnOk result (names.new ≡ names.old ++ (name.now, place) ∷ []) }
+{
+    match names.define(name, place)? {
+        None => Ok(()),
+        Some(_) => unreachable!(),
+    }
+}
+
+/// The names of instances, in order, each at the place of its instance in their list.
+fn names_of_insts(alloc: Global, insts: &PartsRef<'_, Listed<Inst>>) -> Result<Names, NoMemory>
+    requires { AreDistinct (design.inst_ids insts.now) }
+    ensures { IfOk result (λ names. ids names ≡ design.inst_ids insts.now) }
+{
+    let mut names = Names::new(alloc);
+    for place in 0..insts.len() {
+        define_new(&insts.at(place).name.id, place as u64, &mut names)?;
+    }
+    Ok(names)
 }

@@ -9,6 +9,6 @@ mod limits;
 mod nets;
 mod references;
 
-pub use contents::{Inside, read_contents};
+pub use contents::read_contents;
 pub use known::{KnownCell, Libraries};
 pub use references::{Reference, read_cell_ref, reference_at};

@@ -15,7 +15,7 @@ use Rattle.edif_grammar.specs.Forms.{ArePartsOf}
 use Rattle.edif_grammar.specs.declared.lent.Form.{Form}
 use Rattle.edif_parts.proofs.Answering.{hand_on}
 use Rattle.edif_parts.proofs.PartLemmas.{TwoNodes}
-use Rattle.edif_build.proofs.CellLemmas.{cell_means, cell_nodes, is_view, view_names, view_fails_there, views_fail}
+use Rattle.edif_build.proofs.CellLemmas.{cell_means, cell_nodes, insts_differ, is_view, view_fails_there, views_fail}
 use Rattle.edif_build.proofs.cells.read_cell.Goals as goal
 
 -- the one view among what follows
@@ -81,7 +81,7 @@ pub cell_of-requires-clause-ports : goal.cell_of-requires-clause-ports
 cell_of-requires-clause-ports c = c.in_ok-view.ensures.body.interface.names
 
 pub cell_of-requires-clause-insts : goal.cell_of-requires-clause-insts
-cell_of-requires-clause-insts c = view_names c.args.libs.now.libs (Some c.args.own) (here c.in_ok-found.found) c.in_ok-view.view c.in_ok-view.ensures
+cell_of-requires-clause-insts c = insts_differ c.args.libs.now.libs (Some c.args.own) (here c.in_ok-found.found) c.in_ok-view.view c.in_ok-view.ensures
 
 pub returns : goal.returns
 returns c =

@@ -11,4 +11,5 @@ abbrev pub invariant-loop-node : goal.invariant-loop-node
 invariant-loop-node l =
     (goal.iterator-loop-node).can_next l.node-iterator ×
     (goal.iterator-loop-node).is_finite l.node-iterator ×
-    ((before : List Placed) × (all l.fn.inner ≡ before ++ left l.node-iterator) × AreNoted l.libs.libs l.top (passing is_note before) l.notes.items l.keys)
+    ((before : List Placed) × (all l.fn.inner ≡ before ++ left l.node-iterator) × AreNoted l.fn.reached.libs l.top (passing is_note before) l.notes.items l.keys) ×
+    (l.reached ≡ l.fn.reached)

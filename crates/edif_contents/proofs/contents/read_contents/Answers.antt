@@ -1,4 +1,4 @@
-use Rattle.std.proofs.Common.{List, refl, sym, ap, subst, ◌∙◌}
+use Rattle.std.proofs.Common.{List, sym, ap, subst, ◌∙◌}
 use Rattle.edif_spelling_spec.specs.Tree.{Placed}
 use Rattle.edif_spec.specs.Design as design
 use Rattle.edif_spec.specs.Faults.{those_of}
@@ -46,4 +46,4 @@ returns c =
     let I : List Placed → Type 0 = λ v. ReadInsts s.libs.now.libs c.args.own v c.in_ok-insts.insts in
     let N : List Placed → Type 0 = λ v. ReadNets s v c.in_ok-nets.nets in
     contents_read s c.args.own t c.in_ok-parts.parts c.in_ok-insts.insts c.in_ok-nets.nets _ a (subst I a.inner c.in_ok-insts.ensures) c.as_slice.ensures.value (subst N a.inner z)
-    (ap (λ (v : design.Contents). v.insts) c.in_ok-of.ensures ∙ c.in_ok-placed.ensures) (ap (λ (v : design.Contents). v.nets) c.in_ok-of.ensures) refl
+    (ap (λ (v : design.Contents). v.insts) c.in_ok-of.ensures ∙ c.in_ok-placed.ensures) (ap (λ (v : design.Contents). v.nets) c.in_ok-of.ensures)

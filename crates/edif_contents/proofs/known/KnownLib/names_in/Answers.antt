@@ -1,8 +1,7 @@
-use Rattle.std.proofs.Common.{◌≡◌, ◌≤◌, List, None, length, subst}
+use Rattle.std.proofs.Common.{◌≡◌, ◌≤◌, ℕ, List, None, length, subst}
 use Rattle.std.specs.Prelude.{slice_get}
 use Rattle.edif_contents.specs.Known.{NamedLib}
 use Rattle.edif_contents.specs.NamesOf.{AreNamesThere}
-use Rattle.edif_contents.specs.declared.known.CellNames.{CellNames}
 use Rattle.edif_contents.proofs.KnownLemmas.{get_at, names_there, no_names}
 use Rattle.edif_contents.proofs.known.KnownLib.names_in.Goals as goal
 
@@ -15,5 +14,5 @@ returns-in-Some-clause-some c =
 pub returns-in-None-clause-none : goal.returns-in-None-clause-none
 returns-in-None-clause-none c =
     let P : NamedLib → Type 0 = λ v. slice_get v.lib.cells c.args.slot ≡ None in
-    let Q : List CellNames → Type 0 = λ v. length v ≤ c.args.slot in
+    let Q : List (List (List ℕ × ℕ)) → Type 0 = λ v. length v ≤ c.args.slot in
     subst P c.self.view_is (no_names c.self.inside.inner.items c.self.inside.cells.items c.args.slot c.self.invariant.1 (subst Q c.deref.ensures.value c.in-None.ensures.lookup.3))

@@ -8,7 +8,7 @@ use Rattle.edif_contents.proofs.known.Libraries.port.Goals as goal
 pub returns-in-Some : goal.returns-in-Some
 returns-in-Some c =
     let P : List (List ℕ) → Type 0 = λ v. Tells (meant v c.args.name.now) c.meant.result in
-    subst P (port_names c.args.self.now.libs c.args.id c.in-Some.names.now c.in-Some.ensures.some) c.meant.ensures
+    subst P (port_names c.args.self.now.libs c.args.id c.in-Some.ports.now c.in-Some.ensures.some) c.meant.ensures
 
 pub returns-in-None : goal.returns-in-None
 returns-in-None c =
