@@ -5,3 +5,4 @@ mod below;
 mod marks;
 
 pub use below::cells_below;
+pub use marks::CellMarks;

@@ -83,7 +83,7 @@ known_more d below i cell f facts new within is behind is_cell known told set_ =
 pub known_all : (d : Design) (below : List CellId) (i : ℕ) (facts : Facts) → length below ≤ i → AreKnown d (take i below) facts → AreKnown d below facts
 known_all d below i facts past known = subst (λ v. AreKnown d v facts) (take_all i below past) known
 
-same_id : (a b : CellId) → (a ≡ b) ⊎ (a ≡ b → ⊥)
+pub same_id : (a b : CellId) → (a ≡ b) ⊎ (a ≡ b → ⊥)
 same_id a b = elim (cases_eq a.lib.0 b.lib.0) [
   | inl lib ↦ elim (cases_eq a.slot b.slot) [
     | inl slot ↦ inl (λ i. record { lib = record { 0 = lib i }; slot = slot i })

@@ -1,13 +1,14 @@
 //! `Classes`: which own bits of each cell are connected in its tree.
-ghost use Rattle.std.specs.Prelude.{◌≡◌, [], IfOk, OnOk, map, option_and_then};
+ghost use Rattle.std.specs.Prelude.{◌≡◌, [], List, IfOk, OnOk, map, option_and_then};
 ghost use Rattle.std.specs.List.{All};
 ghost use Rattle.std.specs.Option.{option_copied, option_map, option_map_or};
 ghost use Rattle.netlist_schema.specs.Hierarchy.{IsCell};
+ghost use Rattle.netlist_schema.specs.Types.{CellId as Id};
 ghost use Rattle.netlist_schema.specs.Valid.{IsValid};
 ghost use Rattle.netlist_order_spec.specs.After.{AllAfter};
 ghost use Rattle.flat_cells.specs.Below.{ComesBehind};
 ghost use Rattle.net_classes.specs.Facts.{class_at, entry, facts_at, facts_of, first_at};
-ghost use Rattle.net_classes.specs.Known.{AreKnown};
+ghost use Rattle.net_classes.specs.Known.{AreKnown, AreSetAt, AreTold, HasChildrenIn};
 ghost use Rattle.net_classes.specs.PortClasses.{AreClasses};
 
 use crate::joints::Joint;
@@ -73,6 +74,36 @@ impl Classes {
         let below = cells_below(alloc, design, top)?;
         tell_all(alloc, design, below.as_slice(), &mut cells)?;
         Ok(Classes { cells })
+    }
+
+    /// Nothing is told of any cell of the design. It takes time and memory in proportion to the number of cells.
+    pub fn none<S: Shown>(alloc: Global, design: &S) -> Result<Classes, NoMemory>
+        ensures { IfOk result (AreKnown (S.design design.now) []) }
+    {
+        let cells = no_tables(alloc, design)?;
+        Ok(Classes { cells })
+    }
+
+    /// What is to be told of a cell, where it is told of the cells of its instances. The one error is that an allocation was refused.
+    ///
+    /// It takes time and memory in proportion to instances, ends and own bits of the cell, times a logarithm of their number.
+    pub fn nets_of<S: Shown>(
+        &self,
+        alloc: Global,
+        design: &S,
+        cell: CellId,
+    ) -> Result<CellNets, NoMemory>
+        ensures { IfOk result (λ nets. (done : List Id) → IsValid (S.design design.now) → AreKnown (S.design design.now) done self.now
+            → HasChildrenIn (S.design design.now) cell done → AreTold (S.design design.now) cell (facts_of nets)) }
+    {
+        cell_nets(alloc, design, self.cells.as_slice(), cell)
+    }
+
+    /// Tells this of a cell. Takes no memory.
+    pub fn set(&mut self, cell: CellId, nets: CellNets)
+        ensures { AreSetAt self.old cell (facts_of nets) self.new }
+    {
+        set_cell(&mut self.cells, cell, nets);
     }
 
     /// What is known of a cell.

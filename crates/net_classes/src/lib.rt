@@ -10,3 +10,4 @@ mod tables;
 
 pub use classes::Classes;
 pub use joints::Joint;
+pub use tables::CellNets;

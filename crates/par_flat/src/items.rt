@@ -130,7 +130,7 @@ pub fn par_flat<R: Threads + Sync, S: Shown + Sync, G: Gate + Sync>(
     ensures items { IfOk result (λ items. items ≡ flattening (S.design design.now)) }
     ensures no_top { (result ≡ Err WalkError.NoTop) ↔ ((S.design design.now).top ≡ None) }
 {
-    match CountedGround::of(alloc, design) {
+    match CountedGround::by_workers(rt, alloc, design, workers) {
         Ok(ground) => match all_items(rt, &ground, workers, gate) {
             Ok(items) => Ok(Row::of(items)),
             Err(_) => Err(WalkError::NoMemory),

@@ -324,7 +324,7 @@ pub fn write_par_flat<R: Threads + Sync, S: Shown + Sync, G: Gate + Sync, K: Sin
     ensures fault { result ≡ Err FlatError.WriteFault → Rose (K.faults out.old) (K.faults out.new) }
     ensures never_falls { K.faults out.old ≤ K.faults out.new }
 {
-    match CountedGround::of(alloc, design) {
+    match CountedGround::by_workers(rt, alloc, design, workers) {
         Ok(ground) => write_counted(rt, &ground, design, workers, gate, out),
         Err(WalkError::NoTop) => Err(FlatError::NoTop),
         Err(WalkError::NoMemory) => Err(FlatError::NoMemory),

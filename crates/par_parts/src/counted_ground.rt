@@ -8,6 +8,7 @@ ghost use Rattle.flat_items.specs.Left.{is_over};
 ghost use Rattle.flat_items.specs.Stand.{MayStand, stand_of, top_of};
 ghost use Rattle.par_parts.specs.Skip.{HasPassedInst, IsFitting};
 
+use crate::beside::ground_by_workers;
 use crate::count::count_top;
 use crate::{ItemCounts, count_items};
 use flat_items::{Ground, ItemRef, ItemText, Place, Stage};
@@ -17,6 +18,7 @@ use netlist_schema::{CellId, NoMemory, Shown};
 use occ_walk::{WalkError, advance, current, next_item, skip, start, text};
 use std::alloc::Global;
 use std::marker::Model;
+use std::thread::Threads;
 
 /// A design with a top, what walks over it need to know, and how many items stand at and below an occurrence of each cell. It stays as
 /// it is, so walks in several threads share it. Contracts see the design.
@@ -67,6 +69,27 @@ fn ground_of<S: Shown + Drop>(
     })
 }
 
+/// The same, found by so many workers.
+fn ground_by<R: Threads + Sync, S: Shown + Drop + Sync>(
+    rt: &R,
+    alloc: Global,
+    design: S,
+    top: CellId,
+    workers: u32,
+) -> Result<CountedGround<S>, NoMemory>
+    requires valid { IsValid (S.design design) }
+    requires has_top { (S.design design).top ≡ Some (top_of (S.design design)) }
+    requires is_top { (top_of (S.design design)).cell ≡ top }
+    ensures { IfOk result (λ counted. counted ≡ S.design design) }
+{
+    let (ground, counts) = ground_by_workers(rt, alloc, design, top, workers)?;
+    Ok(CountedGround {
+        ground,
+        top,
+        counts,
+    })
+}
+
 /// How many items stand at and below the occurrences of a cell, where they are no more than that.
 fn fitting(counts: &ItemCounts, cell: CellId, most: u64) -> Option<u64>
     ensures { IfSome result (IsFitting counts.now cell most) }
@@ -87,6 +110,32 @@ fn before_last(nets: usize, net: u32, most: u64) -> u32
 {
     let others = nets as u64 - 1 - u64::from(net);
     others.min(most) as u32
+}
+
+impl<S: Shown + Drop + Sync> CountedGround<S> {
+    /// The counted ground of a design, found by so many workers beside each other: in threads, or where one can't be started, here. Where
+    /// there is one worker, or the cells have no more than 4,096 instances and nets in them, no thread is started. `NoTop` comes exactly
+    /// where the design has no top. At an error the design is dropped.
+    ///
+    /// It takes time and memory as `of` does.
+    pub fn by_workers<R: Threads + Sync>(
+        rt: &R,
+        alloc: Global,
+        design: S,
+        workers: u32,
+    ) -> Result<CountedGround<S>, WalkError>
+        ensures design { IfOk result (λ counted. counted ≡ S.design design) }
+        ensures no_top { (result ≡ Err WalkError.NoTop) ↔ ((S.design design).top ≡ None) }
+    {
+        let Some(top) = design.top() else {
+            return Err(WalkError::NoTop);
+        };
+        let cell = top.cell;
+        match ground_by(rt, alloc, design, cell, workers) {
+            Ok(ground) => Ok(ground),
+            Err(_) => Err(WalkError::NoMemory),
+        }
+    }
 }
 
 impl<S: Shown + Drop> CountedGround<S> {

@@ -28,6 +28,22 @@ fn count_all<S: Shown>(design: &S, below: &[CellId], counts: &mut ItemCounts)
     }
 }
 
+/// How many items stand at and below an occurrence of each of these cells, each of which stands behind the cells of its instances.
+pub(crate) fn count_below<S: Shown>(
+    alloc: Global,
+    design: &S,
+    below: &[CellId],
+) -> Result<ItemCounts, NoMemory>
+    requires behind { AllAfter (ComesBehind (S.design design.now)) [] below.now }
+    requires there { All (IsCell (S.design design.now)) below.now }
+    requires valid { IsValid (S.design design.now) }
+    ensures { IfOk result (AreCounted (S.design design.now) below.now) }
+{
+    let mut counts = ItemCounts::none(alloc, design)?;
+    count_all(design, below, &mut counts);
+    Ok(counts)
+}
+
 /// How many items stand at and below an occurrence of each cell at or below the top, which is a cell of the design: as far as a number
 /// of 64 bits can say. The one error is that an allocation was refused.
 ///
@@ -38,8 +54,6 @@ pub fn count_items<S: Shown>(alloc: Global, design: &S, top: CellId) -> Result<I
     requires valid { IsValid (S.design design.now) }
     ensures { IfOk result (AreCounts (S.design design.now) top) }
 {
-    let mut counts = ItemCounts::none(alloc, design)?;
     let below = cells_below(alloc, design, top)?;
-    count_all(design, below.as_slice(), &mut counts);
-    Ok(counts)
+    count_below(alloc, design, below.as_slice())
 }

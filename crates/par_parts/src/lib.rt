@@ -2,6 +2,7 @@
 //! and how items are passed over without a look at each.
 #![tactic(auto)]
 
+mod beside;
 mod count;
 mod counted_ground;
 mod counts;

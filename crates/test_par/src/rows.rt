@@ -1,7 +1,7 @@
 //! The same text for every number of workers, and workers that run at the same time.
 ghost use Rattle.std.specs.Prelude.{◌≤◌};
 
-use crate::designs::{bare, board, counter, heavy, tree};
+use crate::designs::{bare, blocks, board, counter, heavy, tree};
 use crate::measures::{LateSink, Measure, TallyGate};
 use flat_report::item_text;
 use flat_spec::Item;
@@ -103,6 +103,14 @@ fn any_number_of_workers_gives_the_counter(rt: HostRuntime) -> Result<(), Fail> 
 fn any_number_of_workers_gives_the_tree(rt: HostRuntime) -> Result<(), Fail> {
     let tree = tree(rt.alloc())?;
     is_same(&rt, rt.alloc(), &tree);
+    Ok(())
+}
+
+#[test]
+fn workers_tell_what_is_connected_in_the_blocks(rt: HostRuntime) -> Result<(), Fail> {
+    let blocks = blocks(rt.alloc())?;
+    let plain = plain_text(&rt, rt.alloc(), &blocks);
+    both(&rt, rt.alloc(), &blocks, 3, plain.written());
     Ok(())
 }
 

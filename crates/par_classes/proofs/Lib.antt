@@ -1,0 +1,2 @@
+mod CellLemmas
+pub mod TellingLemmas
