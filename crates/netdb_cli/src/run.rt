@@ -6,6 +6,7 @@ ghost use Rattle.netdb_spec.specs.Command.{Asks, Check, IsCommand, IsGood, IsGoo
 ghost use Rattle.netdb_spec.specs.Due.{IsDue};
 ghost use Rattle.netdb_spec.specs.Counts.{CountsReading, CountsWriting};
 ghost use Rattle.netdb_spec.specs.Visits.{Adds, CommandReads, report_file, script_files};
+ghost use Rattle.netdb_spec.specs.Gives.{OutputGives};
 ghost use Rattle.netdb_spec.specs.Outcome.{Gives, ReadChecks, ReadRunGives, ReadUsesGive, ReportGives};
 ghost use Rattle.netdb_spec.specs.Reads.{LeavesFiles, files_of};
 ghost use Rattle.script_spec.specs.declared.limits.TheConstants.{MOST_SCRIPTS};
@@ -19,6 +20,7 @@ use netdb_outside::{Files, Gate, Sink};
 use netdb_spec::{Command, Status, Wanted, given_is_due};
 use netlist_schema::{Design, Row};
 use std::alloc::Global;
+use std::mem::forget;
 use std::sync::Wait;
 use std::thread::Threads;
 
@@ -34,6 +36,23 @@ struct Along<'a, R, G> {
     rt: &'a R,
     alloc: Global,
     gate: &'a G,
+}
+
+/// Writes what is wanted of a design, which stays where it is: the program ends behind its one command, and to let a large design go
+/// instance by instance would take some hundredths of its time.
+fn write_last<R: Threads + Sync, K: Sink, G: Gate + Sync>(
+    along: &Along<'_, R, G>,
+    design: Design,
+    wanted: Wanted,
+    out: &mut K,
+) -> Status
+    requires { IsGoodWanted wanted }
+    ensures gives { OutputGives wanted design (K.written out.old) (K.written out.new) result }
+    ensures counts { CountsWriting (K.faults out.old) (K.faults out.new) result }
+{
+    let status = write_output(along.rt, along.alloc, &design, wanted, along.gate, out);
+    forget(design);
+    status
 }
 
 /// Reads a design file, and writes what is wanted of its design.
@@ -52,7 +71,7 @@ fn show_file<R: Threads + Sync, F: Files, K: Sink, G: Gate + Sync>(
     ensures visited { Adds (F.visits files.old) (F.visits files.new) (CommandReads (files_of (Show name.now wanted)) 1 result) }
 {
     match read_design(along.alloc, files, name) {
-        Ok(design) => write_output(along.rt, along.alloc, &design, wanted, along.gate, out),
+        Ok(design) => write_last(along, design, wanted, out),
         Err(status) => status,
     }
 }

@@ -6,8 +6,8 @@ use Rattle.netdb_cli.proofs.run.show_file.Goals as goal
 pub returns-in-Ok-clause-visited : goal.returns-in-Ok-clause-visited
 returns-in-Ok-clause-visited g c =
     let new = g.F.Files.visits c.read_design.new.files in
-    first_read (g.F.Files.visits c.args.files.now) new new (design_file c.args.name.now) [] 1 c.write_output.result c.in-Ok.ensures.visited
-    (none_read new 2 c.write_output.result (output_is_behind c.args.wanted c.in-Ok.design (g.K.Sink.written c.args.out.now) (g.K.Sink.written c.write_output.new.out) c.write_output.result c.write_output.ensures.gives))
+    first_read (g.F.Files.visits c.args.files.now) new new (design_file c.args.name.now) [] 1 c.write_last.result c.in-Ok.ensures.visited
+    (none_read new 2 c.write_last.result (output_is_behind c.args.wanted c.in-Ok.design (g.K.Sink.written c.args.out.now) (g.K.Sink.written c.write_last.new.out) c.write_last.result c.write_last.ensures.gives))
 
 pub returns-in-Err-clause-visited : goal.returns-in-Err-clause-visited
 returns-in-Err-clause-visited g c =
