@@ -1,14 +1,14 @@
 -- Sheets: their pairs one after the other, and what stands after changes.
-use Rattle.std.proofs.Common.{◌≡◌, ℕ, zero, suc, ◌/◌, ◌<◌, ◌≤◌, ◌≢◌, List, [], ◌∷◌, ◌++◌, length, take, drop, inl, inr, refl, sym, ap, ◌∙◌, subst, append_assoc, take-append-drop, div-mul-le_self, arith}
+use Rattle.std.proofs.Common.{◌≡◌, ℕ, ◌/◌, ◌<◌, ◌≤◌, List, [], ◌∷◌, ◌++◌, inl, inr, refl, sym, ap, ◌∙◌, subst, append_assoc, div-mul-le_self, arith}
 use Rattle.std.specs.Ordering.{nat_cmp}
 use Rattle.std.specs.FinMap.{find, put}
 use Rattle.std.proofs.lemmas.Bool.{cases_order}
 use Rattle.std.proofs.lemmas.Nat.{le-div}
-use Rattle.ver_table.specs.Entries.{with_all, slot_at, GivesWay, IsInOrder}
-use Rattle.ver_table.specs.Pages.{Each, spread, sheet_at, revise, revise_all, IsSheet, AreSheets, IsRun}
+use Rattle.ver_table.specs.Entries.{with_all, IsInOrder}
+use Rattle.ver_table.specs.Pages.{Each, spread, sheet_at, revise, revise_all, IsSheet, AreSheets}
 use Rattle.ver_table.proofs.Places.{cmp_below, cmp_above, cmp_same, rest_in_order}
-use Rattle.ver_table.proofs.Maps.{order_put, put_way}
-use Rattle.ver_table.proofs.Fronts.{Each-weaker, Each-append, Each-drop, put_behind, find_behind, put_before, find_none, find_before, Each-put, put_some, higher_than_first, order_append, order_drop, take_each, way_lower}
+use Rattle.ver_table.proofs.Maps.{order_put}
+use Rattle.ver_table.proofs.Fronts.{Each-weaker, Each-append, put_behind, find_behind, put_before, find_none, find_before, Each-put, put_some, higher_than_first, order_append}
 
 -- a lower quotient is a lower number's
 pub quotients_rise : (size a b : ℕ) → 1 ≤ size → a ≤ b → a / size ≤ b / size

@@ -1,13 +1,11 @@
 -- The steps of the loops over entries and pages, in their lists.
-use Rattle.std.proofs.Common.{◌≡◌, ℕ, suc, ◌+◌, ◌-◌, ◌/◌, ◌<◌, ◌≤◌, List, [], ◌∷◌, ◌++◌, length, zero, append-nil, get_or, take, drop, slice_get, Some, None, refl, sym, ap, ◌∙◌, subst, inl, inr, append_assoc, add-one, take_all, drop-cons, length-drop, arith}
+use Rattle.std.proofs.Common.{◌≡◌, ℕ, suc, ◌+◌, ◌-◌, ◌<◌, ◌≤◌, List, [], ◌∷◌, ◌++◌, length, zero, append-nil, get_or, take, drop, slice_get, Some, sym, ap, ◌∙◌, subst, inl, inr, append_assoc, add-one, take_all, drop-cons, length-drop, arith}
 use Rattle.std.specs.Arc.{arc_value}
-use Rattle.std.specs.Ordering.{nat_cmp}
-use Rattle.std.specs.FinMap.{find, get, get-from_sorted}
 use Rattle.std.proofs.lemmas.List.{length-append, length-map, get_or-map, take-map, drop-map, map-append}
 use Rattle.ver_table.specs.declared.entries.Entry.{Entry}
 use Rattle.std.specs.Global.{Vec}
 use Rattle.ver_table.specs.Pages.{sheets_of, spread}
-use Rattle.ver_table.specs.Entries.{pair_of, pairs_of, with_all, slot_at, IsInOrder, StandsAt, BelongsAt, GivesWay}
+use Rattle.ver_table.specs.Entries.{pair_of, pairs_of, with_all, slot_at, IsInOrder, GivesWay}
 use Rattle.ver_table.proofs.Fronts.{with_one, order_drop}
 
 pub way_in_range : {V : Type 0} (ps : List (ℕ × V)) (key from to : ℕ) → GivesWay ps key from to → to ≤ length ps

@@ -1,7 +1,7 @@
 -- Pairs whose values are changed, the keys stay: what is found, put and in order.
-use Rattle.std.proofs.Common.{◌≡◌, ℕ, suc, zero, ◌+◌, ◌<◌, ◌≤◌, ◌&&◌, cond, IsTrue, List, [], ◌∷◌, map, length, unwrap_or, Some, None, Option, inl, inr, refl, sym, ap, ◌∙◌, subst, ◌/◌, arith}
+use Rattle.std.proofs.Common.{◌≡◌, ℕ, suc, ◌+◌, ◌<◌, ◌≤◌, ◌&&◌, List, [], ◌∷◌, map, length, unwrap_or, Some, None, inl, inr, refl, sym, ap, ◌∙◌, subst, ◌/◌, arith}
 use Rattle.std.specs.Option.{option_map}
-use Rattle.std.specs.Ordering.{nat_cmp, eq_by_cmp, is_lt}
+use Rattle.std.specs.Ordering.{nat_cmp, is_lt}
 use Rattle.std.specs.Cmp.{nat_cmp_total}
 use Rattle.std.specs.FinMap.{FinMap, empty, entries, from_sorted, get, len, find, put, insert, is_sorted, entries-insert, entries-from_sorted, get-entries, get-from_sorted, len-entries}
 use Rattle.std.specs.FinMap.Entries.{below_all}

@@ -1,7 +1,7 @@
-use Rattle.std.proofs.Common.{◌≡◌, ◌≤◌, ap, ◌∙◌, subst, arith}
+use Rattle.std.proofs.Common.{◌≤◌, ap, ◌∙◌, arith}
 use Rattle.ver_table.specs.declared.directory.TheConstants.{GROUP}
-use Rattle.ver_table.specs.Entries.{pairs_of, with_all}
-use Rattle.ver_table.specs.Pages.{map_of, sheets_of, revise_all}
+use Rattle.ver_table.specs.Entries.{pairs_of}
+use Rattle.ver_table.specs.Pages.{map_of, sheets_of}
 use Rattle.ver_table.specs.Rows.{set_all}
 use Rattle.ver_table.proofs.Sheets.{AreSheets-revise_all}
 use Rattle.ver_table.proofs.Values.{groups_revised, order_of_pages, revised_map}

@@ -1,5 +1,5 @@
-use Rattle.std.proofs.Common.{◌≡◌, [], refl, sym, ap, ◌∙◌, subst}
-use Rattle.ver_table.specs.Pages.{pages_of, map_of, AreSheets}
+use Rattle.std.proofs.Common.{◌≡◌, [], refl, ap, ◌∙◌}
+use Rattle.ver_table.specs.Pages.{pages_of, map_of}
 use Rattle.ver_table.proofs.Maps.{map_of_nothing}
 use Rattle.ver_table.proofs.Values.{no_pages}
 use Rattle.ver_table.proofs.table.Table.new.Goals as goal

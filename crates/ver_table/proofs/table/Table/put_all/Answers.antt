@@ -1,6 +1,6 @@
-use Rattle.std.proofs.Common.{◌≡◌, ◌<◌, ◌^◌, ap, ◌∙◌, arith}
+use Rattle.std.proofs.Common.{◌<◌, ◌^◌, ap, ◌∙◌, arith}
 use Rattle.ver_table.specs.Entries.{pairs_of}
-use Rattle.ver_table.specs.Pages.{map_of, pages_of, sheets_of, revise_all}
+use Rattle.ver_table.specs.Pages.{map_of, pages_of, sheets_of}
 use Rattle.ver_table.specs.Rows.{set_all}
 use Rattle.ver_table.proofs.Sheets.{AreSheets-revise_all}
 use Rattle.ver_table.proofs.Values.{Each-with_all, order_of_pages, pages_revised, revised_map}
