@@ -3,57 +3,64 @@
 //!     flat_plain flat FILE [limit N]
 //!     flat_plain csv FILE
 //!
-//! With a fault in the file it prints where and ends with 6; with no top it ends with 9.
+//! With a fault in the file it prints where and ends with 6; with no top it ends with 9, with no such file with 3, with one of
+//! more than 128 mebibytes with 8.
 use read_design::*;
-use read_spelling::{put_integer, put_number, put_string};
+use read_output::Output;
 use std::collections::HashMap;
-use std::fs::{self, File};
-use std::io::{self, Write};
-use std::os::fd::AsFd;
+use std::io;
+use std::num::NonZeroU64;
 use std::process::ExitCode;
 
 mod read_contents;
 #[allow(dead_code)]
 mod read_design;
+mod read_file;
 mod read_forms;
+mod read_output;
 mod read_spelling;
 mod read_text;
+mod read_words;
 
 /// No net.
 const NONE: u32 = u32::MAX;
 
-/// How many bytes wait at most, but for those of one line.
-const PIECE: usize = 65_536;
+/// The net at each bit of the instances of a cell, or at the bits that are joined, in order, where most are not.
+enum Joined {
+    Each(Vec<u32>),
+    Some(Vec<(u64, u32)>),
+}
 
-/// A cell with what its nets join: the net at each of its own bits, and at each bit of its instances, one instance after another.
+/// A cell with what its nets join. A net's first is the first one of the cell with which it is connected, here or below.
 struct Joins<'d> {
-    lib: &'d Lib,
     cell: &'d Cell,
-    own: Vec<u32>,
-    before: Vec<usize>,
-    joined: Vec<u32>,
-    /// For each net the first one of the cell with which it is connected, here or below.
-    firsts: Vec<u32>,
+    insts: &'d [Inst],
+    nets: &'d [Net],
+    /// For each instance how many bits those before it have.
+    before: Vec<u64>,
+    joined: Joined,
+    /// The bits of the cell itself that are joined, each with the first of its net.
+    own: Vec<(u32, u32)>,
+    /// The same for those bits whose first has several of them, those of a first together, with the first in front.
+    several: Vec<(u32, u32)>,
+    /// The nets that are not their own first, each with that.
+    later: Vec<(u32, u32)>,
 }
 
-/// The cells of each library.
-type All<'d> = Vec<Vec<Joins<'d>>>;
-
-fn bits(cell: &Cell) -> usize {
-    cell.ports.items.last().map_or(0, |port| (port.before + port.width()) as usize)
+impl Joins<'_> {
+    /// The net at a bit of an instance, or none.
+    #[inline]
+    fn at(&self, inst: usize, bit: u32) -> u32 {
+        let number = self.before[inst] + u64::from(bit);
+        match &self.joined {
+            Joined::Each(nets) => nets[number as usize],
+            Joined::Some(bits) => bits.binary_search_by_key(&number, |(bit, _)| *bit).map_or(NONE, |place| bits[place].1),
+        }
+    }
 }
 
-fn insts(cell: &Cell) -> &[Inst] {
-    cell.contents.as_ref().map_or(&[], |contents| &contents.insts.items)
-}
-
-fn nets(cell: &Cell) -> &[Net] {
-    cell.contents.as_ref().map_or(&[], |contents| &contents.nets)
-}
-
-fn at<'a, 'd>(all: &'a All<'d>, id: CellId) -> &'a Joins<'d> {
-    &all[id.lib as usize][id.slot as usize]
-}
+/// The cells at and below the top with what their nets join.
+type All<'d> = Vec<Option<Box<Joins<'d>>>>;
 
 fn find(labels: &mut [u32], mut at: u32) -> u32 {
     while labels[at as usize] != at {
@@ -63,75 +70,108 @@ fn find(labels: &mut [u32], mut at: u32) -> u32 {
     at
 }
 
-/// What the nets of a cell join, where the cells that it places are known.
-fn joins<'d>(all: &All<'d>, lib: &'d Lib, cell: &'d Cell) -> Joins<'d> {
-    let mut own = vec![NONE; bits(cell)];
-    let mut before = Vec::with_capacity(insts(cell).len());
+/// What the nets of a cell join, where that is known of the cells that it places.
+fn joins<'d>(design: &'d Design, cell: &'d Cell, all: &All) -> Joins<'d> {
+    let (insts, nets) = (cell.insts.of(&design.insts), cell.nets.of(&design.nets));
+    let mut before = Vec::with_capacity(insts.len());
     let mut count = 0;
-    for inst in insts(cell) {
+    for inst in insts {
         before.push(count);
-        count += bits(at(all, inst.of).cell);
+        count += u64::from(design.cells[inst.of as usize].bits);
     }
-    let mut joined = vec![NONE; count];
-    for (number, net) in nets(cell).iter().enumerate() {
-        for end in &net.ends {
-            let (bits, first, ports) = match end.inst {
-                OWN => (&mut own, 0, &cell.ports),
-                inst => (&mut joined, before[inst as usize], &at(all, insts(cell)[inst as usize].of).cell.ports),
-            };
-            bits[first + (ports.items[end.port as usize].before + end.bit) as usize] = number as u32;
-        }
-    }
-    let mut joins = Joins { lib, cell, own, before, joined, firsts: Vec::new() };
-    joins.firsts = firsts(all, &joins);
+    let ends: usize = nets.iter().map(|net| net.ends.len()).sum();
+    let mut own = Vec::new();
+    let joined = if count / 16 <= ends as u64 {
+        let mut each = vec![NONE; count as usize];
+        own_and_others(design, nets, &before, &mut own, |bit, net| each[bit as usize] = net);
+        Joined::Each(each)
+    } else {
+        let mut some = Vec::with_capacity(ends);
+        own_and_others(design, nets, &before, &mut own, |bit, net| some.push((bit, net)));
+        some.sort_unstable();
+        Joined::Some(some)
+    };
+    let mut joins = Joins { cell, insts, nets, before, joined, own, several: Vec::new(), later: Vec::new() };
+    find_firsts(&mut joins, all);
     joins
 }
 
-fn firsts(all: &All, joins: &Joins) -> Vec<u32> {
-    let count = nets(joins.cell).len() as u32;
-    let mut labels: Vec<u32> = (0..count).collect();
-    for (inst, first) in insts(joins.cell).iter().zip(&joins.before) {
-        let child = at(all, inst.of);
-        let mut seen = vec![NONE; child.firsts.len()];
-        for (inner, outer) in child.own.iter().zip(&joins.joined[*first..]) {
-            if *inner == NONE || *outer == NONE {
-                continue;
+/// Goes over the bits that nets join: lists those of the cell itself with their nets, and hands out those of its instances.
+fn own_and_others(design: &Design, nets: &[Net], before: &[u64], own: &mut Vec<(u32, u32)>, mut other: impl FnMut(u64, u32)) {
+    for (net, number) in nets.iter().zip(0..) {
+        for end in net.ends.of(&design.ends) {
+            let bit = design.ports[end.port as usize].before + end.bit;
+            match end.inst {
+                OWN => own.push((bit, number)),
+                inst => other(before[inst as usize] + u64::from(bit), number),
             }
-            let class = &mut seen[child.firsts[*inner as usize] as usize];
-            if *class == NONE {
-                *class = *outer;
-                continue;
-            }
-            let (a, b) = (find(&mut labels, *class), find(&mut labels, *outer));
-            labels[a.max(b) as usize] = a.min(b);
         }
     }
-    (0..count).map(|net| find(&mut labels, net)).collect()
+}
+
+/// Connects nets that are connected below, and tells which bits of the cell are connected by that or by one net.
+fn find_firsts(joins: &mut Joins, all: &All) {
+    let mut labels = Vec::new();
+    for (place, inst) in joins.insts.iter().enumerate() {
+        let several = all[inst.of as usize].as_ref().map_or(&[][..], |below| &below.several);
+        if !several.is_empty() && labels.is_empty() {
+            labels = (0..joins.nets.len() as u32).collect();
+        }
+        for connected in several.chunk_by(|a, b| a.0 == b.0) {
+            let mut nets = connected.iter().map(|(_, bit)| joins.at(place, *bit)).filter(|net| *net != NONE);
+            let Some(one) = nets.next() else {
+                continue;
+            };
+            for other in nets {
+                let (a, b) = (find(&mut labels, one), find(&mut labels, other));
+                labels[a.max(b) as usize] = a.min(b);
+            }
+        }
+    }
+    for net in 0..labels.len() as u32 {
+        let first = find(&mut labels, net);
+        if first != net {
+            joins.later.push((net, first));
+        }
+    }
+    for (_, net) in &mut joins.own {
+        *net = labels.get(*net as usize).map_or(*net, |first| *first);
+    }
+    let mut bits: Vec<(u32, u32)> = joins.own.iter().map(|(bit, first)| (*first, *bit)).collect();
+    bits.sort_unstable();
+    joins.several = bits.chunk_by(|a, b| a.0 == b.0).filter(|connected| connected.len() > 1).flatten().copied().collect();
 }
 
 /// A cell of a file stands behind those that it places.
-fn all_joins(libs: &[Lib]) -> All<'_> {
-    let mut all = All::new();
-    for (place, lib) in libs.iter().enumerate() {
-        all.push(Vec::with_capacity(lib.cells.items.len()));
-        for cell in &lib.cells.items {
-            let joins = joins(&all, lib, cell);
-            all[place].push(joins);
+fn all_joins<'d>(design: &'d Design, top: u32) -> All<'d> {
+    let mut below = vec![false; top as usize + 1];
+    below[top as usize] = true;
+    for cell in (0..=top as usize).rev().filter(|cell| !design.cells[*cell].leaf) {
+        if below[cell] {
+            design.cells[cell].insts.of(&design.insts).iter().for_each(|inst| below[inst.of as usize] = true);
         }
+    }
+    let mut all = All::with_capacity(below.len());
+    for (cell, is_below) in design.cells.iter().zip(below) {
+        all.push((is_below && !cell.leaf).then(|| Box::new(joins(design, cell, &all))));
     }
     all
 }
 
 /// A net of an occurrence: the length of the path's text, which is a front of that of each place where the net is known, and its name.
-type Known<'d> = (usize, &'d [u8]);
+#[derive(Clone, Copy)]
+struct Known {
+    length: u32,
+    id: u32,
+}
 
 /// An occurrence on the way to the one that is listed.
 struct Frame<'a, 'd> {
     joins: &'a Joins<'d>,
-    /// The representative of each net.
-    known: Vec<Known<'d>>,
     next: usize,
     length: usize,
+    /// Where the representatives of its nets begin.
+    known: usize,
 }
 
 enum Stop {
@@ -139,71 +179,77 @@ enum Stop {
     Broken,
 }
 
-impl From<io::Error> for Stop {
-    fn from(_: io::Error) -> Stop {
-        Stop::Broken
-    }
-}
-
-struct Walk<'a, 'd, W> {
+struct Walk<'a, 'd> {
+    design: &'d Design<'d>,
     all: &'a All<'d>,
     notes: HashMap<Vec<u8>, Vec<&'d Property>>,
     table: bool,
     left: u64,
     path: Vec<u8>,
     frames: Vec<Frame<'a, 'd>>,
-    text: Vec<u8>,
-    out: W,
+    known: Vec<Known>,
+    /// What the lines of one occurrence begin with.
+    start: Vec<u8>,
+    out: Output,
 }
 
-impl<'d, W: Write> Walk<'_, 'd, W> {
-    fn put(&mut self, bytes: &[u8]) {
-        self.text.extend_from_slice(bytes);
-    }
-
+impl<'d> Walk<'_, 'd> {
     /// Begins an item, where one more may be listed.
-    fn item(&mut self, word: &[u8]) -> Result<(), Stop> {
+    #[inline]
+    fn item(&mut self) -> Result<(), Stop> {
         self.left = self.left.checked_sub(1).ok_or(Stop::AtLimit)?;
-        if self.text.len() >= PIECE {
-            self.out.write_all(&self.text)?;
-            self.text.clear();
-        }
-        self.put(word);
-        self.place(self.path.len());
         Ok(())
     }
 
+    #[inline]
     fn place(&mut self, length: usize) {
-        self.text.extend_from_slice(if length == 0 { b"/" } else { &self.path[..length] });
+        self.out.put(if length == 0 { b"/" } else { &self.path[..length] });
+    }
+
+    #[inline]
+    fn word(&mut self, word: u32) {
+        self.out.put_word(&self.design.words, word);
+    }
+
+    fn begin_lines(&mut self, word: &[u8], between: u8) {
+        self.start.clear();
+        self.start.extend_from_slice(word);
+        self.start.extend_from_slice(if self.path.is_empty() { b"/" } else { &self.path });
+        self.start.push(between);
     }
 
     fn property(&mut self, property: &Property) {
-        self.put(b" ");
-        self.put(&property.key.id);
-        self.put(b"=");
-        match &property.value {
-            Value::Boolean(truth) => self.put(if *truth { b"true" } else { b"false" }),
-            Value::Integer(number) => put_integer(&mut self.text, *number),
+        self.out.put(b" ");
+        self.word(property.key.id);
+        self.out.put(b"=");
+        match property.value {
+            Value::Boolean(truth) => self.out.put(if truth { b"true" } else { b"false" }),
+            Value::Integer(number) => self.out.put_integer(number),
             Value::Number(number) => {
-                self.put(b"n");
-                put_integer(&mut self.text, *number);
+                self.out.put(b"n");
+                self.out.put_integer(number);
             }
             Value::Scaled(mantissa, exponent) => {
-                self.put(b"n");
-                put_integer(&mut self.text, *mantissa);
-                self.put(b"e");
-                put_integer(&mut self.text, i64::from(*exponent));
+                self.out.put(b"n");
+                self.out.put_integer(mantissa);
+                self.out.put(b"e");
+                self.out.put_integer(i64::from(exponent));
             }
-            Value::Text(text) => put_string(&mut self.text, text),
+            Value::Text(text) => {
+                self.out.put(b"\"");
+                self.out.put(self.design.words.bytes(text));
+                self.out.put(b"\"");
+            }
         }
     }
 
     /// The properties of an instance or of the top, with those of the notes at this place.
     fn properties(&mut self, properties: &'d [Property]) {
-        let noted = self.notes.get(&self.path).cloned().unwrap_or_default();
+        let noted = if self.notes.is_empty() { None } else { self.notes.get(&self.path).cloned() };
+        let noted = noted.unwrap_or_default();
         for property in properties {
             let note = noted.iter().find(|note| note.key.id == property.key.id);
-            self.property(note.unwrap_or(&property));
+            self.property(note.copied().unwrap_or(property));
         }
         for note in noted {
             if properties.iter().all(|property| property.key.id != note.key.id) {
@@ -212,154 +258,175 @@ impl<'d, W: Write> Walk<'_, 'd, W> {
         }
     }
 
-    fn entry(&mut self, joins: &Joins, properties: &'d [Property]) -> Result<(), Stop> {
-        self.item(b"inst ")?;
-        self.put(b" ");
-        self.put(&joins.lib.name.id);
-        self.put(b" ");
-        self.put(&joins.cell.name.id);
+    fn entry(&mut self, cell: &Cell, properties: &'d [Property]) -> Result<(), Stop> {
+        self.item()?;
+        self.out.put(b"inst ");
+        self.place(self.path.len());
+        self.out.put(b" ");
+        self.word(self.design.libs[cell.lib as usize].name.id);
+        self.out.put(b" ");
+        self.word(cell.name.id);
         self.properties(properties);
-        self.put(b"\n");
+        self.out.put(b"\n");
         Ok(())
     }
 
-    fn net(&mut self, net: &Net, (length, first): Known) -> Result<(), Stop> {
-        self.item(b"net ")?;
-        self.put(b" ");
-        self.put(&net.name.id);
-        self.put(b" ");
-        self.place(length);
-        self.put(b" ");
-        self.put(first);
-        self.put(b"\n");
-        Ok(())
+    /// A net by its representative, at the end of a line.
+    #[inline]
+    fn representative(&mut self, known: Known, between: &[u8]) {
+        self.place(known.length as usize);
+        self.out.put(between);
+        self.word(known.id);
+        self.out.put(b"\n");
     }
 
-    fn pin(&mut self, port: &Port, bit: u32, known: Option<Known>) -> Result<(), Stop> {
-        let (word, between, none): (&[u8], &[u8], &[u8]) = if self.table { (b"", b",", b",") } else { (b"pin ", b" ", b"-") };
-        self.item(word)?;
-        self.put(between);
-        self.put(&port.name.id);
-        self.put(between);
-        put_number(&mut self.text, u64::from(bit));
-        self.put(between);
-        match known {
-            None => self.put(none),
-            Some((length, first)) => {
-                self.place(length);
-                self.put(between);
-                self.put(first);
-            }
+    fn nets(&mut self, nets: &[Net], first: usize) -> Result<(), Stop> {
+        self.begin_lines(b"net ", b' ');
+        for (number, net) in nets.iter().enumerate() {
+            self.item()?;
+            self.out.put(&self.start);
+            self.word(net.name.id);
+            self.out.put(b" ");
+            self.representative(self.known[first + number], b" ");
         }
-        self.put(b"\n");
         Ok(())
     }
 
-    /// The nets that an occurrence has from the one around it, and its own where there are none: the representative of each net, and
-    /// what is at each of its bits.
-    fn known(&self, joins: &Joins<'d>) -> (Vec<Known<'d>>, Vec<Option<Known<'d>>>) {
-        let mut known: Vec<Known> = nets(joins.cell).iter().map(|net| (self.path.len(), &*net.name.id)).collect();
-        let mut at_bits = Vec::new();
-        if let Some(frame) = self.frames.last() {
-            let outer = &frame.joins.joined[frame.joins.before[frame.next - 1]..][..joins.own.len()];
-            let outer = outer.iter().map(|net| (*net != NONE).then(|| frame.known[*net as usize]));
-            if joins.cell.contents.is_none() {
-                at_bits = outer.collect();
-            } else {
-                for (inner, outer) in joins.own.iter().zip(outer).filter(|(inner, _)| **inner != NONE) {
-                    let first = joins.firsts[*inner as usize] as usize;
-                    known[first] = outer.unwrap_or(known[first]);
+    /// The pins of a cell, by the net of the last frame, or none, at each of its bits.
+    fn pins(&mut self, cell: &Cell, net: impl Fn(u32) -> u32) -> Result<(), Stop> {
+        let (word, between, none): (&[u8], &[u8; 1], &[u8]) = if self.table { (b"", b",", b",\n") } else { (b"pin ", b" ", b"-\n") };
+        let known = self.frames.last().map_or(0, |frame| frame.known);
+        self.begin_lines(word, between[0]);
+        for port in cell.ports.of(&self.design.ports) {
+            for bit in 0..port.width() {
+                self.item()?;
+                self.out.put(&self.start);
+                self.word(port.name.id);
+                self.out.put(between);
+                self.out.put_number(u64::from(bit));
+                self.out.put(between);
+                match net(port.before + bit) {
+                    NONE => self.out.put(none),
+                    net => self.representative(self.known[known + net as usize], between),
                 }
             }
         }
-        let known: Vec<Known> = joins.firsts.iter().map(|first| known[*first as usize]).collect();
-        if self.frames.is_empty() {
-            at_bits = joins.own.iter().map(|net| (*net != NONE).then(|| known[*net as usize])).collect();
+        Ok(())
+    }
+
+    /// Puts an occurrence behind the frames: its nets have the representatives of those around it, or else are their own.
+    fn open(&mut self, of: u32) {
+        let Some(joins) = self.all[of as usize].as_deref() else {
+            return;
+        };
+        let (first, length) = (self.known.len(), self.path.len() as u32);
+        self.known.extend(joins.nets.iter().map(|net| Known { length, id: net.name.id }));
+        if let Some(frame) = self.frames.last() {
+            for (bit, net) in &joins.own {
+                let outer = frame.joins.at(frame.next - 1, *bit);
+                if outer != NONE {
+                    self.known[first + *net as usize] = self.known[frame.known + outer as usize];
+                }
+            }
         }
-        (known, at_bits)
+        for (net, other) in &joins.later {
+            self.known[first + *net as usize] = self.known[first + *other as usize];
+        }
+        self.frames.push(Frame { joins, next: 0, length: self.path.len(), known: first });
     }
 
     /// An occurrence, without those below it.
-    fn occurrence(&mut self, of: CellId, properties: &'d [Property]) -> Result<(), Stop> {
-        let joins = at(self.all, of);
-        let (known, at_bits) = self.known(joins);
+    fn occurrence(&mut self, of: u32, properties: Rows) -> Result<(), Stop> {
+        let cell = &self.design.cells[of as usize];
+        if !self.out.is_whole() {
+            return Err(Stop::Broken);
+        }
         if !self.table {
-            self.entry(joins, properties)?;
-            for (net, known) in nets(joins.cell).iter().zip(&known) {
-                self.net(net, *known)?;
-            }
+            self.entry(cell, properties.of(&self.design.properties))?;
         }
-        if self.frames.is_empty() || joins.cell.contents.is_none() {
-            for port in &joins.cell.ports.items {
-                for bit in 0..port.width() {
-                    self.pin(port, bit, at_bits[(port.before + bit) as usize])?;
+        if cell.leaf {
+            return match self.frames.last() {
+                None => self.pins(cell, |_| NONE),
+                Some(Frame { joins, next, .. }) => {
+                    let (joins, inst) = (*joins, next - 1);
+                    self.pins(cell, |bit| joins.at(inst, bit))
                 }
-            }
+            };
         }
-        self.frames.push(Frame { joins, known, next: 0, length: self.path.len() });
+        self.open(of);
+        if !self.table {
+            let nets = cell.nets.of(&self.design.nets);
+            self.nets(nets, self.known.len() - nets.len())?;
+        }
         Ok(())
     }
 
-    fn whole(&mut self, top: &'d Top) -> Result<(), Stop> {
-        self.occurrence(top.cell, &top.properties)?;
+    fn whole(&mut self, top: &Top) -> Result<(), Stop> {
+        self.occurrence(top.cell, top.properties)?;
+        if let Some(frame) = self.frames.last() {
+            let mut nets = vec![NONE; frame.joins.cell.bits as usize];
+            frame.joins.own.iter().for_each(|(bit, net)| nets[*bit as usize] = *net);
+            self.pins(frame.joins.cell, |bit| nets[bit as usize])?;
+        }
         while let Some(frame) = self.frames.last_mut() {
             self.path.truncate(frame.length);
-            let Some(inst) = insts(frame.joins.cell).get(frame.next) else {
+            let Some(inst) = frame.joins.insts.get(frame.next) else {
+                self.known.truncate(frame.known);
                 self.frames.pop();
                 continue;
             };
             frame.next += 1;
             self.path.push(b'/');
-            self.path.extend_from_slice(&inst.name.id);
-            self.occurrence(inst.of, &inst.properties)?;
+            self.path.extend_from_slice(self.design.words.word(inst.name.id));
+            self.occurrence(inst.of, inst.properties)?;
         }
         Ok(())
     }
 }
 
-fn notes(top: &Top) -> HashMap<Vec<u8>, Vec<&Property>> {
+fn notes<'d>(design: &'d Design) -> HashMap<Vec<u8>, Vec<&'d Property>> {
     let mut notes: HashMap<Vec<u8>, Vec<&Property>> = HashMap::new();
-    for note in &top.notes {
-        let path = note.path.iter().flat_map(|step| [b"/", &**step]).flatten().copied().collect();
+    for note in &design.notes {
+        let steps = note.path.of(&design.steps).iter();
+        let path = steps.flat_map(|step| [b"/", design.words.word(*step)]).flatten().copied().collect();
         notes.entry(path).or_default().push(&note.property);
     }
     notes
 }
 
 /// Writes the lines of a flattening up to a limit, or a pin table.
-fn write(design: &Design, top: &Top, table: bool, limit: u64, out: impl Write) -> Result<(), Stop> {
-    let (all, text) = (all_joins(&design.libs), Vec::with_capacity(2 * PIECE));
-    let mut walk = Walk { all: &all, notes: notes(top), table, left: limit, path: Vec::new(), frames: Vec::new(), text, out };
+fn write<'d>(design: &'d Design<'d>, top: &'d Top, table: bool, limit: u64) -> io::Result<()> {
+    let (all, notes, out) = (all_joins(design, top.cell), notes(design), Output::new()?);
+    let (path, frames, known, start) = (Vec::new(), Vec::new(), Vec::new(), Vec::new());
+    let mut walk = Walk { design, all: &all, notes, table, left: limit, path, frames, known, start, out };
     if table {
-        walk.put(b"path,port,bit,net_path,net\n");
+        walk.out.put(b"path,port,bit,net_path,net\n");
     }
     let last: &[u8] = match walk.whole(top) {
-        Ok(()) if table => b"",
-        Ok(()) => b"end\n",
+        Ok(()) if !table => b"end\n",
         Err(Stop::AtLimit) => b"more\n",
-        Err(Stop::Broken) => return Err(Stop::Broken),
+        _ => b"",
     };
-    walk.put(last);
-    Ok(walk.out.write_all(&walk.text)?)
+    walk.out.put(last);
+    walk.out.finish()
 }
 
 fn run(table: bool, name: &str, limit: u64) -> u8 {
-    let Ok(bytes) = fs::read(name) else {
-        return 3;
+    let bytes = match read_file::bytes_of(name) {
+        Ok(bytes) => bytes,
+        Err(status) => return status,
     };
     let design = match read_forms::read(&bytes) {
         Ok(design) => design,
-        Err(read_text::Fault(place)) => {
+        Err(place) => {
             eprintln!("{name}: fault at {place}");
             return 6;
         }
     };
-    drop(bytes);
     let Some(top) = &design.top else {
         return 9;
     };
-    let out = io::stdout().as_fd().try_clone_to_owned().map(File::from);
-    match out.map_err(Stop::from).and_then(|out| write(&design, top, table, limit, out)) {
+    match write(&design, top, table, limit) {
         Ok(()) => 0,
         Err(_) => 5,
     }
@@ -370,7 +437,7 @@ fn main() -> ExitCode {
     let words: Vec<&str> = words.iter().map(String::as_str).collect();
     let status = match words[1..] {
         ["flat", name] => run(false, name, u64::MAX),
-        ["flat", name, "limit", limit] => limit.parse().map_or(2, |limit| run(false, name, limit)),
+        ["flat", name, "limit", limit] => limit.parse().map_or(2, |limit: NonZeroU64| run(false, name, limit.get())),
         ["csv", name] => run(true, name, u64::MAX),
         _ => 2,
     };

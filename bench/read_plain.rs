@@ -2,31 +2,20 @@
 //!
 //!     read_plain write FILE
 //!
-//! With a fault in the file it prints where and ends with 6; with no such file it ends with 3, with a larger one with 8.
-use std::fs::File;
-use std::io::{self, Read};
-use std::os::fd::AsFd;
+//! With a fault in the file it prints where and ends with 6; with no such file it ends with 3, with one of more than 128
+//! mebibytes with 8.
 use std::process::ExitCode;
 
 mod read_contents;
 mod read_design;
+mod read_file;
 mod read_forms;
+#[allow(dead_code)]
+mod read_output;
 mod read_spelling;
 mod read_text;
+mod read_words;
 mod read_write;
-
-const MOST_BYTES: u64 = 134_217_728;
-
-fn bytes_of(name: &str) -> io::Result<Vec<u8>> {
-    let file = File::open(name)?;
-    let mut bytes = Vec::with_capacity(file.metadata()?.len().min(MOST_BYTES + 1) as usize);
-    file.take(MOST_BYTES + 1).read_to_end(&mut bytes)?;
-    Ok(bytes)
-}
-
-fn write(design: &read_design::Design) -> io::Result<()> {
-    read_write::write(design, File::from(io::stdout().as_fd().try_clone_to_owned()?))
-}
 
 fn main() -> ExitCode {
     let words: Vec<String> = std::env::args().collect();
@@ -34,23 +23,18 @@ fn main() -> ExitCode {
         eprintln!("usage: write F");
         return ExitCode::from(2);
     };
-    let Ok(bytes) = bytes_of(name) else {
-        eprintln!("{name}: missing");
-        return ExitCode::from(3);
+    let bytes = match read_file::bytes_of(name) {
+        Ok(bytes) => bytes,
+        Err(status) => return ExitCode::from(status),
     };
-    if bytes.len() as u64 > MOST_BYTES {
-        eprintln!("{name}: too large");
-        return ExitCode::from(8);
-    }
     let design = match read_forms::read(&bytes) {
         Ok(design) => design,
-        Err(read_text::Fault(place)) => {
+        Err(place) => {
             eprintln!("{name}: fault at {place}");
             return ExitCode::from(6);
         }
     };
-    drop(bytes);
-    match write(&design) {
+    match read_write::write(&design) {
         Ok(()) => ExitCode::SUCCESS,
         Err(_) => ExitCode::from(5),
     }

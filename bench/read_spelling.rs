@@ -13,24 +13,14 @@ pub fn digits(number: u64, buffer: &mut [u8; 20]) -> &[u8] {
     }
 }
 
-pub fn put_number(out: &mut Vec<u8>, number: u64) {
-    out.extend_from_slice(digits(number, &mut [0; 20]));
-}
-
-pub fn put_integer(out: &mut Vec<u8>, number: i64) {
-    if number < 0 {
-        out.push(b'-');
-    }
-    put_number(out, number.unsigned_abs());
-}
-
 fn is_plain(b: u8) -> bool {
     matches!(b, b' '..=b'~') && b != b'"' && b != b'%'
 }
 
-/// A string between quotes, with codes for each run of bytes that do not stand for themselves.
-pub fn put_string(out: &mut Vec<u8>, text: &[u8]) {
-    out.push(b'"');
+/// What stands between the quotes of a string: codes for each run of bytes that do not stand for themselves. Equal strings are spelled
+/// alike.
+pub fn spelled(text: &[u8]) -> Vec<u8> {
+    let mut out = Vec::with_capacity(text.len());
     for run in text.chunk_by(|a, b| is_plain(*a) == is_plain(*b)) {
         if is_plain(run[0]) {
             out.extend_from_slice(run);
@@ -38,9 +28,9 @@ pub fn put_string(out: &mut Vec<u8>, text: &[u8]) {
         }
         for (at, code) in run.iter().enumerate() {
             out.push(if at == 0 { b'%' } else { b' ' });
-            put_number(out, u64::from(*code));
+            out.extend_from_slice(digits(u64::from(*code), &mut [0; 20]));
         }
         out.push(b'%');
     }
-    out.push(b'"');
+    out
 }
