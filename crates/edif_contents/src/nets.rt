@@ -23,7 +23,9 @@ use edif_grammar::is_form_of;
 use edif_nets::{
     NetList, add_net, add_row, check_ends, check_names, ends_room, nets_room, row_places, row_size,
 };
-use edif_parts::{BusName, EdifError, fault_at, read_bus_name, read_parts, read_properties};
+use edif_parts::{
+    BusName, EdifError, append, fault_at, read_bus_name, read_parts, read_properties,
+};
 use edif_spec::{Keyword, Kind, NetForm, Stretch};
 use edif_tree::{Node, Nodes};
 use netlist_schema::{End, Listed, Name, Net, NoMemory, Parts, Property, Row, SharedRow, Width};
@@ -110,7 +112,7 @@ fn read_stretches(
     let mut stretches = Vec::with_capacity(alloc, nodes.len())?;
     for node in nodes.iter() {
         let stretch = read_stretch(alloc, node, array, around)?;
-        stretches.push(stretch)?;
+        append(&mut stretches, stretch)?;
     }
     Ok(Row::of(stretches))
 }
@@ -138,7 +140,7 @@ fn read_ends(alloc: Global, nodes: Nodes<'_>, around: &Surroundings) -> Result<R
     let mut ends = Vec::with_capacity(alloc, nodes.len())?;
     for node in nodes.iter() {
         let end = read_bit(alloc, node, around)?;
-        ends.push(end)?;
+        append(&mut ends, end)?;
     }
     Ok(Row::of(ends))
 }

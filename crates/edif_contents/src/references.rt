@@ -135,7 +135,11 @@ fn view_name(libs: &Libraries, id: CellId) -> &[u8]
 fn view(libs: &Libraries, id: CellId, name: &Ident) -> Meant
     ensures { Tells (meant (design.view_id libs.now.libs id ∷ []) name.now) result }
 {
-    if name.as_slice().eq_ignore_ascii_case(view_name(libs, id)) {
+    let known = view_name(libs, id);
+    if name.as_slice() == known {
+        return Meant::Found(0);
+    }
+    if name.as_slice().eq_ignore_ascii_case(known) {
         Meant::Found(0)
     } else {
         Meant::Absent

@@ -12,7 +12,7 @@ ghost use Rattle.netlist_schema.specs.Names.{AreDistinct};
 use crate::differ::{differ, end_key};
 use crate::limits::small;
 use crate::net_list::NetList;
-use edif_parts::{EdifError, clash};
+use edif_parts::{EdifError, append, clash};
 use edif_spec::ClashKind;
 use edif_tree::Nodes;
 use indexmap::IndexMap;
@@ -81,7 +81,7 @@ fn net_places(nodes: Nodes<'_>, places: &mut Vec<u32>) -> Result<(), NoMemory>
 {
     for node in nodes.iter() {
         let place = small(node.place())?;
-        places.push(place)?;
+        append(places, place)?;
     }
     Ok(())
 }
@@ -142,7 +142,7 @@ fn net_keys(ends: &[End], keys: &mut Vec<u64>) -> Result<(), NoMemory>
     ensures { OnOk result (keys.new.items ≡ keys.old.items ++ map end_key ends.now) }
 {
     for end in ends {
-        keys.push(end_key(*end))?;
+        append(keys, end_key(*end))?;
     }
     Ok(())
 }

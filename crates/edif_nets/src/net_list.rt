@@ -9,7 +9,7 @@ ghost use Rattle.netlist_schema.specs.Names.{AreDistinct};
 
 use crate::differ::{differ, name_key};
 use crate::limits::small;
-use edif_parts::{EdifError, OwnNames, room_for};
+use edif_parts::{EdifError, OwnNames, append, room_for};
 use edif_spec::Keyword;
 use edif_tree::Nodes;
 use netlist_schema::{Listed, Net, NoMemory, Parts};
@@ -53,7 +53,7 @@ impl NetList {
     {
         let place = small(place)?;
         self.nets.push(Listed::of(alloc, net)?)?;
-        self.places.push(place)?;
+        append(&mut self.places, place)?;
         Ok(())
     }
 
@@ -105,7 +105,7 @@ fn name_keys(alloc: Global, nets: &[Listed<Net>]) -> Result<Vec<u64>, NoMemory>
 {
     let mut keys = Vec::with_capacity(alloc, nets.len())?;
     for net in nets {
-        keys.push(name_key(&net.name.id))?;
+        append(&mut keys, name_key(&net.name.id))?;
     }
     Ok(keys)
 }

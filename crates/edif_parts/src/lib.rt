@@ -4,6 +4,7 @@
 mod error;
 mod few_names;
 mod interface;
+mod lists;
 mod name_table;
 mod names;
 mod own_names;
@@ -15,6 +16,7 @@ mod values;
 
 pub use error::{EdifError, bad_form, clash, fault_at, over_limit};
 pub use interface::{Interface, read_interface};
+pub use lists::append;
 pub use names::{NameAt, Names, read_name};
 pub use own_names::OwnNames;
 pub use parts::{integer_at, is_word, read_parts, room_for, room_wanted, word_at};

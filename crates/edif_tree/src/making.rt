@@ -92,6 +92,7 @@ impl Making {
     }
 
     /// Adds a word, an integer or a string to the innermost form.
+    #[inline(always)]
     fn add_leaf(&mut self, place: u64, kind: LentKind<'_>) -> Result<(), NoMemory>
         requires leaf { IsLeaf (kind_of kind) }
         requires named { IsNamed kind }
@@ -102,6 +103,7 @@ impl Making {
     }
 
     /// Closes the innermost form.
+    #[inline(always)]
     fn close(&mut self, place: u64) -> Result<(), NoMemory>
         requires inside { 0 < length self.old.forms.items }
         requires reads { (ts : List Token) × HasRead self.old ts }

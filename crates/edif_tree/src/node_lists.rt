@@ -1,5 +1,5 @@
 //! Where the arguments of forms stand in the list of nodes.
-ghost use Rattle.std.specs.Prelude.{◌≡◌, ◌<◌, ◌≤◌, ◌∷◌, ◌++◌, [], get_or, length, Some, OnOk, OnErr, drop, slice_get};
+ghost use Rattle.std.specs.Prelude.{◌≡◌, ◌+◌, ◌<◌, ◌≤◌, ◌∷◌, ◌++◌, [], get_or, length, Some, OnOk, OnErr, drop, slice_get, vec_capacity, vec_len};
 ghost use Rattle.edif_tree.specs.NodeLists.{EndedLists, last_end, with_end};
 ghost use Rattle.edif_tree.specs.Ranges.{ids_of};
 
@@ -69,6 +69,7 @@ impl NodeLists {
     }
 
     /// Adds the list of the nodes from where the last one ends to before a place. Where memory is refused, the lists stay.
+    #[inline(always)]
     pub fn push(&mut self, end: usize) -> Result<(), NoMemory>
         ensures ok { OnOk result (self.new ≡ with_end self.old end) }
         ensures err { OnErr result (self.new ≡ self.old) }
@@ -96,7 +97,36 @@ fn rest(nodes: &[StoredNode], start: usize) -> &[StoredNode]
     &nodes[start..]
 }
 
+/// The most nodes that are put one by one.
+const FEW: usize = 8;
+
+/// Puts nodes behind the others, for which there is room.
+#[inline(always)]
+fn put_few(nodes: &mut Vec<StoredNode>, more: &[StoredNode])
+    requires { vec_len nodes.old + length more.now ≤ vec_capacity nodes.old }
+    ensures { nodes.new.items ≡ nodes.old.items ++ more.now }
+{
+    for node in more {
+        nodes.push_reserved(*node);
+    }
+}
+
+/// Adds nodes behind the others. Where there is room for a few, they are put there without a call. Where memory is refused, all stays.
+#[inline(always)]
+fn add_nodes(nodes: &mut Vec<StoredNode>, more: &[StoredNode]) -> Result<(), NoMemory>
+    ensures ok { OnOk result (nodes.new.items ≡ nodes.old.items ++ more.now) }
+    ensures err { OnErr result (nodes.new.items ≡ nodes.old.items) }
+{
+    if more.len() <= FEW && more.len() <= nodes.capacity().saturating_sub(nodes.len()) {
+        put_few(nodes, more);
+        return Ok(());
+    }
+    nodes.extend_from_slice(more)?;
+    Ok(())
+}
+
 /// Adds the loose nodes from a place on behind the others, as one list. Where memory is refused, all stays.
+#[inline(always)]
 pub(crate) fn add_list(
     nodes: &mut Vec<StoredNode>,
     lists: &mut NodeLists,
@@ -110,7 +140,7 @@ pub(crate) fn add_list(
     ensures err_lists { OnErr result (lists.new ≡ lists.old) }
 {
     let before = nodes.len();
-    nodes.extend_from_slice(rest(loose, start))?;
+    add_nodes(nodes, rest(loose, start))?;
     match lists.push(nodes.len()) {
         Ok(()) => Ok(()),
         Err(error) => {

@@ -114,6 +114,7 @@ impl Store {
     }
 
     /// Adds the node of a word.
+    #[inline(always)]
     fn push_word(&mut self, place: u64, name: &[u8]) -> Result<(), NoMemory>
         requires { IsIdentifier name.now }
         ensures ok { OnOk result (self.new ≡ with_loose self.old (record { place = place; shape = WordOf name.now })) }
@@ -124,6 +125,7 @@ impl Store {
     }
 
     /// Adds the node of an integer.
+    #[inline(never)]
     fn push_integer(&mut self, place: u64, value: i64) -> Result<(), NoMemory>
         ensures ok { OnOk result (self.new ≡ with_loose self.old (record { place = place; shape = IntegerOf value })) }
     {
@@ -133,6 +135,7 @@ impl Store {
     }
 
     /// Adds the node of a string.
+    #[inline(never)]
     fn push_string(&mut self, place: u64, text: &[u8]) -> Result<(), NoMemory>
         ensures ok { OnOk result (self.new ≡ with_loose self.old (record { place = place; shape = StringOf text.now })) }
     {
@@ -142,6 +145,7 @@ impl Store {
     }
 
     /// Adds the node of a word, an integer or a string, which is loose.
+    #[inline(always)]
     pub fn push_leaf(&mut self, place: u64, kind: LentKind<'_>) -> Result<(), NoMemory>
         requires leaf { IsLeaf (kind_of kind) }
         requires named { IsNamed kind }
@@ -156,6 +160,7 @@ impl Store {
     }
 
     /// Closes a form, whose arguments are the loose nodes from a place on. Its own node is loose.
+    #[inline(always)]
     pub fn push_form(&mut self, place: u64, start: usize) -> Result<(), NoMemory>
         requires { start ≤ length self.old.loose }
         ensures ok { OnOk result (self.new ≡ with_form self.old place start) }

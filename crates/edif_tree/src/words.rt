@@ -106,12 +106,25 @@ impl Words {
         if let Some(at) = self.found_lately(name, slot) {
             return Ok(at);
         }
+        self.add_to_slot(name, slot)
+    }
+
+    /// The same, whether it came lately or not. It is the word that came last to its slot from now on.
+    #[cold]
+    #[inline(never)]
+    fn add_to_slot(&mut self, name: &[u8], slot: usize) -> Result<usize, NoMemory>
+        requires named { IsIdentifier name.now }
+        requires slot { slot < 1024 }
+        ensures keys { OnOk result (self.new ≡ insert_key (pointwise nat_eq) self.old name.now) }
+        ensures stored { IfOk result (λ at. (k : List ℕ) × (slice_get self.new at ≡ Some k) × (pointwise nat_eq name.now k ≡ true)) }
+        ensures err { OnErr result (self.new ≡ self.old) }
+    {
         let at = self.insert(named(self.alloc, name)?)?;
         self.keep_lately(slot, at);
         Ok(at)
     }
 
-    /// The same, whether it came lately or not.
+    /// The same of a word by itself.
     fn insert(&mut self, name: Ident) -> Result<usize, NoMemory>
         ensures keys { OnOk result (self.new ≡ insert_key (pointwise nat_eq) self.old name) }
         ensures stored { IfOk result (λ at. (k : List ℕ) × (slice_get self.new at ≡ Some k) × (pointwise nat_eq name k ≡ true)) }

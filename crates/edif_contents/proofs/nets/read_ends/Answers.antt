@@ -44,7 +44,7 @@ loop-node-preserved c =
     record {
       can_next = tt;
       is_finite = tt;
-      ends = (b.0 ++ t ∷ [], stepped (all c.args.nodes) b.0 (left c.loop-node.node-iterator) (left c.next.new.self) t b.1 c.in-Some.ensures.steps, rw c.in_ok-push.ensures.items (zip_append R b.0 c.loop-node.ends.items (t ∷ []) (c.in_ok-end.end ∷ []) b.2 (c.in_ok-end.ensures, tt)));
+      ends = (b.0 ++ t ∷ [], stepped (all c.args.nodes) b.0 (left c.loop-node.node-iterator) (left c.next.new.self) t b.1 c.in-Some.ensures.steps, rw c.in_ok-append.ensures.ok (zip_append R b.0 c.loop-node.ends.items (t ∷ []) (c.in_ok-end.end ∷ []) b.2 (c.in_ok-end.ensures, tt)));
     }
 
 pub returns : goal.returns

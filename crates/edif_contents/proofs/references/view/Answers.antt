@@ -10,5 +10,5 @@ returns-then-eq_ignore_ascii_case c = let h = c.eq_ignore_ascii_case.ensures.tes
 
 pub returns-else-eq_ignore_ascii_case : goal.returns-else-eq_ignore_ascii_case
 returns-else-eq_ignore_ascii_case c = let h = c.eq_ignore_ascii_case.ensures.test in view_other (design.view_id c.args.libs.now.libs c.args.id) c.args.name.now (λ e.
-    let q : map to_ascii_lowercase c.as_slice.result.now ≡ map to_ascii_lowercase c.view_name.result.now = ap (map to_ascii_lowercase) c.as_slice.ensures.value ∙ (e ∙ sym (ap (map to_ascii_lowercase) c.view_name.ensures)) in
+    let q : map to_ascii_lowercase c.as_slice-2.result.now ≡ map to_ascii_lowercase c.view_name-known.result.now = ap (map to_ascii_lowercase) c.as_slice-2.ensures.value ∙ (e ∙ sym (ap (map to_ascii_lowercase) c.view_name-known.ensures)) in
     true≢false (sym (h.1 q) ∙ c.if-eq_ignore_ascii_case.false))

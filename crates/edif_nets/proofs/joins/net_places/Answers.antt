@@ -26,7 +26,7 @@ loop-node-preserved c =
       places = (
         b.0 ++ t ∷ [],
         stepped (all c.args.nodes) b.0 (left c.loop-node.node-iterator) (left c.next.new.self) t b.1 c.in-Some.ensures.steps,
-        map_push place_of c.args.places.now.items c.loop-node.places.items c.push.new.self.items b.0 t c.in_ok-place.place b.2 p c.in_ok-push.ensures.items,
+        map_push place_of c.args.places.now.items c.loop-node.places.items c.append.new.list.items b.0 t c.in_ok-place.place b.2 p c.in_ok-append.ensures.ok,
       );
     }
 

@@ -1,0 +1,18 @@
+//! Lists that grow item by item.
+ghost use Rattle.std.specs.Prelude.{◌≡◌, ◌++◌, ◌∷◌, [], OnErr, OnOk};
+
+use netlist_schema::NoMemory;
+
+/// Adds an item behind the others of a list. Where there is room, it is put there without a call. Where memory is refused, the list stays.
+#[inline(always)]
+pub fn append<T: Copy>(list: &mut Vec<T>, item: T) -> Result<(), NoMemory>
+    ensures ok { OnOk result (list.new.items ≡ list.old.items ++ item ∷ []) }
+    ensures err { OnErr result (list.new.items ≡ list.old.items) }
+{
+    if list.len() < list.capacity() {
+        list.push_reserved(item);
+        return Ok(());
+    }
+    list.push(item)?;
+    Ok(())
+}
