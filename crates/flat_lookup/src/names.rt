@@ -7,6 +7,7 @@ use crate::contents::net_at;
 use netlist_schema::{CellId, Net, Port, Shown};
 
 /// The port of this number of a cell, where there is the cell and such a port.
+#[inline(always)]
 fn port_in<S: Shown>(design: &S, cell: Option<CellId>, place: u32) -> Option<&Port>
     ensures { option_copied result ≡ port_of_cell (S.design design.now) cell place }
 {
@@ -20,6 +21,7 @@ fn port_in<S: Shown>(design: &S, cell: Option<CellId>, place: u32) -> Option<&Po
 }
 
 /// The net of this number of a cell, where there is the cell and such a net.
+#[inline(always)]
 fn net_in<S: Shown>(design: &S, cell: Option<CellId>, place: u32) -> Option<&Net>
     ensures { option_copied result ≡ option_and_then (λ id. slice_get (nets_at (S.design design.now) id) place) cell }
 {

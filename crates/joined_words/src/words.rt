@@ -16,6 +16,19 @@ fn room_for(words: &[&[u8]]) -> Option<usize>
     Some(room)
 }
 
+/// Writes a word at a place. A single byte is put there without a call.
+#[inline(always)]
+fn put_bytes(word: &[u8], at: usize, line: &mut [u8])
+    requires { at + length word.now ≤ length line.old }
+    ensures long { length line.new ≡ length line.old }
+    ensures text { take (at + length word.now) line.new ≡ take at line.old ++ word.now }
+{
+    match word {
+        [only] => line[at] = *only,
+        _ => line[at..at + word.len()].copy_from_slice(word),
+    }
+}
+
 /// Writes a word and a byte behind it at a place, and tells the place behind them.
 #[inline(always)]
 fn put_word(word: &[u8], byte: u8, at: usize, line: &mut [u8]) -> usize
@@ -24,8 +37,8 @@ fn put_word(word: &[u8], byte: u8, at: usize, line: &mut [u8]) -> usize
     ensures long { length line.new ≡ length line.old }
     ensures text { take result line.new ≡ take at line.old ++ (word.now ++ byte ∷ []) }
 {
+    put_bytes(word, at, line);
     let end = at + word.len();
-    line[at..end].copy_from_slice(word);
     line[end] = byte;
     end + 1
 }
