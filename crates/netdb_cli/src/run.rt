@@ -287,6 +287,9 @@ fn run_command<R: Threads + Wait + Sync, F: Files, K: Sink, G: Gate + Sync>(
 /// The files of the words are read in their order, each once and to its end, within its limit, up to the one that the status is about, if
 /// it is about one: that is not there, or a call on it failed, or it was read to one byte past its limit, or to its end. No other file is
 /// asked for; `gen` asks for none.
+///
+/// The memory of the design that `write`, `flat`, `csv` or `erc` read is kept to the end of the process, since a program ends behind its one
+/// command.
 pub fn run_netdb<R: Threads + Wait + Sync, F: Files, K: Sink, G: Gate + Sync>(
     rt: &R,
     alloc: Global,
