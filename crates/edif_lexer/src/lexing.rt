@@ -194,7 +194,8 @@ impl Lexer {
     }
 
     /// The next byte of the text, whatever it is.
-    #[inline(always)]
+    #[cold]
+    #[inline(never)]
     fn step<S: Tokens>(&mut self, byte: u8, out: &mut S) -> Result<(), LexError>
         ensures { (gained : List Token) × Gains S.took out.old out.new gained
             × Advances Anything self.old (byte ∷ []) self.new gained result }
@@ -324,6 +325,19 @@ impl Lexer {
         Ok(1)
     }
 
+    /// The next byte of the text, alone, where no token has begun.
+    #[inline(always)]
+    fn first_byte<S: Tokens>(&mut self, rest: &[u8], out: &mut S) -> Result<usize, LexError>
+        requires some { 0 < length rest.now }
+        requires between { self.old.pending ≡ [] }
+        ensures read { (gained : List Token) × Gains S.took out.old out.new gained
+            × ReadsFront self.old rest.now self.new gained result }
+        ensures some { IfOk result (λ count. (0 < count) × (count ≤ length rest.now)) }
+    {
+        self.begin(rest[0], out)?;
+        Ok(1)
+    }
+
     /// The next bytes of the text, of which there is one at least: how many were read. Bytes of one word or string and blanks are read
     /// together.
     #[inline(always)]
@@ -333,8 +347,8 @@ impl Lexer {
             × ReadsFront self.old rest.now self.new gained result }
         ensures some { IfOk result (λ count. (0 < count) × (count ≤ length rest.now)) }
     {
-        if is_paren(rest[0]) {
-            return self.one_byte(rest, out);
+        if is_paren(rest[0]) && self.pending.is_empty() {
+            return self.first_byte(rest, out);
         }
         let passed = self.passed(rest);
         if passed > 0 {

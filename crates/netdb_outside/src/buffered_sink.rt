@@ -50,6 +50,7 @@ impl BufferedSink {
     }
 
     /// Whether something has failed.
+    #[inline(always)]
     pub fn is_stuck(&self) -> bool
         ensures { result ≡ is_some self.now.failure }
     {
@@ -57,6 +58,7 @@ impl BufferedSink {
     }
 
     /// Writes bytes as they are. Those that are enough for a piece are not copied: what waits is put before them.
+    #[inline(always)]
     pub fn put<K: Sink>(&mut self, bytes: &[u8], out: &mut K)
         ensures { Writes K.written K.faults out.old self.old out.new self.new bytes.now }
     {
@@ -68,6 +70,7 @@ impl BufferedSink {
     }
 
     /// Lets bytes wait behind the others.
+    #[inline(always)]
     fn put_behind<K: Sink>(&mut self, bytes: &[u8], out: &mut K)
         ensures { Writes K.written K.faults out.old self.old out.new self.new bytes.now }
     {
@@ -81,6 +84,8 @@ impl BufferedSink {
     }
 
     /// Puts what waits, and then these bytes.
+    #[cold]
+    #[inline(never)]
     fn put_through<K: Sink>(&mut self, bytes: &[u8], out: &mut K)
         ensures { Writes K.written K.faults out.old self.old out.new self.new bytes.now }
     {
@@ -125,6 +130,7 @@ impl BufferedSink {
     }
 
     /// Puts what waits, where it is enough for a piece.
+    #[inline(always)]
     fn pass_on<K: Sink>(&mut self, out: &mut K)
         ensures { Writes K.written K.faults out.old self.old out.new self.new [] }
     {
@@ -134,6 +140,7 @@ impl BufferedSink {
     }
 
     /// Puts what waits, where nothing has failed.
+    #[inline(never)]
     fn flush<K: Sink>(&mut self, out: &mut K)
         ensures written { Writes K.written K.faults out.old self.old out.new self.new [] }
         ensures empty { self.new.failure ≡ None → self.new.waiting ≡ [] }
