@@ -1,6 +1,5 @@
 //! Places in the order of names.
 ghost use Rattle.std.specs.Prelude.{◌≡◌, ◌<◌, ◌^◌, ℕ, IfOk, List, length, map, slice_get};
-ghost use Rattle.std.specs.Option.{option_copied};
 ghost use Rattle.netlist_schema.specs.Names.{AreDistinct};
 ghost use Rattle.edit_rules_spec.specs.Find.{place_of};
 ghost use Rattle.ask_names.specs.Orders.{AreInOrder, ArePlaces, IsSearched, cmp_at, cmp_to, name_at};

@@ -1,26 +1,24 @@
 -- The laws, with and without a top.
-use Rattle.std.proofs.Common.{◌≡◌, ◌<◌, ◌↔◌, ℕ, List, [], ◌∷◌, length, Option, Some, None, refl, sym, ap, subst, ◌∙◌}
-use Rattle.std.specs.Prelude.{option_and_then, filter}
+use Rattle.std.proofs.Common.{◌≡◌, ◌<◌, ℕ, List, [], length, Option, Some, None, refl, sym, ap, subst, ◌∙◌}
+use Rattle.std.specs.Prelude.{option_and_then}
 use Rattle.std.specs.List.{Contains, flat_map}
 use Rattle.std.specs.Option.{option_map, option_map_or}
 use Rattle.std.proofs.lemmas.Option.{same_Some}
 use Rattle.netlist_schema.specs.Design.{Design}
-use Rattle.netlist_schema.specs.Types.{CellId, TopHead}
-use Rattle.netlist_schema.specs.Valid.{IsValid}
+use Rattle.netlist_schema.specs.Types.{TopHead}
 use Rattle.flat_spec.specs.Effective.{effective}
 use Rattle.flat_spec.specs.Flattening.{flattening, items_of}
 use Rattle.flat_spec.specs.Occurrences.{occurrences}
-use Rattle.flat_spec.specs.Paths.{Bit, IsNet, Reaches, at_path, cell_along}
+use Rattle.flat_spec.specs.Paths.{Bit, at_path}
 use Rattle.flat_spec.specs.Pins.{net_at_pin}
 use Rattle.flat_spec.specs.Representatives.{representative}
-use Rattle.flat_spec.specs.Types.{Item, NetAt}
+use Rattle.flat_spec.specs.Types.{Item}
 use Rattle.flat_spec.specs.declared.item.Item.TheVariants.{Enter, Net, Pin}
 use Rattle.flat_spec.proofs.ListLemmas.{Contains-member, Member, Member-contains, Member-from_filter}
-use Rattle.flat_spec.proofs.PathLemmas.{IsNet-from, IsNet-parts, Some-same}
+use Rattle.flat_spec.proofs.PathLemmas.{IsNet-from, IsNet-parts}
 use Rattle.erc_spec.specs.Drives.{is_at}
 use Rattle.erc_spec.proofs.ItemLemmas.{pin_from, pin_there}
 use Rattle.ask_spec.specs.Nets.{first_of, net_of, pins_of}
-use Rattle.ask_spec.specs.Places.{at, bits_of, nets_of}
 use Rattle.ask_spec.specs.Told.{NetsAreTold, OccurrencesAreTold, OnlyPinsAreThere, PinsAreParted, PinsAreTold}
 use Rattle.ask_spec.proofs.ClassLemmas.{at_pin, first_is, named_is_first, pin_is_of}
 use Rattle.ask_spec.proofs.ItemLemmas.{enter_from, enter_there, net_from, net_there}

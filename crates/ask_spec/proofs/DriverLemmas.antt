@@ -1,13 +1,13 @@
 -- Drivers and loads, and what the electrical check says of them.
-use Rattle.std.proofs.Common.{◌≡◌, ◌⊎◌, ℕ, List, [], ◌∷◌, Bool, true, false, ◌&&◌, ◌||◌, cond, Option, Some, None, refl, sym, ap, subst, ◌∙◌, inl, inr}
-use Rattle.std.specs.Prelude.{filter, not}
+use Rattle.std.proofs.Common.{◌≡◌, ℕ, List, [], ◌∷◌, Bool, true, false, ◌&&◌, ◌||◌, cond, Option, Some, None, refl, sym, ap, subst, ◌∙◌, inl, inr}
+use Rattle.std.specs.Prelude.{filter}
 use Rattle.std.specs.List.{Contains, list_any}
 use Rattle.std.proofs.lemmas.Bool.{cases_Bool, false≢true, not_from_false, not_from_true, or_left, or_right, true≢false}
 use Rattle.netlist_schema.specs.Design.{Design}
-use Rattle.netlist_schema.specs.Types.{Direction, TopHead}
+use Rattle.netlist_schema.specs.Types.{Direction}
 use Rattle.netlist_schema.specs.declared.cell.Direction.TheVariants.{Input, Output, Inout}
 use Rattle.flat_spec.specs.Flattening.{flattening}
-use Rattle.flat_spec.specs.Types.{Item, NetAt}
+use Rattle.flat_spec.specs.Types.{Item}
 use Rattle.flat_spec.specs.declared.item.Item.TheVariants.{Enter, Net, Pin}
 use Rattle.flat_spec.proofs.ListLemmas.{Contains-member, Member, Member-contains, Member-filter, Member-from_filter}
 use Rattle.erc_spec.specs.Drives.{direction_at, is_at, is_either, is_strong, is_strong_port, is_weak}

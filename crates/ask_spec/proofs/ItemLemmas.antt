@@ -1,13 +1,12 @@
 -- Occurrences and nets among the items of a flattening.
-use Rattle.std.proofs.Common.{◌≡◌, ◌<◌, ℕ, List, ◌++◌, length, map, refl, sym, ap, subst, ◌∙◌, inl, inr}
-use Rattle.std.specs.Option.{option_map_or}
-use Rattle.netlist_schema.specs.Design.{Design, cell_at}
+use Rattle.std.proofs.Common.{◌≡◌, ℕ, List, map, refl, sym, ap, subst, ◌∙◌, inl, inr}
+use Rattle.netlist_schema.specs.Design.{Design}
 use Rattle.netlist_schema.specs.Hierarchy.{NoCellIsBelowItself}
 use Rattle.netlist_schema.specs.Types.{CellId, Property, TopHead}
 use Rattle.std.proofs.Common.{Some}
 use Rattle.flat_spec.specs.Effective.{effective}
 use Rattle.flat_spec.specs.Flattening.{flattening, items_of, net_item, pin_item}
-use Rattle.flat_spec.specs.Occurrences.{Occurrence, nets, occurrences, own_nets}
+use Rattle.flat_spec.specs.Occurrences.{Occurrence, occurrences, own_nets}
 use Rattle.flat_spec.specs.Paths.{IsNet, Reaches, at_path}
 use Rattle.flat_spec.specs.Representatives.{representative}
 use Rattle.flat_spec.specs.Types.{Item, NetAt}

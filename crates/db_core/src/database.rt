@@ -1,5 +1,5 @@
 //! `Core`: the database of one thread.
-ghost use Rattle.std.specs.Prelude.{◌≡◌, ℕ, [], ◌+◌, ◌<◌, ◌≤◌, ◌↔◌, length, IfErr, IfOk, IfSome, IsNone, IsTrue, MatchOption, OnErr, OnOk};
+ghost use Rattle.std.specs.Prelude.{◌≡◌, [], ◌+◌, ◌<◌, ◌≤◌, ◌↔◌, length, IfErr, IfOk, IfSome, IsNone, IsTrue, MatchOption, OnErr, OnOk};
 ghost use Rattle.netlist_schema.specs.Valid.{IsValid};
 ghost use Rattle.db_spec.specs.State.{IsLive, changed, head};
 ghost use Rattle.db_spec.specs.Answers.{Admits, HasPlaces, HasNoConflict, IsConflict, IsKept, IsLeastKept, most_events};

@@ -1,5 +1,5 @@
 -- The pins of a pass over each call.
-use Rattle.std.proofs.Common.{◌≡◌, ◌≢◌, ℕ, Result, Ok, Err, sym}
+use Rattle.std.proofs.Common.{◌≡◌, ◌≢◌, ℕ, Result, Ok, Err}
 use Rattle.edit_tx.specs.Facts.{PinFacts, TxFacts}
 use Rattle.db_spec.specs.declared.event.Answer.{Answer}
 use Rattle.db_spec.specs.declared.event.Call.{Call}

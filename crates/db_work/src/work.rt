@@ -1,14 +1,13 @@
 //! `Work`: a version that is edited.
-ghost use Rattle.std.specs.Prelude.{◌≡◌, ◌≤◌, [], not, length, slice_get, IfOk, IfSome};
-ghost use Rattle.std.specs.List.{list_any};
+ghost use Rattle.std.specs.Prelude.{◌≡◌, ◌≤◌, [], length, IfOk, IfSome};
 ghost use Rattle.std.specs.Option.{option_copied, option_map};
-ghost use Rattle.netlist_schema.specs.Design.{Design, cell_at, cells_in};
-ghost use Rattle.netlist_schema.specs.Names.{AreDistinct, cell_names};
+ghost use Rattle.netlist_schema.specs.Design.{cell_at, cells_in};
+ghost use Rattle.netlist_schema.specs.Names.{AreDistinct};
 ghost use Rattle.netlist_schema.specs.Valid.{IsValidCell};
 ghost use Rattle.netlist_schema.specs.declared.limits.TheConstants.{MOST_CELLS, MOST_PORTS};
 ghost use Rattle.edit_rules_spec.specs.Seen.{contents_at};
 ghost use Rattle.edit_cells.specs.Parts.{HasLimits, seen_at, shown_by};
-ghost use Rattle.edit_rules_spec.specs.Find.{cell_in, is_same};
+ghost use Rattle.edit_rules_spec.specs.Find.{cell_in};
 
 use db_draft::Draft;
 use db_version::{Snapshot, Version};

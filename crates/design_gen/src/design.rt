@@ -1,9 +1,9 @@
 //! The design.
-ghost use Rattle.std.specs.Prelude.{◌≡◌, ◌≤◌, [], ◌∷◌, IfOk, true};
+ghost use Rattle.std.specs.Prelude.{◌≡◌, ◌≤◌, IfOk, true};
 ghost use Rattle.netlist_schema.specs.Design.{insts_of, nets_of};
 ghost use Rattle.design_gen.specs.Letters.{are_letters};
 ghost use Rattle.flat_spec.specs.ExampleParts.{named, own_port, on_port};
-ghost use Rattle.gen_spec.specs.Generated.{cell, generated, inverter_at, inverters, net_at, left_end, right_end, pair, row, row_nets};
+ghost use Rattle.gen_spec.specs.Generated.{cell, generated, inverters, left_end, right_end, pair, row, row_nets};
 ghost use Rattle.gen_spec.specs.declared.limits.TheConstants.{MOST_SIZE};
 
 use crate::parts::{cell, inst, letters, name, net, numbered};

@@ -4,13 +4,11 @@ use Rattle.netlist_schema.specs.Design.{Design, insts_in, port_width}
 use Rattle.netlist_schema.specs.Types.{CellId, Contents, End, Object, Port}
 use Rattle.netlist_schema.specs.declared.limits.TheConstants.{MOST_ENDS}
 use Rattle.edit_rules_spec.specs.Find.{inst_named, port_place, port_named}
-use Rattle.edit_spec.specs.Cut.{not_joined}
-use Rattle.edit_spec.specs.Ends.{bad_bit, end_named, ends_in, no_end_inst, no_port}
+use Rattle.edit_spec.specs.Ends.{ends_in}
 use Rattle.edit_spec.specs.Join.{already_joined}
 use Rattle.edit_rules_spec.specs.Rule.{too_many}
 use Rattle.edit_rules_spec.specs.Seen.{contents_at, ports_seen}
 use Rattle.edit_rules_spec.specs.Objects.{face_at, face_object}
-use Rattle.edit_rules_spec.specs.declared.reply.EndName.{EndName}
 use Rattle.edit_rules_spec.specs.declared.reply.Reply.{Reply}
 use Rattle.eco_ops.specs.declared.end_plans.PortAt.{PortAt}
 

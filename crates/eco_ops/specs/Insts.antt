@@ -1,13 +1,9 @@
 -- One more instance.
-use Rattle.std.specs.Prelude.{ℕ, Bool, not, List, [], ◌∷◌, Option, length}
+use Rattle.std.specs.Prelude.{ℕ, Bool, not, List, Option}
 use Rattle.netlist_schema.specs.Design.{Design, insts_in, nets_in}
 use Rattle.netlist_schema.specs.Types.{CellId, Contents, Note}
-use Rattle.netlist_schema.specs.declared.limits.TheConstants.{MOST_INSTS}
 use Rattle.edit_rules_spec.specs.Paths.{goes_through}
-use Rattle.edit_rules_spec.specs.Rule.{is_leaf, refuse, too_many}
-use Rattle.edit_spec.specs.AddInst.{taken_inst, with_inst}
-use Rattle.edit_rules_spec.specs.declared.reply.Reply.{Reply}
-use Rattle.edit_rules_spec.specs.declared.reply.Reply.TheVariants.{IsCyclic, LaterLibrary}
+use Rattle.edit_spec.specs.AddInst.{with_inst}
 
 -- the contents with one more
 abbrev pub more_insts : List ℕ → CellId → Option Contents → Contents

@@ -1,5 +1,5 @@
 //! Ends that are planned.
-ghost use Rattle.std.specs.Prelude.{◌≡◌, ◌≤◌, ◌<◌, ◌⊎◌, ◌++◌, [], ◌∷◌, filter, not, OnOk, None, IfOk, IfSome, List, MatchResult, Option, Some, length, option_map, option_and_then, position, false};
+ghost use Rattle.std.specs.Prelude.{◌≡◌, ◌≤◌, ◌<◌, ◌++◌, [], ◌∷◌, filter, not, OnOk, None, IfOk, IfSome, List, MatchResult, Option, Some, length, option_map, option_and_then, position, false};
 ghost use Rattle.std.specs.List.{flat_map};
 ghost use Rattle.std.specs.Option.{option_copied};
 ghost use Rattle.netlist_schema.specs.Design.{insts_in, nets_in};
@@ -12,15 +12,12 @@ ghost use Rattle.flat_spec.specs.ConnectionTest.{same_end};
 ghost use Rattle.edit_spec.specs.Join.{net_with_end, no_join, with_end};
 ghost use Rattle.edit_rules_spec.specs.Edit.{changed_at};
 ghost use Rattle.edit_rules_spec.specs.Find.{inst_place};
-ghost use Rattle.edit_rules_spec.specs.Seen.{contents_at};
 ghost use Rattle.edit_rules_spec.specs.Rule.{first, refuse};
 ghost use Rattle.edit_rules_spec.specs.declared.reply.Reply.TheVariants.{NoInst};
-ghost use Rattle.edit_cells.specs.Parts.{HasLimits, IsInside};
-ghost use Rattle.edit_cells.specs.State.{HasRead, HasReadSome};
-ghost use Rattle.eco_reads.specs.Done.{IsDoneOrFails};
+ghost use Rattle.edit_cells.specs.Parts.{HasLimits};
 ghost use Rattle.eco_reads.specs.Outcome.{UnlessNoMemory};
 ghost use Rattle.eco_reads.specs.Plan.{IsPlanned};
-ghost use Rattle.eco_ops.specs.Ends.{IsFaceAt, cell_of_end, end_ports_at, no_more_end, port_in, seen_port};
+ghost use Rattle.eco_ops.specs.Ends.{cell_of_end, no_more_end, port_in, seen_port};
 
 use eco_reads::{OpError, Plan, inst_place, net_place, port_place};
 use edit_cells::Face;

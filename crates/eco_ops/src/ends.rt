@@ -1,23 +1,10 @@
 //! Operations on ends.
-ghost use Rattle.std.specs.Prelude.{◌≡◌, ◌≤◌, ◌<◌, ◌⊎◌, ◌++◌, [], ◌∷◌, filter, not, OnOk, None, IfOk, IfSome, List, MatchResult, Option, Some, length, option_map, option_and_then, position};
-ghost use Rattle.std.specs.List.{flat_map};
-ghost use Rattle.std.specs.Option.{option_copied};
-ghost use Rattle.netlist_schema.specs.Design.{insts_in, nets_in};
-ghost use Rattle.netlist_schema.specs.Names.{AreDistinct};
-ghost use Rattle.netlist_schema.specs.Types.{Port};
-ghost use Rattle.edit_spec.specs.Cut.{is_end, net_without_end, not_joined, without_end, no_cut};
-ghost use Rattle.edit_spec.specs.Ends.{bad_bit, end_inst, end_named, joins_end, no_end_inst, no_port};
-ghost use Rattle.edit_spec.specs.Join.{net_with_end, no_join, with_end};
-ghost use Rattle.edit_rules_spec.specs.Edit.{changed_at};
-ghost use Rattle.edit_rules_spec.specs.Find.{inst_place};
+ghost use Rattle.std.specs.Prelude.{◌≡◌, ◌<◌, ◌⊎◌, None, IfOk, MatchResult, Option, Some, option_map, option_and_then};
 ghost use Rattle.edit_rules_spec.specs.Seen.{contents_at};
-ghost use Rattle.edit_rules_spec.specs.Rule.{first, refuse};
-ghost use Rattle.edit_rules_spec.specs.declared.reply.Reply.TheVariants.{NoInst};
-ghost use Rattle.edit_cells.specs.Parts.{HasLimits, IsInside};
+ghost use Rattle.edit_cells.specs.Parts.{IsInside};
 ghost use Rattle.edit_cells.specs.State.{HasRead, HasReadSome};
 ghost use Rattle.eco_reads.specs.Outcome.{IsDoneOrRefused};
-ghost use Rattle.eco_reads.specs.Plan.{IsPlanned};
-ghost use Rattle.eco_ops.specs.Ends.{IsFaceAt, cell_of_end, end_ports_at, no_more_end, port_in, seen_port};
+ghost use Rattle.eco_ops.specs.Ends.{IsFaceAt, cell_of_end, end_ports_at, port_in, seen_port};
 
 use crate::end_plans::{PortAt, cell_of_end, plan_cut, plan_join, port_of};
 use eco_reads::{OpError, put_plan, read_named};

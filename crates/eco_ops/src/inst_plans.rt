@@ -1,20 +1,12 @@
 //! Instances that are planned, and contents without one.
-ghost use Rattle.std.specs.Prelude.{◌≡◌, ◌++◌, [], ◌∷◌, false, filter, OnOk, IfOk, IfSome, List, MatchResult, Some, map, option_map, option_to_list, slice_get, slice_set};
+ghost use Rattle.std.specs.Prelude.{◌≡◌, [], ◌∷◌, false, OnOk, IfOk, IfSome, Some, map, option_to_list, slice_get, slice_set};
 ghost use Rattle.std.specs.Option.{option_copied};
-ghost use Rattle.netlist_schema.specs.Design.{insts_in, nets_in};
-ghost use Rattle.netlist_schema.specs.declared.ids.Object.TheVariants.{Notes};
-ghost use Rattle.edit_rules_spec.specs.Edit.{noted};
-ghost use Rattle.edit_rules_spec.specs.Reading.{IsForNotes, IsReached, IsReachedBy};
 ghost use Rattle.edit_spec.specs.AddInst.{new_inst, no_new_inst};
-ghost use Rattle.edit_spec.specs.DropInst.{end_without_inst, net_without_inst, set_notes, without_inst};
-ghost use Rattle.edit_rules_spec.specs.Rule.{first, is_leaf, no_inst, too_many};
-ghost use Rattle.edit_rules_spec.specs.Notes.{other_notes};
-ghost use Rattle.edit_spec.specs.Typed.{IsTypedOp};
+ghost use Rattle.edit_spec.specs.DropInst.{end_without_inst, net_without_inst, without_inst};
+ghost use Rattle.edit_rules_spec.specs.Rule.{first, no_inst};
 ghost use Rattle.edit_cells.specs.Parts.{HasLimits};
-ghost use Rattle.edit_cells.specs.State.{HasRead, HasReadSome};
-ghost use Rattle.eco_reads.specs.Done.{IsDoneOrFails};
 ghost use Rattle.eco_reads.specs.Outcome.{UnlessNoMemory};
-ghost use Rattle.eco_ops.specs.Insts.{is_other, more_insts};
+ghost use Rattle.eco_ops.specs.Insts.{more_insts};
 ghost use Rattle.eco_reads.specs.Plan.{IsPlanned};
 
 use eco_reads::{OpError, Plan, inst_place, is_inst_taken};

@@ -1,24 +1,18 @@
 //! Operations on instances.
-ghost use Rattle.std.specs.Prelude.{◌≡◌, ◌++◌, [], ◌∷◌, Bool, cond, filter, length, map, not, OnOk, IfOk, IfSome, List, MatchResult, Some, option_map, option_to_list};
+ghost use Rattle.std.specs.Prelude.{◌≡◌, ◌++◌, [], ◌∷◌, Bool, cond, filter, length, map, not, OnOk, IfOk, MatchResult, Some, option_map, option_to_list};
 ghost use Rattle.std.specs.List.{list_all};
 ghost use Rattle.edit_rules_spec.specs.Paths.{goes_through};
 ghost use Rattle.netlist_schema.specs.Types.{Note as Note'};
-ghost use Rattle.std.specs.Option.{option_copied};
-ghost use Rattle.netlist_schema.specs.Design.{insts_in, nets_in};
 ghost use Rattle.netlist_schema.specs.declared.ids.Object.TheVariants.{Notes};
 ghost use Rattle.edit_rules_spec.specs.Edit.{noted};
 ghost use Rattle.edit_rules_spec.specs.Reading.{IsForNotes, IsReached, IsReachedBy};
-ghost use Rattle.edit_spec.specs.AddInst.{new_inst, no_new_inst};
-ghost use Rattle.edit_spec.specs.DropInst.{end_without_inst, net_without_inst, set_notes, without_inst};
-ghost use Rattle.edit_rules_spec.specs.Rule.{first, is_leaf, no_inst, too_many};
+ghost use Rattle.edit_spec.specs.DropInst.{set_notes, without_inst};
 ghost use Rattle.edit_rules_spec.specs.Notes.{other_notes};
 ghost use Rattle.edit_spec.specs.Typed.{IsTypedOp};
-ghost use Rattle.edit_cells.specs.Parts.{HasLimits};
 ghost use Rattle.edit_cells.specs.State.{HasRead, HasReadSome};
 ghost use Rattle.eco_reads.specs.Outcome.{IsDoneOrRefused};
 ghost use Rattle.eco_reads.specs.Named.{AreNamed};
-ghost use Rattle.eco_ops.specs.Insts.{is_other, more_insts};
-ghost use Rattle.eco_reads.specs.Plan.{IsPlanned};
+ghost use Rattle.eco_ops.specs.Insts.{is_other};
 
 use crate::inst_plans::{plan_inst, without_inst};
 use eco_reads::{

@@ -1,13 +1,6 @@
 //! Adding cells.
-ghost use Rattle.std.specs.Prelude.{◌≡◌, ◌≤◌, IfOk, codes, length, map, not, sum_by};
-ghost use Rattle.std.specs.List.{list_any};
-ghost use Rattle.netlist_schema.specs.Design.{port_width};
-ghost use Rattle.edit_rules_spec.specs.Find.{is_same};
-ghost use Rattle.edit_rules_spec.specs.Rule.{first};
-ghost use Rattle.edit_spec.specs.AddCell.{has_twice, new_cell, new_port, no_new_cell};
 ghost use Rattle.edit_spec.specs.Typed.{IsTypedOp};
 ghost use Rattle.eco_reads.specs.Outcome.{IsDoneOrRefused};
-ghost use Rattle.eco_plans.specs.Add.{IsCellPlanned};
 
 use crate::cell_plans::plan_cell;
 use eco_reads::{OpError, write_one};

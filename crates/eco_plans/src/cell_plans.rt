@@ -6,8 +6,6 @@ ghost use Rattle.netlist_schema.specs.declared.limits.TheConstants.{MOST_PORTS, 
 ghost use Rattle.edit_rules_spec.specs.Find.{is_same};
 ghost use Rattle.edit_rules_spec.specs.Rule.{first};
 ghost use Rattle.edit_spec.specs.AddCell.{has_twice, new_cell, new_port, no_new_cell};
-ghost use Rattle.edit_spec.specs.Typed.{IsTypedOp};
-ghost use Rattle.eco_reads.specs.Done.{IsDoneOrFails};
 ghost use Rattle.eco_reads.specs.Outcome.{UnlessNoMemory};
 ghost use Rattle.eco_plans.specs.Add.{IsCellPlanned};
 

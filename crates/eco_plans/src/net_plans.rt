@@ -6,8 +6,6 @@ ghost use Rattle.edit_rules_spec.specs.Rule.{first};
 ghost use Rattle.edit_spec.specs.AddNet.{new_net, no_new_net, with_net};
 ghost use Rattle.edit_spec.specs.DropNet.{without_net};
 ghost use Rattle.edit_spec.specs.Inside.{no_net};
-ghost use Rattle.edit_spec.specs.Typed.{IsTypedOp};
-ghost use Rattle.eco_reads.specs.Done.{IsDoneOrFails};
 ghost use Rattle.eco_reads.specs.Outcome.{UnlessNoMemory};
 ghost use Rattle.eco_reads.specs.Plan.{IsPlanned};
 

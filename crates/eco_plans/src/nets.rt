@@ -1,14 +1,7 @@
 //! Operations on nets.
-ghost use Rattle.std.specs.Prelude.{◌≡◌, IfOk, [], ◌∷◌};
-ghost use Rattle.std.specs.Option.{option_copied};
-ghost use Rattle.netlist_schema.specs.Design.{insts_in, nets_in};
-ghost use Rattle.edit_rules_spec.specs.Rule.{first};
-ghost use Rattle.edit_spec.specs.AddNet.{new_net, no_new_net, with_net};
 ghost use Rattle.edit_spec.specs.DropNet.{without_net};
-ghost use Rattle.edit_spec.specs.Inside.{no_net};
 ghost use Rattle.edit_spec.specs.Typed.{IsTypedOp};
 ghost use Rattle.eco_reads.specs.Outcome.{IsDoneOrRefused};
-ghost use Rattle.eco_reads.specs.Plan.{IsPlanned};
 
 use crate::net_plans::{plan_net, without_net};
 use eco_reads::{OpError, put_plan, read_named};

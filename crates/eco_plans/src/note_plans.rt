@@ -1,13 +1,11 @@
 //! Notes that are planned.
 ghost use Rattle.edit_spec.specs.SetNote.{note_set};
 ghost use Rattle.edit_spec.specs.DropNote.{note_dropped, no_note_dropped};
-ghost use Rattle.std.specs.Prelude.{◌≡◌, ◌<◌, ◌&&◌, IfOk, IfSome, length, nat_eq, position};
+ghost use Rattle.std.specs.Prelude.{◌≡◌, ◌<◌, ◌&&◌, IfSome, length, nat_eq, position};
 ghost use Rattle.std.specs.Cmp.Lexicographic.{pointwise};
 ghost use Rattle.edit_rules_spec.specs.Find.{is_name};
 ghost use Rattle.edit_rules_spec.specs.Rule.{first};
 ghost use Rattle.edit_rules_spec.specs.Notes.{note_place};
-ghost use Rattle.edit_spec.specs.Typed.{IsTypedOp};
-ghost use Rattle.eco_reads.specs.Done.{IsDoneOrFails};
 ghost use Rattle.eco_reads.specs.Outcome.{UnlessNoMemory};
 ghost use Rattle.eco_reads.specs.Plan.{AreNotesPlanned};
 ghost use Rattle.eco_plans.specs.Notes.{no_note_set};

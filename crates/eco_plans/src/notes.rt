@@ -1,15 +1,7 @@
 //! Operations on notes.
-ghost use Rattle.edit_spec.specs.SetNote.{note_set};
-ghost use Rattle.edit_spec.specs.DropNote.{note_dropped, no_note_dropped};
-ghost use Rattle.std.specs.Prelude.{◌≡◌, ◌<◌, ◌&&◌, IfOk, IfSome, length, nat_eq, position};
-ghost use Rattle.std.specs.Cmp.Lexicographic.{pointwise};
-ghost use Rattle.edit_rules_spec.specs.Find.{is_name};
-ghost use Rattle.edit_rules_spec.specs.Rule.{first};
-ghost use Rattle.edit_rules_spec.specs.Notes.{note_place};
+ghost use Rattle.std.specs.Prelude.{◌<◌};
 ghost use Rattle.edit_spec.specs.Typed.{IsTypedOp};
 ghost use Rattle.eco_reads.specs.Outcome.{IsDoneOrRefused};
-ghost use Rattle.eco_reads.specs.Plan.{AreNotesPlanned};
-ghost use Rattle.eco_plans.specs.Notes.{no_note_set};
 
 use crate::note_plans::{with_note, without_note};
 use eco_reads::{OpError, leads, put_notes};

@@ -1,14 +1,6 @@
 //! Setting properties.
-ghost use Rattle.std.specs.Prelude.{◌≡◌, [], ◌∷◌, IfOk, IfSome};
-ghost use Rattle.std.specs.Option.{option_copied, option_map_or};
-ghost use Rattle.edit_rules_spec.specs.Rule.{first, no_inst};
-ghost use Rattle.edit_spec.specs.Inside.{no_net};
-ghost use Rattle.edit_spec.specs.SetProp.{set_property};
 ghost use Rattle.edit_spec.specs.Typed.{IsTypedOp};
-ghost use Rattle.edit_cells.specs.Parts.{HasLimits};
 ghost use Rattle.eco_reads.specs.Outcome.{IsDoneOrRefused};
-ghost use Rattle.eco_reads.specs.Plan.{IsPlanned};
-ghost use Rattle.eco_plans.specs.Props.{insts_set, nets_set};
 
 use crate::property_plans::{plan_inst_property, plan_net_property, with_own_property};
 use eco_reads::{OpError, put_plan, read_named, write_one};

@@ -1,19 +1,15 @@
 //! What is shown.
-ghost use Rattle.std.specs.Prelude.{◌≡◌, ◌≤◌, ◌++◌, [], ◌∷◌, IfOk, IfSome, MatchOption, MatchResult, OnOk, None, Some, is_none, length, map, option_and_then, option_map, option_to_list, slice_get};
-ghost use Rattle.std.specs.List.{flat_map};
+ghost use Rattle.std.specs.Prelude.{◌≡◌, ◌≤◌, ◌++◌, [], ◌∷◌, IfOk, IfSome, MatchOption, OnOk, None, Some, is_none, length, map, option_and_then, option_map, option_to_list, slice_get};
 ghost use Rattle.std.specs.Option.{option_copied, option_map_or};
 ghost use Rattle.netlist_schema.specs.Design.{insts_in, nets_in};
 ghost use Rattle.netlist_schema.specs.declared.limits.TheConstants.{MOST_PORTS};
 ghost use Rattle.edit_rules_spec.specs.Find.{inst_named};
-ghost use Rattle.edit_rules_spec.specs.Objects.{cell_name_at};
 ghost use Rattle.edit_rules_spec.specs.Rule.{first};
 ghost use Rattle.edit_rules_spec.specs.declared.reply.Reply.TheVariants.{NoNet};
 ghost use Rattle.edit_spec.specs.Inside.{no_net};
 ghost use Rattle.edit_spec.specs.ShowNet.{ends_of_net};
-ghost use Rattle.edit_cells.specs.Parts.{HasLimits, IsFace, seen_at};
-ghost use Rattle.edit_cells.specs.State.{HasRead, HasReadSome};
-ghost use Rattle.eco_reads.specs.Done.{IsDoneOrFails};
-ghost use Rattle.eco_plans.specs.Shown.{AreFacesOf, end_seen, ends_seen, seen_end, seen_name};
+ghost use Rattle.edit_cells.specs.Parts.{HasLimits};
+ghost use Rattle.eco_plans.specs.Shown.{end_seen, ends_seen, seen_end};
 
 use eco_reads::{inst_place, net_place};
 use edit_cells::Face;

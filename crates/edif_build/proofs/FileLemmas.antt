@@ -8,7 +8,7 @@ use Rattle.edif_spec.specs.Keyword.{row}
 use Rattle.edif_spec.specs.Rows.{EachAfter, has_keyword}
 use Rattle.edif_spec.specs.Means.{MeansLibrary, is_library}
 use Rattle.edif_spec.specs.Faults.{AtTwo, arguments, fixed_count, followers, place_of, those_of}
-use Rattle.edif_spec.specs.Stands.{DesignFault, FileFault, Stands, before_the_design, file_row, libraries}
+use Rattle.edif_spec.specs.Stands.{DesignFault, Stands, before_the_design, libraries}
 use Rattle.edif_spec.specs.Stands as stands
 use Rattle.edif_spec.specs.declared.keyword.Keyword.TheVariants as keywords
 use Rattle.edif_spec.specs.declared.fault.ClashKind.TheVariants.{SecondDesign}

@@ -7,7 +7,7 @@ use Rattle.edif_spec.specs.Keyword as keyword
 use Rattle.edif_spec.specs.Rows.{is_one_of, IsFormOf}
 use Rattle.edif_spec.specs.Means.{IsLevel}
 use Rattle.edif_spec.specs.Faults.{place_of, followers, token_kind, RowFault}
-use Rattle.edif_spec.specs.Stands.{ValueFault, LevelFault, VersionFault, MapFault}
+use Rattle.edif_spec.specs.Stands.{ValueFault, LevelFault, VersionFault}
 use Rattle.edif_spec.specs.Stands as stands
 use Rattle.edif_spec.specs.declared.keyword.Keyword.{Keyword}
 use Rattle.edif_spec.specs.declared.keyword.Keyword.TheVariants as keywords

@@ -12,7 +12,7 @@ use Rattle.edif_spec.specs.Design as design
 use Rattle.edif_spec.specs.Faults.{followers, place_of, those_of, token_kind, RowFault}
 use Rattle.edif_spec.specs.Means.{MeansCell, MeansLibrary, is_library}
 use Rattle.edif_spec.specs.Rows.{EachAfter, IsFormOf, has_keyword}
-use Rattle.edif_spec.specs.Stands.{AmongAfter, CellFault, LibraryFault, CellsFault, cells_in}
+use Rattle.edif_spec.specs.Stands.{CellFault, LibraryFault}
 use Rattle.edif_spec.specs.Stands as stands
 use Rattle.edif_spec.specs.declared.keyword.Keyword.{Keyword}
 use Rattle.edif_spec.specs.declared.keyword.Keyword.TheVariants as keywords

@@ -10,7 +10,7 @@ use Rattle.edif_spec.specs.Design as design
 use Rattle.edif_spec.specs.Faults.{arguments, place_of, FixedFault, FollowerFault}
 use Rattle.edif_spec.specs.Means.{Meant as Meaning, Found, Absent, Several, MeansPath, meant}
 use Rattle.edif_spec.specs.Rows.{has_keyword}
-use Rattle.edif_spec.specs.Stands.{StepFault, StepsTo, NoteFault, PathFault, PropertyFault, SameNote, StepsFault, bad_form, note_parts}
+use Rattle.edif_spec.specs.Stands.{StepFault, StepsTo, PathFault, StepsFault, bad_form, note_parts}
 use Rattle.edif_spec.specs.Stands as stands
 use Rattle.edif_spec.specs.declared.keyword.Keyword.TheVariants as keywords
 use Rattle.edif_spec.specs.declared.fault.Kind.TheVariants.{BadForm, BadPath}

@@ -2,7 +2,7 @@
 use Rattle.std.proofs.Common.{◌≡◌, ℕ, ◌<◌, ◌≤◌, ℤ, pos, List, [], ◌∷◌, map, length, refl, ap, sym, ◌∙◌, subst, inl, inr, Option, Some, true}
 use Rattle.std.specs.Prelude.{slice_get}
 use Rattle.edif_spelling_spec.specs.Tree.{Bare, Placed, Word', Integer', word, integer, bare}
-use Rattle.edif_spec.specs.Keyword.{identifier, Choice, AnIdentifier, AnInteger, AForm}
+use Rattle.edif_spec.specs.Keyword.{identifier, Choice, AnIdentifier, AForm}
 use Rattle.edif_spec.specs.Keyword as keyword
 use Rattle.std.specs.List.{AllByRecursion}
 use Rattle.edif_spec.specs.Rows.{has_keyword, IsFormOf, Perhaps}

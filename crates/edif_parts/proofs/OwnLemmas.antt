@@ -1,12 +1,11 @@
 -- Names in a list, each with its place: whether one is there.
-use Rattle.std.proofs.Common.{◌≡◌, ℕ, zero, suc, ◌<◌, List, [], ◌∷◌, ◌++◌, Bool, true, false, length, refl, sym, ap, ◌∙◌, subst, Option, None, Some, nat_eq, arith, get_or, true≢false, append-nil, append_assoc}
+use Rattle.std.proofs.Common.{◌≡◌, ℕ, zero, suc, ◌<◌, List, [], ◌∷◌, ◌++◌, Bool, true, false, length, refl, sym, ap, ◌∙◌, subst, None, Some, nat_eq, arith, get_or, true≢false, append-nil, append_assoc}
 use Rattle.std.specs.Prelude.{cond}
 use Rattle.std.specs.Map.{lookup}
 use Rattle.std.specs.List.{Contains}
 use Rattle.std.specs.Cmp.Lexicographic.{pointwise, bytes_decides}
 use Rattle.std.specs.Prelude.{Result, Ok, Err, OnOk, IfErr}
 use Rattle.std.proofs.lemmas.List.Elements.{Contains-append_right}
-use Rattle.edif_spec.specs.declared.fault.MeaningFault.{MeaningFault}
 use Rattle.edif_parts.specs.Names.{DefinesName, IsAgain, ids}
 use Rattle.edif_parts.specs.Reading.{Names as FailsBy}
 use Rattle.edif_parts.specs.declared.error.EdifError.{EdifError}

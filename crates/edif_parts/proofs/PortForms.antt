@@ -7,7 +7,7 @@ use Rattle.netlist_schema.specs.Typed.{IsTypedName}
 use Rattle.netlist_schema.specs.Types.{Direction, Name, Port}
 use Rattle.netlist_schema.specs.Width.{IsWidth}
 use Rattle.edif_spec.specs.Canonical.{direction_word}
-use Rattle.edif_spec.specs.Keyword.{same, identifier, Choice, Follower, Many, One, name_definition}
+use Rattle.edif_spec.specs.Keyword.{same, identifier, Follower, Many, One, name_definition}
 use Rattle.edif_spec.specs.Keyword as table
 use Rattle.edif_spec.specs.Means.{MeansName, MeansBusName, MeansDirection, MeansText, MeansProperties, MeansPort}
 use Rattle.edif_spec.specs.Rows.{Perhaps, those, has_keyword, is_choice, is_one_of, IsFormOf}

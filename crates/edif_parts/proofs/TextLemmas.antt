@@ -1,7 +1,7 @@
 -- The text of a form of one string, among followers of which one at most has its keyword.
 use Rattle.std.proofs.Common.{◌≡◌, ℕ, ◌≤◌, List, [], ◌∷◌, ◌++◌, length, map, refl, sym, ap, ◌∙◌, subst, inl, inr, Option, None, Some, arith}
 use Rattle.edif_spelling_spec.specs.Tree.{Bare, Placed, String', bare}
-use Rattle.edif_spec.specs.Keyword.{row, FormRow, Takes}
+use Rattle.edif_spec.specs.Keyword.{row, Takes}
 use Rattle.edif_spec.specs.Keyword as table
 use Rattle.edif_spec.specs.Rows.{has_keyword, those, IsFormOf, Perhaps}
 use Rattle.edif_spec.specs.Means.{MeansText}

@@ -7,7 +7,7 @@ use Rattle.edif_spelling_spec.specs.Tree.{Bare, Placed, Integer', bare}
 use Rattle.netlist_schema.specs.declared.property.Num.{Num}
 use Rattle.netlist_schema.specs.declared.property.Num.TheVariants as numbers
 use Rattle.netlist_schema.specs.declared.property.Value.TheVariants as values
-use Rattle.edif_spec.specs.Keyword.{FormRow, Takes, row, Choice, AnInteger, AForm}
+use Rattle.edif_spec.specs.Keyword.{Choice, AnInteger, AForm}
 use Rattle.edif_spec.specs.Keyword as table
 use Rattle.edif_spec.specs.Means.{MeansBoolean, MeansNumber, MeansValue}
 use Rattle.edif_spec.specs.Rows.{has_keyword, is_choice, is_one_of, IsFormOf}

@@ -1,5 +1,5 @@
 //! The interface of a cell: its ports, and properties of its own.
-ghost use Rattle.std.specs.Prelude.{◌≡◌, ◌+◌, ◌<◌, ◌≤◌, ◌⊎◌, IfErr, List, [], OnOk, length, true};
+ghost use Rattle.std.specs.Prelude.{◌≡◌, ◌+◌, ◌<◌, ◌≤◌, ◌⊎◌, IfErr, [], OnOk, length, true};
 ghost use Rattle.edif_spelling_spec.specs.Tree.{bare};
 ghost use Rattle.netlist_schema.specs.Design.{port_width};
 ghost use Rattle.netlist_schema.specs.declared.limits.TheConstants.{MOST_BITS, MOST_PORTS};

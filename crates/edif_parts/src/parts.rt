@@ -2,8 +2,6 @@
 ghost use Rattle.std.specs.Prelude.{◌≡◌, ◌∷◌, [], FitsSigned, IfNone, IfOk, IfSome, IsTrue, length, true};
 ghost use Rattle.std.specs.Int.{w64};
 ghost use Rattle.edif_spelling_spec.specs.Tree.{Word', Integer', String', bare};
-ghost use Rattle.netlist_schema.specs.Ident.{IsIdentifier};
-ghost use Rattle.netlist_schema.specs.Typed.{IsBytes};
 ghost use Rattle.edif_spec.specs.Faults.{RowFault, those_of};
 ghost use Rattle.edif_spec.specs.Keyword.{AnIdentifier, AnInteger, AString, same};
 ghost use Rattle.edif_spec.specs.Rows.{has_keyword, is_choice};

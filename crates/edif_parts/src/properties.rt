@@ -1,5 +1,5 @@
 //! The properties of an owner.
-ghost use Rattle.std.specs.Prelude.{◌≡◌, ◌⊎◌, Some, List, [], map, true};
+ghost use Rattle.std.specs.Prelude.{◌≡◌, ◌⊎◌, Some, [], map, true};
 ghost use Rattle.std.specs.List.{All};
 ghost use Rattle.edif_spelling_spec.specs.Tree.{bare};
 ghost use Rattle.netlist_schema.specs.Names.{HasDistinctKeys};

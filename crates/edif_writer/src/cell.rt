@@ -1,5 +1,5 @@
 //! Cells, with their ports.
-ghost use Rattle.std.specs.Prelude.{◌≡◌, ◌∷◌, [], ◌++◌, ℕ, IfSome, map};
+ghost use Rattle.std.specs.Prelude.{◌≡◌, ℕ, IfSome, map};
 ghost use Rattle.edif_spec.specs.Canonical.{layout, perhaps, direction_tree, kind_word, port_name_tree, port_tree, interface_tree, view_tree, cell_tree};
 ghost use Rattle.edif_writer.specs.Lines.{spaced, lined};
 ghost use Rattle.edif_writer.specs.Placed.{IsPlaced};

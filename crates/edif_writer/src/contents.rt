@@ -1,7 +1,7 @@
 //! Contents: instances, and nets with their ends.
-ghost use Rattle.std.specs.Prelude.{◌≡◌, ◌∷◌, ◌++◌, ◌<◌, ◌≤◌, ℕ, List, [], All, IsSome, IfSome, None, Some, length, map, slice_get, unwrap_or};
+ghost use Rattle.std.specs.Prelude.{◌≡◌, ◌∷◌, ◌++◌, ◌<◌, ◌≤◌, ℕ, [], All, IsSome, IfSome, None, Some, length, map, slice_get, unwrap_or};
 ghost use Rattle.std.specs.Option.{option_copied};
-ghost use Rattle.edif_spec.specs.Canonical.{layout, name_text, perhaps, inst_tree, bit_tree, bits_tree, name_tree, port_name_tree, ports_of_end, end_tree, net_tree, contents_tree};
+ghost use Rattle.edif_spec.specs.Canonical.{layout, perhaps, inst_tree, bit_tree, bits_tree, name_tree, port_name_tree, ports_of_end, end_tree, net_tree, contents_tree};
 ghost use Rattle.edif_spec.specs.Design as design;
 ghost use Rattle.edif_spec.specs.Nets.{form_of, net_forms, run_form, single_form};
 ghost use Rattle.netlist_bus_spec.specs.Runs.{array_name, run_width, stem};

@@ -1,5 +1,5 @@
 //! References to cells, by the names of libraries, cells and views.
-ghost use Rattle.std.specs.Prelude.{◌≡◌, ℕ};
+ghost use Rattle.std.specs.Prelude.{ℕ};
 ghost use Rattle.edif_spec.specs.Canonical.{layout, name_text, cell_ref_tree};
 ghost use Rattle.edif_spec.specs.Design.{cell_id, lib_id, view_id};
 ghost use Rattle.netlist_schema.specs.Hierarchy.{IsCell};

@@ -1,5 +1,5 @@
 //! Forms that stand on one line.
-ghost use Rattle.std.specs.Prelude.{◌≡◌, ◌∷◌, [], ◌++◌, ℕ, List, map};
+ghost use Rattle.std.specs.Prelude.{ℕ, map};
 ghost use Rattle.std.specs.Fmt.{signed_decimal};
 ghost use Rattle.edif_spec.specs.Canonical.{layout, name_tree, number_tree, value_tree, property_tree};
 ghost use Rattle.edif_writer.specs.Lines.{spaced, lined, enclosed};

@@ -1,5 +1,5 @@
 //! Line feeds, identifiers, strings and integers, on their way to a sink.
-ghost use Rattle.std.specs.Prelude.{◌≡◌, ◌∷◌, ◌++◌, pos, if◌then◌else◌, OnErr, OnOk};
+ghost use Rattle.std.specs.Prelude.{◌≡◌, ◌∷◌, pos, if◌then◌else◌};
 ghost use Rattle.std.specs.Fmt.{signed_decimal};
 ghost use Rattle.edif_spec.specs.Canonical.{name_text, string_text, new_line};
 ghost use Rattle.netdb_outside.specs.Buffered.{Writes};

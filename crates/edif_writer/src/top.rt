@@ -1,5 +1,5 @@
 //! The form of the top, with its properties and the notes.
-ghost use Rattle.std.specs.Prelude.{◌≡◌, ℕ, map, option_map};
+ghost use Rattle.std.specs.Prelude.{ℕ, map};
 ghost use Rattle.edif_spec.specs.Arranged.{arranged};
 ghost use Rattle.edif_spec.specs.Canonical.{layout, perhaps, note_tree, design_tree};
 ghost use Rattle.edif_spelling_spec.specs.Tree.{word};

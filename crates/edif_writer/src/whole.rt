@@ -1,5 +1,5 @@
 //! Whole designs.
-ghost use Rattle.std.specs.Prelude.{◌≡◌, ◌≤◌, OnErr, OnOk, IsErrOf};
+ghost use Rattle.std.specs.Prelude.{◌≤◌, OnErr, OnOk, IsErrOf};
 ghost use Rattle.edif_spec.specs.Arranged.{canonical_text};
 ghost use Rattle.netdb_outside.specs.Buffered.{Writes};
 ghost use Rattle.netdb_outside.specs.declared.write_error.WriteError.TheVariants.{WriteFault};

@@ -1,7 +1,7 @@
 //! The first steps with the library: opens a design, commits an edit, meets a conflict, and shows the version that came of it.
 #![tactic(auto)]
 
-ghost use Rattle.std.specs.Prelude.{◌≡◌, IfOk, OnOk};
+ghost use Rattle.std.specs.Prelude.{◌≡◌, IfOk};
 ghost use Rattle.db_core.specs.Story.{IsPinOf};
 ghost use Rattle.first_steps.specs.Pins.{IsPinBy, KeepsPins};
 

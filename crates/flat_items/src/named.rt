@@ -1,5 +1,5 @@
 //! The places of instances by their identifiers.
-ghost use Rattle.std.specs.Prelude.{◌≡◌, ◌≤◌, IfOk, length, nat_eq};
+ghost use Rattle.std.specs.Prelude.{◌≤◌, IfOk, length, nat_eq};
 ghost use Rattle.std.specs.Cmp.Lexicographic.{pointwise};
 ghost use Rattle.indexmap.specs.IndexMap.{get};
 ghost use Rattle.netlist_schema.specs.Design.{Design};

@@ -1,5 +1,4 @@
 //! What is shown of an item: its line in a flattening, and its row in a pin table.
-ghost use Rattle.std.specs.Prelude.{◌≡◌};
 ghost use Rattle.csv_report.specs.Parts.{row_of_text};
 ghost use Rattle.flat_report.specs.Parts.{line_of};
 

@@ -1,5 +1,5 @@
 //! The rounds of a run: in each a caller pins the last version, commits one edit, and releases the pin.
-ghost use Rattle.std.specs.Prelude.{◌≡◌, ◌≤◌, ◌<◌, ◌+◌, ◌*◌, IfOk, OnOk, Ok};
+ghost use Rattle.std.specs.Prelude.{◌≡◌, ◌≤◌, ◌<◌, ◌+◌, IfOk, OnOk, Ok};
 ghost use Rattle.edit_tx.specs.Facts.{HasRun};
 ghost use Rattle.db_core.specs.Calls.{Collects, PinsHead};
 ghost use Rattle.db_core.specs.Story.{IsPinOf, state};

@@ -1,5 +1,5 @@
 -- Bits in order, and what a search among them by halving finds.
-use Rattle.std.proofs.Common.{◌≡◌, ◌⊎◌, ◌<◌, ◌≤◌, ℕ, List, true, false, ◌&&◌, sym, subst, ◌∙◌, inl, inr, arith, Some, None, Option, slice_get}
+use Rattle.std.proofs.Common.{◌≡◌, ◌⊎◌, ℕ, List, true, false, ◌&&◌, sym, subst, ◌∙◌, inl, inr, arith, Some, None, Option, slice_get}
 use Rattle.std.specs.Prelude.{nat_eq, nat_lt}
 use Rattle.std.specs.List.{AllPairs}
 use Rattle.std.proofs.lemmas.Bool.{and_from, and_parts, eq-eqb, eqb-true, false_from_ne_true, lt-ltb, ltb-true, or_cases, or_left, or_right}

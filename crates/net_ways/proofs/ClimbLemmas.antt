@@ -19,10 +19,10 @@ use Rattle.flat_spec.proofs.FirstLemmas.{firsts-connected, firsts-same, own_bit-
 use Rattle.flat_spec.proofs.HandedDownLemmas.{first_inside, representative-handed, representative-untouched}
 use Rattle.flat_spec.proofs.PathLemmas.{IsNet-from, IsNet-parts, Joins-inward_here, Joins-net, Joins-outward_here, Reaches-append, Reaches-front, Reaches-parts, Some-same}
 use Rattle.flat_spec.proofs.RepresentativeLemmas.{Connected-net}
-use Rattle.net_classes.specs.Facts.{CellFacts, Facts, facts_at, first_at, first_in}
+use Rattle.net_classes.specs.Facts.{CellFacts, Facts, first_at, first_in}
 use Rattle.net_classes.specs.Inside.{IsFirstAt}
 use Rattle.net_classes.specs.Joints.{IsNotBehind}
-use Rattle.net_classes.specs.PortClasses.{AreFactsOf, IsJoint}
+use Rattle.net_classes.specs.PortClasses.{IsJoint}
 use Rattle.net_classes.specs.declared.joints.Joint.{Joint}
 use Rattle.flat_items.specs.declared.notes.PlacedNotes.{PlacedNotes}
 use Rattle.flat_items.specs.Stand.{IsGround, top_of}

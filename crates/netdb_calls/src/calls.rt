@@ -1,5 +1,4 @@
 //! The calls, by what was opened.
-ghost use Rattle.std.specs.Prelude.{◌≡◌};
 ghost use Rattle.netdb_calls.specs.Answers.{Asks, AsksDesk, AsksQuestion, AsksView, OpensQuestions, OpensView};
 
 use crate::desk_calls::answer_desk;

@@ -1,5 +1,5 @@
 //! `MemFiles`: files in memory.
-ghost use Rattle.std.specs.Prelude.{◌≡◌, ◌≢◌, ◌⊎◌, ◌≤◌, ◌<◌, ◌↔◌, ℕ, List, [], ◌∷◌, length, min, take, drop, ◌++◌, Some, None, Any, IsTrue, MatchOption};
+ghost use Rattle.std.specs.Prelude.{◌≡◌, ◌≢◌, ◌⊎◌, ◌≤◌, ◌<◌, ◌↔◌, List, [], ◌∷◌, length, min, take, drop, ◌++◌, Some, None, Any, IsTrue, MatchOption};
 ghost use Rattle.netlist_schema.specs.Names.{AreDistinct};
 ghost use Rattle.netdb_outside.specs.MemFiles.{Leads, after_call, bytes_at, named, names, next_fails, opened_rest, opening, read_buffer, read_rest, reading};
 ghost use Rattle.netdb_outside.specs.Outside.{NothingLeft, Rose, SameFiles, file_named};

@@ -1,5 +1,5 @@
 -- Answers from what names lead to, and refusals that go up as they came.
-use Rattle.std.proofs.Common.{◌≡◌, ℕ, List, Option, Some, None, Result, Ok, Err, Bool, inl, inr, ap, refl, subst, sym}
+use Rattle.std.proofs.Common.{◌≡◌, ℕ, List, Option, Some, None, Result, Ok, Err, Bool, inr, ap, refl}
 use Rattle.std.specs.Prelude.{◌↔◌, IfOk}
 use Rattle.netlist_schema.specs.Design.{Design}
 use Rattle.flat_spec.specs.Types.{Item, NetAt}

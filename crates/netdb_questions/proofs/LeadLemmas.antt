@@ -1,5 +1,5 @@
 -- Where names lead.
-use Rattle.std.proofs.Common.{◌≡◌, ℕ, List, Option, Some, None, subst, sym, ◌∙◌}
+use Rattle.std.proofs.Common.{◌≡◌, ℕ, List, Option, Some, None, subst}
 use Rattle.std.specs.Prelude.{IsSome}
 use Rattle.std.proofs.lemmas.Bool.{false≢true}
 use Rattle.netlist_schema.specs.Design.{Design}
@@ -7,7 +7,6 @@ use Rattle.netlist_schema.specs.Types.{CellId}
 use Rattle.netlist_schema.specs.Valid.{IsValid}
 use Rattle.ask_names.specs.Places.{path_named}
 use Rattle.ask_names.specs.Told.{PathsAreTold}
-use Rattle.ask_spec.specs.Places.{at}
 use Rattle.netdb_questions.specs.Named.{LeadsTo}
 
 pub leads : (d : Design) (text path : List ℕ) → IsValid d → PathsAreTold → path_named d text ≡ Some path → LeadsTo d text path

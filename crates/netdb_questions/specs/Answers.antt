@@ -3,7 +3,6 @@ use Rattle.std.specs.Prelude.{◌≡◌, ◌⊎◌, ℕ, List, Bool, Option, Som
 use Rattle.netlist_schema.specs.Design.{Design}
 use Rattle.netlist_schema.specs.Types.{CellId}
 use Rattle.flat_spec.specs.Types.{Item, NetAt}
-use Rattle.ask_names.specs.Places.{path_named}
 use Rattle.ask_spec.specs.Nets.{first_of, is_same_net}
 use Rattle.ask_spec.specs.Places.{at}
 use Rattle.ask_spec.specs.Roles.{pins_as}

@@ -1,5 +1,5 @@
 //! The lines that one worker makes.
-ghost use Rattle.std.specs.Prelude.{◌≡◌, ◌<◌, ◌+◌, ◌^◌, ◌++◌, [], IfOk, OnOk, drop, false};
+ghost use Rattle.std.specs.Prelude.{◌≡◌, ◌<◌, ◌+◌, ◌^◌, [], IfOk, OnOk, drop, false};
 ghost use Rattle.std.specs.Option.{ForSome};
 ghost use Rattle.flat_spec.specs.Flattening.{flattening};
 ghost use Rattle.occ_walk.specs.Left.{left};

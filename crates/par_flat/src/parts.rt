@@ -1,5 +1,5 @@
 //! Items from one place of the flattening on.
-ghost use Rattle.std.specs.Prelude.{◌≡◌, ◌++◌, IfOk, OnOk, Some, OnErr, drop, option_map, ◌-◌, IsTrue, ◌↔◌};
+ghost use Rattle.std.specs.Prelude.{◌≡◌, ◌++◌, IfOk, OnOk, Some, drop, option_map, ◌-◌, IsTrue, ◌↔◌};
 ghost use Rattle.flat_spec.specs.Flattening.{flattening};
 ghost use Rattle.occ_walk.specs.Left.{left};
 ghost use Rattle.flat_lines_spec.specs.Lines.{shown_items};

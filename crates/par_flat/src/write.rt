@@ -1,11 +1,10 @@
 //! `write_par_flat`: the lines of a flattening.
-ghost use Rattle.std.specs.Prelude.{◌≡◌, ◌↔◌, ◌<◌, ◌≤◌, ◌+◌, ◌*◌, ◌^◌, ◌++◌, ◌∷◌, [], ℕ, List, Err, IfErr, IfOk, IsOk, None, OnErr, OnOk, codes, drop, get_or, length, take};
+ghost use Rattle.std.specs.Prelude.{◌≡◌, ◌↔◌, ◌<◌, ◌≤◌, ◌+◌, ◌*◌, ◌^◌, ◌++◌, ◌∷◌, [], Err, IfErr, IfOk, None, OnErr, OnOk, codes, drop, length, take};
 ghost use Rattle.std.specs.Option.{ForSome};
 ghost use Rattle.std.specs.Thread.{IsSync};
 ghost use Rattle.netdb_outside.specs.Outside.{Appends, AppendsFront, Rose};
 ghost use Rattle.netlist_schema.specs.Design.{Design};
 ghost use Rattle.flat_spec.specs.Flattening.{flattening};
-ghost use Rattle.flat_spec.specs.Types.{Item};
 ghost use Rattle.flat_lines_spec.specs.Lines.{flattening_text, item_lines};
 ghost use Rattle.par_flat.specs.Desks.{AreDesks, AreMade, IsCrew, IsMade, IsReady, IsSeat, text_of, waiting_text};
 ghost use Rattle.par_flat.specs.Lines.{IsRound};

@@ -1,11 +1,10 @@
 -- Words taken from the front, one after another.
-use Rattle.std.proofs.Common.{◌≡◌, ◌∙◌, List, ℕ, ℤ, Bor, [], ◌∷◌, ◌++◌, None, Some, true, false, length, refl, sym, ap, subst}
-use Rattle.std.specs.Prelude.{Option, ◌==◌, codes}
+use Rattle.std.proofs.Common.{◌≡◌, ◌∙◌, List, ℕ, ℤ, Bor, [], ◌∷◌, true, false, length, refl, sym, ap, subst}
+use Rattle.std.specs.Prelude.{◌==◌, codes}
 use Rattle.netlist_schema.specs.declared.property.Num.{Num}
 use Rattle.netlist_schema.specs.declared.property.Num.TheVariants as numbers
-use Rattle.edit_rules_spec.specs.declared.reply.CellName.{CellName}
 use Rattle.script_spec.specs.Lines.{cell_pieces, name, said}
-use Rattle.script_spec.specs.Pieces.{Alone, Exponent, Integer, Number, Piece, SpellPieces, SpellsPiece}
+use Rattle.script_spec.specs.Pieces.{Alone, Exponent, Integer, Piece, SpellPieces, SpellsPiece}
 use Rattle.script_ops.specs.Front.{Lacks, Takes}
 use Rattle.script_words.specs.Reading.{lent}
 use Rattle.script_ops.specs.Values.{num_rest}

@@ -1,6 +1,5 @@
 -- The first words of lines, and what stands behind them.
 use Rattle.std.specs.Prelude.{◌≡◌, ◌≢◌, ℕ, List, [], ◌∷◌, ◌++◌, Result, map, codes, MatchResult}
-use Rattle.std.specs.List.{All}
 use Rattle.netlist_schema.specs.Typed.{IsBytes}
 use Rattle.netlist_schema.specs.Types.{Value}
 use Rattle.netlist_schema.specs.declared.property.Value.TheVariants.{Text}

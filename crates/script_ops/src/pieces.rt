@@ -1,5 +1,5 @@
 //! What a word of several parts stands for, or one of a few words.
-ghost use Rattle.std.specs.Prelude.{◌≡◌, ◌==◌, ◌≤◌, ◌∷◌, [], IfOk, MatchOption, MatchResult, map};
+ghost use Rattle.std.specs.Prelude.{◌≡◌, ◌==◌, ◌≤◌, IfOk, MatchOption, MatchResult, map};
 ghost use Rattle.std.specs.List.{slice_split};
 ghost use Rattle.netlist_schema.specs.declared.limits.TheConstants.{MOST_WIDTH};
 ghost use Rattle.script_spec.specs.Lines.{direction_word, inst_piece, leaf_word, path_piece, port_piece, width_atoms};

@@ -1,13 +1,13 @@
 -- Lines read one after another.
-use Rattle.std.proofs.Common.{◌≡◌, ◌∙◌, ℕ, ◌+◌, ◌<◌, ◌≤◌, List, [], ◌∷◌, ◌++◌, None, Some, Bor, true, false, map, length, take, drop, get_or, length-take, inl, inr, refl, sym, ap, subst, arith, append_assoc, ◌≢◌}
-use Rattle.std.specs.Prelude.{Option, AllPairs, ◌⊎◌}
-use Rattle.std.specs.List.{All, AllByRecursion}
+use Rattle.std.proofs.Common.{◌≡◌, ◌∙◌, ℕ, ◌+◌, ◌<◌, ◌≤◌, List, [], ◌∷◌, ◌++◌, None, Some, Bor, true, false, length, take, drop, get_or, length-take, inl, inr, refl, sym, ap, subst, arith}
+use Rattle.std.specs.Prelude.{AllPairs}
+use Rattle.std.specs.List.{AllByRecursion}
 use Rattle.std.proofs.lemmas.List.{drop_more, map-append, take-append-drop, take_more}
 use Rattle.std.proofs.lemmas.List.Elements.{All-from_recursion}
 use Rattle.std.proofs.lemmas.List.Kept.{AllPairs-cons}
 use Rattle.netlist_schema.proofs.Lists.{all_push, all_weaker}
 use Rattle.script_spec.specs.Lines.{IsSayable}
-use Rattle.script_spec.specs.ScriptText.{AreScript, AreSome, ArePlaced, Free, IsFirstBad, IsScript, IsScriptText, lines_of, Parts, Place, Says, SayLines, behind, is_comment, steps_of, words}
+use Rattle.script_spec.specs.ScriptText.{AreScript, ArePlaced, Free, IsFirstBad, IsScript, IsScriptText, lines_of, Parts, Place, Says, SayLines, behind, is_comment, steps_of, words}
 use Rattle.script_spec.specs.declared.script.ScriptLine.{ScriptLine}
 use Rattle.script_spec.specs.declared.script.Step.{Step}
 use Rattle.script_spec.proofs.OneScript.{one_reading}

@@ -4,16 +4,15 @@ use Rattle.std.specs.Prelude.{Option, Result, IfOk, ◌==◌, codes}
 use Rattle.std.specs.List.{All, AllByRecursion}
 use Rattle.std.proofs.lemmas.List.Elements.{All-from_recursion}
 use Rattle.netlist_schema.specs.Typed.{IsBytes}
-use Rattle.netlist_schema.specs.Types.{Property, Value}
+use Rattle.netlist_schema.specs.Types.{Value}
 use Rattle.netlist_schema.specs.declared.property.Num.TheVariants as numbers
 use Rattle.netlist_schema.specs.declared.property.Value.TheVariants as values
-use Rattle.edit_rules_spec.specs.declared.reply.EndName.{EndName}
 use Rattle.edit_spec.specs.declared.ops.Op.{Op}
 use Rattle.edit_spec.specs.declared.ops.Op.TheVariants as op
 use Rattle.edit_spec.specs.declared.ops.PortDecl.{PortDecl}
 use Rattle.edit_spec.specs.declared.ops.Target.{Target}
 use Rattle.edit_spec.specs.declared.ops.Target.TheVariants as targets
-use Rattle.script_spec.specs.Lines.{IsPlainOp, IsSayable, IsSayableOp, end_pieces, op_pieces, path_piece, port_piece, property_pieces, step_pieces, target_pieces, value_pieces, width_atoms, said}
+use Rattle.script_spec.specs.Lines.{IsSayable, end_pieces, op_pieces, port_piece, property_pieces, step_pieces, target_pieces, value_pieces, width_atoms, said}
 use Rattle.script_spec.specs.Pieces.{Atom, Said, Named, Number, Integer, Exponent, Quoted, Piece, Alone, Joined, IsSayableAtom, IsSayablePiece, SpellAtoms, SpellPieces, SpellsAtom, SpellsPiece}
 use Rattle.script_spec.specs.ScriptText.{SayStep}
 use Rattle.script_spec.specs.declared.script.Step.{Step}

@@ -1,6 +1,6 @@
 -- The words of a line with a quote, and how many lines a text has.
-use Rattle.std.proofs.Common.{◌≡◌, ◌∙◌, ℕ, ◌+◌, ◌-◌, ◌<◌, ◌≤◌, List, [], ◌∷◌, ◌++◌, Bool, true, false, not, ◌&&◌, cond, length, take, drop, get_or, None, Some, refl, sym, ap, subst, arith, append_assoc, append-nil, eqb, ltb, length-append, length-take}
-use Rattle.std.specs.Prelude.{Option, filter, ◌⊎◌}
+use Rattle.std.proofs.Common.{◌≡◌, ◌∙◌, ℕ, ◌+◌, ◌-◌, ◌<◌, ◌≤◌, List, [], ◌∷◌, ◌++◌, Bool, true, false, not, ◌&&◌, cond, length, take, drop, get_or, None, Some, refl, sym, ap, arith, append_assoc, append-nil, ltb, length-append, length-take}
+use Rattle.std.specs.Prelude.{filter}
 use Rattle.std.specs.List.{after_first, before_first, list_all, onto_first, position, position_or_len, slice_split}
 use Rattle.std.proofs.lemmas.Bool.{eqb-true, ltb-false}
 use Rattle.std.proofs.lemmas.List.{drop_all, drop_at, take_all}
@@ -9,7 +9,7 @@ use Rattle.edif_lexer.proofs.CutLemmas.{cond_none, position_cases}
 use Rattle.std.proofs.lemmas.List.Splits.{length-slice_split}
 use Rattle.edif_spelling_spec.specs.Bytes.{is_quote}
 use Rattle.edif_spelling_spec.specs.Names.{is_empty}
-use Rattle.script_spec.specs.ScriptText.{extended, from_quote, is_blank, is_line_feed, lines_of, lines_of_parts, trimmed, words}
+use Rattle.script_spec.specs.ScriptText.{extended, is_blank, is_line_feed, lines_of, lines_of_parts, trimmed, words}
 
 -- ---- the last part of a list that is cut is its end
 

@@ -8,7 +8,6 @@ use Rattle.script_spec.specs.declared.script.ScriptLine.{ScriptLine}
 use Rattle.script_spec.specs.declared.script.Step.{Step}
 use Rattle.script_reader.specs.declared.script.Place.{Place}
 use Rattle.script_reader.specs.declared.script.Place.TheVariants.{Free, Block, Holding}
-use Rattle.script_reader.specs.declared.script.Progress.{Progress}
 use Rattle.script_words.specs.declared.unread.Unread.{Unread}
 use Rattle.script_words.specs.declared.unread.Unread.TheVariants.{Bad}
 

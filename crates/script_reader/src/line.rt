@@ -1,6 +1,6 @@
 //! Words of a line, and what it says.
-ghost use Rattle.std.specs.Prelude.{◌≡◌, ◌++◌, ◌<◌, ◌≤◌, ◌+◌, IfOk, IfSome, IfNone, filter, not, MatchOption, OnOk, length};
-ghost use Rattle.std.specs.List.{before_first, list_any, position};
+ghost use Rattle.std.specs.Prelude.{◌≡◌, ◌++◌, ◌<◌, ◌+◌, IfOk, filter, not, OnOk};
+ghost use Rattle.std.specs.List.{position};
 ghost use Rattle.edif_spelling_spec.specs.Bytes.{is_quote};
 ghost use Rattle.edif_spelling_spec.specs.Names.{is_empty};
 ghost use Rattle.script_spec.specs.ScriptText.{is_comment, words};

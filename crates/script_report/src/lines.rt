@@ -1,5 +1,4 @@
 //! The events of a history and the transcripts of scripts, on their way to a sink.
-ghost use Rattle.std.specs.Prelude.{◌≡◌};
 ghost use Rattle.netdb_outside.specs.Buffered.{Writes};
 ghost use Rattle.script_spec.specs.Texts.{event_text as text_of_event, event_texts};
 ghost use Rattle.script_run_spec.specs.Written.{numbered_text, numbered_texts};

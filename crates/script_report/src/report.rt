@@ -1,5 +1,5 @@
 //! The whole report.
-ghost use Rattle.std.specs.Prelude.{◌≡◌, ◌≤◌, OnErr, OnOk, IsErrOf};
+ghost use Rattle.std.specs.Prelude.{◌≤◌, OnErr, OnOk, IsErrOf};
 ghost use Rattle.netdb_outside.specs.declared.write_error.WriteError.TheVariants.{WriteFault};
 ghost use Rattle.netdb_outside.specs.Outside.{Appends, AppendsFront, Rose};
 ghost use Rattle.script_run_spec.specs.Written.{report_lines, written_report};

@@ -1,5 +1,5 @@
 //! Scripts beside each other on one database.
-ghost use Rattle.std.specs.Prelude.{◌≡◌, ◌≤◌, IfOk, length};
+ghost use Rattle.std.specs.Prelude.{◌≤◌, IfOk, length};
 ghost use Rattle.script_spec.specs.Headline.{CanWalk};
 ghost use Rattle.script_run_spec.specs.Scripts.{all_steps};
 ghost use Rattle.script_run_all.specs.Run.{HaveRun};

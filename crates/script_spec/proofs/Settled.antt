@@ -1,20 +1,20 @@
 -- What a session says keeps its text as the history goes on: names and versions stay.
-use Rattle.std.proofs.Common.{◌≡◌, ◌∙◌, ℕ, zero, suc, ◌+◌, ◌-◌, ◌≤◌, List, [], ◌∷◌, ◌++◌, None, Some, Bool, true, false, length, map, slice_get, inl, inr, refl, ap, sym, subst, arith, append_assoc, append-nil}
+use Rattle.std.proofs.Common.{◌≡◌, ◌∙◌, ℕ, zero, suc, ◌+◌, ◌-◌, ◌≤◌, List, [], ◌∷◌, ◌++◌, None, Some, Bool, true, false, map, slice_get, inl, inr, refl, ap, sym, subst, arith, append_assoc}
 use Rattle.std.specs.Prelude.{codes, decimal, Option, IsSome, ◌==◌, cond, filter, option_map}
 use Rattle.std.specs.List.{AllByRecursion}
 use Rattle.std.specs.Option.{option_map_or}
-use Rattle.netlist_schema.specs.Design.{Design, cell_at, lib_at}
+use Rattle.netlist_schema.specs.Design.{Design, cell_at}
 use Rattle.netlist_schema.specs.Types.{CellBody, CellId, Lib, LibHead, Object}
 use Rattle.netlist_schema.specs.declared.ids.Object.TheVariants.{Directory, Interface, Contents, Notes}
 use Rattle.edif_spec.proofs.CellPlaces.{all_append_parts}
-use Rattle.edit_rules_spec.specs.Objects.{Grown, IsThere, Outside, face_of, of_contents, of_interface, outside_at, outside_of}
+use Rattle.edit_rules_spec.specs.Objects.{Grown, IsThere, Outside, face_of, of_contents, of_interface, outside_of}
 use Rattle.edit_rules_spec.proofs.There.{there_stays, some_from_map}
 use Rattle.edit_rules_spec.specs.declared.reply.Reply.{Reply}
 use Rattle.edit_spec.specs.Step.{run}
 use Rattle.edit_spec.specs.declared.ops.Op.{Op}
 use Rattle.edit_spec.proofs.Shown.{outside_there}
 use Rattle.db_spec.specs.Answers.{Answers}
-use Rattle.db_spec.specs.History.{IsLegalFrom, Legal, state_after, state_from, version_at}
+use Rattle.db_spec.specs.History.{Legal, state_after, state_from, version_at}
 use Rattle.db_spec.specs.State.{State, head, opening}
 use Rattle.db_spec.specs.declared.event.Answer.{Answer}
 use Rattle.db_spec.specs.declared.event.Answer.TheVariants as answer
@@ -28,7 +28,7 @@ use Rattle.flat_lines_spec.specs.Lines.{cell_text, flattening_text, lib_text, sp
 use Rattle.script_spec.specs.Laws.{ConflictsAreThere, ObjectsStay, TranscriptStays}
 use Rattle.script_spec.specs.Report.{head_design, transcript, word_text}
 use Rattle.script_spec.specs.Session.{Word, Began, Replied, Committed, Conflict, Abandoned, Pinned, NoVersion, Gone, Walked, Released, NoPin, Collected, LogFull, Held, Nothing, OnPin, OffPin, InBlock, Ending, Outcome, On, Stop, Exchange, Told, Commits, Goes, Runs, exchanges, replied, reply_behind}
-use Rattle.script_spec.specs.Texts.{conflict_words, library_text, line, object_text, object_words}
+use Rattle.script_spec.specs.Texts.{line, object_words}
 use Rattle.script_spec.specs.declared.script.Step.{Step}
 use Rattle.script_spec.specs.declared.script.Step.TheVariants.{Begin, Run, Commit, Abandon, Pin, PinAt, Walk, Release, Collect}
 use Rattle.script_spec.proofs.Stays.{later_head}

@@ -1,9 +1,9 @@
 //! The texts of replies and objects.
-ghost use Rattle.std.specs.Prelude.{◌≡◌, ◌∷◌, [], ◌++◌, codes, map, OnErr, OnOk};
+ghost use Rattle.std.specs.Prelude.{◌≡◌, ◌∷◌, [], ◌++◌, codes, OnErr, OnOk};
 ghost use Rattle.std.specs.Fmt.{decimal};
 ghost use Rattle.std.specs.Option.{option_map_or};
 ghost use Rattle.edif_names.specs.Parts.{Grows};
-ghost use Rattle.flat_lines_spec.specs.Lines.{cell_text, lib_text, spaced};
+ghost use Rattle.flat_lines_spec.specs.Lines.{cell_text, spaced};
 ghost use Rattle.script_spec.specs.Texts.{cell_words, end_words, ends_text, leaf_words, library_text, object_text, object_words, reply_text};
 ghost use Rattle.script_texts.specs.Parts.{behind_blanks, more_ends};
 

@@ -1,5 +1,5 @@
 //! The words of a line, each behind a blank.
-ghost use Rattle.std.specs.Prelude.{◌≡◌, ◌∷◌, [], ◌++◌, codes, map, pos, OnOk};
+ghost use Rattle.std.specs.Prelude.{◌≡◌, ◌∷◌, [], ◌++◌, map, OnOk};
 ghost use Rattle.std.specs.Fmt.{decimal, signed_decimal};
 ghost use Rattle.edif_names.specs.Parts.{Grows};
 ghost use Rattle.edif_spec.specs.PropertyText.{property_text};

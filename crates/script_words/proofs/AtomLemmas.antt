@@ -1,7 +1,7 @@
 -- What std reads as a number or an integer is spelled, and no other word; and what stands between quotes.
-use Rattle.std.proofs.Common.{◌≡◌, ◌≢◌, ◌∙◌, ℕ, ◌<◌, ◌≤◌, ◌^◌, Bool, true, false, cond, List, [], ◌∷◌, ◌++◌, drop, None, Some, Result, Ok, Err, ℤ, refl, sym, ap, subst}
+use Rattle.std.proofs.Common.{◌≡◌, ◌∙◌, ℕ, ◌<◌, ◌^◌, Bool, true, false, cond, List, [], ◌∷◌, ◌++◌, drop, None, Some, Result, Ok, Err, ℤ, refl, sym, ap, subst}
 use Rattle.std.specs.Prelude.{Option, MatchOption, ◌==◌, slice_index}
-use Rattle.std.specs.Str.{IsUtf8, all_ascii_digits}
+use Rattle.std.specs.Str.{IsUtf8}
 use Rattle.std.specs.Str.Parse.{IsNumeral, ParsesUnsigned, digits_value, without_leading_plus}
 use Rattle.std.proofs.lemmas.Str.{IsUtf8-from_ascii}
 use Rattle.edif_spelling_spec.specs.Bytes.{is_unquoted}

@@ -1,10 +1,10 @@
 -- A pin stays while calls are made that do not release it.
-use Rattle.std.proofs.Common.{◌≡◌, ℕ, Ok, Err, Result, sym, ◌∙◌, subst}
+use Rattle.std.proofs.Common.{ℕ, sym, subst}
 use Rattle.edit_tx.specs.Facts.{PinFacts, TxFacts}
 use Rattle.db_spec.specs.declared.event.Answer.TheVariants.{Committed, Pinned, Released}
 use Rattle.db_spec.specs.declared.event.Call.TheVariants.{Pin, Release}
 use Rattle.db_core.specs.Calls.{Accepts, Pins, Releases, commit_event, event_of}
-use Rattle.db_core.specs.Story.{Story, IsHistory, IsPinOf}
+use Rattle.db_core.specs.Story.{Story, IsHistory}
 use Rattle.db_core.proofs.Staying.{pin_stays_on}
 use Rattle.test_core.specs.Pins.{IsPinBy}
 

@@ -1,7 +1,6 @@
 //! The steps of one caller. What its calls answer is in the log that all callers leave.
 ghost use Rattle.std.specs.Prelude.{◌≡◌, IfSome};
 ghost use Rattle.db_share.specs.Passes.{HasPin, IsReady};
-ghost use Rattle.db_share.specs.Calls.{Stays};
 ghost use Rattle.test_share.specs.Callers.{GoesTo, HasOpen};
 
 use crate::callers::Caller;

@@ -1,5 +1,5 @@
 //! Two callers of one database.
-ghost use Rattle.std.specs.Prelude.{◌≡◌, ◌<◌, [], ◌∷◌, ℕ, All, IfOk, IfSome, length, slice_index_or, vec_len};
+ghost use Rattle.std.specs.Prelude.{◌≡◌, ◌<◌, [], ℕ, All, IfOk, IfSome, slice_index_or, vec_len};
 ghost use Rattle.db_share.specs.Passes.{IsReady};
 ghost use Rattle.test_share.specs.Callers.{GoesTo, HasOpen};
 ghost use Rattle.test_share.specs.Trios.{AreReady};

@@ -1,5 +1,5 @@
 //! The turn and its seats.
-ghost use Rattle.std.specs.Prelude.{◌≡◌, ◌≤◌, ◌<◌, ◌^◌, ℕ, ◌⊎◌, List, [], ◌∷◌, length, slice_get, Some, IfOk, vec_len, MatchBool, All, Contains};
+ghost use Rattle.std.specs.Prelude.{◌≡◌, ◌≤◌, ◌<◌, ◌^◌, ℕ, ◌⊎◌, [], ◌∷◌, length, slice_get, Some, IfOk, vec_len, MatchBool, All, Contains};
 ghost use mathlib.Core.List.{IsPrefix};
 ghost use Rattle.turn_cell.specs.Seats.{SeatFacts, new_seat, IsAtRest, IsSameSeat, HasSeat, HasEachSeat, HasTheTurn, taken, Adds, Gains, log_of, entries_of, AgreeWith};
 ghost use Rattle.turn_cell.specs.Views.{phase_of, number_of, seen_of, own_of, ticket_of, IsLive, IsResting, IsIn};

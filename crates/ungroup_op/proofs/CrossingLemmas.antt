@@ -1,5 +1,5 @@
 -- The first step of a path that is an instance, found step by step, and the path that is moved by it.
-use Rattle.std.proofs.Common.{◌≡◌, ◌<◌, ◌+◌, length-take, ℕ, zero, suc, arith, Bool, true, false, ◌||◌, List, [], ◌∷◌, ◌++◌, length, drop, take, map, Option, Some, None, refl, sym, ap, subst, ◌∙◌, cond}
+use Rattle.std.proofs.Common.{◌≡◌, ◌<◌, ◌+◌, length-take, ℕ, suc, arith, Bool, true, false, ◌||◌, List, [], ◌∷◌, ◌++◌, length, drop, take, map, Option, Some, None, refl, sym, ap, subst, ◌∙◌, cond}
 use Rattle.std.specs.Prelude.{is_some, option_and_then, option_map, filter_map, zip}
 use Rattle.std.specs.List.{cons_option, list_any}
 use Rattle.std.specs.Option.{option_map_or}

@@ -1,5 +1,5 @@
 -- States while the paths of notes are gone along.
-use Rattle.std.proofs.Common.{◌≡◌, ◌⊎◌, ◌↔◌, ◌++◌, ℕ, List, [], ◌∷◌, map, Option, Some, None, refl, sym, ap, subst}
+use Rattle.std.proofs.Common.{◌≡◌, ◌⊎◌, ◌↔◌, ◌++◌, ℕ, List, [], ◌∷◌, Option, Some, None, refl, sym, ap, subst}
 use Rattle.std.specs.Option.{option_map}
 use Rattle.std.specs.Prelude.{Err, MatchResult, Ok, Result}
 use Rattle.netlist_schema.specs.Design.{Design}
@@ -11,8 +11,7 @@ use Rattle.edit_cells.specs.State.{State, HasRead, HasReadSome}
 use Rattle.eco_reads.proofs.Reading.{read_then}
 use Rattle.eco_reads.proofs.NoteReads.{some_after, no_top}
 use Rattle.ungroup_op.specs.Crossing.{crossing, crossings}
-use Rattle.ungroup_op.specs.Read.{AreRead, IsForCell, places_of}
-use Rattle.ungroup_op.specs.declared.notes.ReadNotes.{ReadNotes}
+use Rattle.ungroup_op.specs.Read.{IsForCell}
 
 pub crossings_joined : (d : Design) (cell : CellId) (inst : List ℕ) (top : CellId) (notes more : List Note)
     → crossings d cell inst top (notes ++ more) ≡ crossings d cell inst top notes ++ crossings d cell inst top more

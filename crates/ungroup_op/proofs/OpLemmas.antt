@@ -1,17 +1,17 @@
 -- The operation over what it has read.
-use Rattle.std.proofs.Common.{Bor, ◌≡◌, ◌⊎◌, ◌↔◌, ◌+◌, inl, inr, ⊎_elim, ℕ, zero, suc, arith, Bool, true, false, cond, List, [], ◌∷◌, map, Option, Some, None, refl, sym, ap, subst, ◌∙◌, slice_get, length}
-use Rattle.std.specs.Prelude.{IfSome, IsSome, MatchResult, Result, Ok, Err, option_and_then, option_map, option_to_list}
+use Rattle.std.proofs.Common.{Bor, ◌≡◌, ◌⊎◌, ◌↔◌, ◌+◌, inl, inr, ⊎_elim, ℕ, suc, arith, Bool, true, false, cond, List, [], ◌∷◌, map, Option, Some, None, refl, sym, ap, subst, ◌∙◌, slice_get, length}
+use Rattle.std.specs.Prelude.{IfSome, IsSome, MatchResult, Result, Ok, option_and_then, option_map, option_to_list}
 use Rattle.std.specs.List.{position_from}
 use Rattle.std.specs.Option.{option_copied}
 use Rattle.std.proofs.lemmas.List.{length-map}
 use Rattle.netlist_schema.specs.Design.{Design, insts_in}
 use Rattle.netlist_schema.specs.Types.{CellId, Contents, Inst, Note, Object, TopHead}
 use Rattle.netlist_schema.specs.Valid.{IsValid}
-use Rattle.edit_rules_spec.specs.Edit.{Edit, inner, noted}
+use Rattle.edit_rules_spec.specs.Edit.{inner, noted}
 use Rattle.edit_rules_spec.specs.Find.{cell_named, inst_named, inst_place, is_name}
 use Rattle.edit_rules_spec.specs.Objects.{contents_object, face_object}
 use Rattle.edit_rules_spec.specs.Reading.{IsForCell, IsForName, IsForNotes, IsInside as IsInsideOf}
-use Rattle.edit_rules_spec.specs.Rule.{Outcome, first, no_cell, no_lib, unless}
+use Rattle.edit_rules_spec.specs.Rule.{first, no_cell, no_lib, unless}
 use Rattle.edit_rules_spec.specs.Seen.{contents_at, inside, named, placed}
 use Rattle.edit_rules_spec.specs.declared.reply.CellName.{CellName}
 use Rattle.edit_rules_spec.specs.declared.reply.Reply.{Reply}
@@ -20,23 +20,22 @@ use Rattle.edit_rules_spec.proofs.Refusals.{same_name}
 use Rattle.edit_spec.specs.Needs.{Needs}
 use Rattle.edit_spec.specs.Rows.{outcome}
 use Rattle.edit_spec.specs.declared.ops.Op.TheVariants.{Ungroup}
-use Rattle.edit_cells.specs.Parts.{IsFace, IsInside}
+use Rattle.edit_cells.specs.Parts.{IsInside}
 use Rattle.edit_cells.specs.State.{State, HasRead}
 use Rattle.eco_reads.specs.Done.{IsDone, IsDoneOrFails}
 use Rattle.eco_reads.specs.Plan.{CanBePut, IsPut}
 use Rattle.eco_reads.specs.Plan as eco
-use Rattle.eco_reads.specs.declared.plan.Plan.{Plan}
 use Rattle.eco_reads.specs.declared.plan.Plan.TheVariants.{Whole}
 use Rattle.eco_reads.proofs.Found.{found_row, inside_is, refused_row}
 use Rattle.eco_reads.proofs.Reading.{both_edits, done_read, only_name, planned_can, planned_done, put_result, read_then}
-use Rattle.ungroup_spec.specs.Dissolved.{children, contents_after}
+use Rattle.ungroup_spec.specs.Dissolved.{children}
 use Rattle.ungroup_spec.specs.Groups.{Site}
 use Rattle.ungroup_spec.specs.MovedNotes.{changed_notes}
 use Rattle.ungroup_spec.specs.Needs.{IsForInst}
-use Rattle.ungroup_spec.specs.Ungroup.{edits_at, edits_if, inside_inst, notes_seen, site_of}
+use Rattle.ungroup_spec.specs.Ungroup.{edits_if, inside_inst, notes_seen, site_of}
 use Rattle.ungroup_plans.specs.Heads.{AreSound}
 use Rattle.ungroup_plans.specs.Moved.{notes_moved}
-use Rattle.ungroup_plans.specs.Planned.{IsMade, IsPlanned, refusals_of}
+use Rattle.ungroup_plans.specs.Planned.{IsMade, refusals_of}
 use Rattle.ungroup_plans.specs.declared.plan.Ungrouped.{Ungrouped}
 use Rattle.ungroup_op.specs.Crossing.{crossing}
 use Rattle.ungroup_op.specs.Read.{AreRead, IsForCell as IsForBoth, places_of}

@@ -1,5 +1,5 @@
 -- The contents of a cell of a valid design.
-use Rattle.std.proofs.Common.{◌≡◌, ◌<◌, ◌≤◌, inl, inr, ℕ, zero, suc, arith, List, [], ◌∷◌, length, get_or, refl, sym, ap, subst, ◌∙◌, Option, Some, None, slice_get}
+use Rattle.std.proofs.Common.{◌≡◌, ◌<◌, ◌≤◌, inl, inr, ℕ, suc, arith, List, [], ◌∷◌, length, refl, sym, ap, subst, Option, Some, None, slice_get}
 use Rattle.std.specs.Prelude.{IfSome, IsSomeAnd, flat_map}
 use Rattle.std.specs.List.{All}
 use Rattle.std.specs.Option.{option_map_or}
@@ -12,7 +12,6 @@ use Rattle.flat_spec.proofs.ListLemmas.{Ascends, Contains-member, Member}
 use Rattle.flat_spec.proofs.PinLemmas.{AllPairs-ascends, ends-member, joined_once}
 use Rattle.ungroup_spec.specs.Groups.{ends_of_net}
 use Rattle.ungroup_spec.proofs.FreshLemmas.{All-member, member-All}
-use Rattle.ungroup_spec.proofs.PlaceLemmas.{slice_get-member}
 use Rattle.ungroup_spec.proofs.AtLemmas.{contents-body}
 use Rattle.ungroup_plans.specs.Heads.{AreSound, IsLow}
 

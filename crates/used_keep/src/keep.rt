@@ -1,5 +1,5 @@
 //! The design with nothing but its top and the cells below it.
-ghost use Rattle.std.specs.Prelude.{◌≡◌, ◌↔◌, Err, IfOk, None, Ok, Some, MatchResult};
+ghost use Rattle.std.specs.Prelude.{◌≡◌, ◌↔◌, Err, IfOk, None, Ok, Some};
 ghost use Rattle.used_spec.specs.Kept.{kept, kept_below, kept_places};
 
 use crate::cells::{new_libs, new_top};

@@ -1,5 +1,5 @@
 //! The places of the cells that are kept.
-ghost use Rattle.std.specs.Prelude.{◌≡◌, ◌≤◌, IfOk, OnOk, length};
+ghost use Rattle.std.specs.Prelude.{◌≡◌, ◌≤◌, IfOk, length};
 ghost use Rattle.std.specs.List.{list_any};
 ghost use Rattle.std.specs.BTreeSet.{contains};
 ghost use Rattle.netlist_schema.specs.Hierarchy.{IsCell};
@@ -8,8 +8,7 @@ ghost use Rattle.netlist_schema.specs.Types.{CellId as Id};
 ghost use Rattle.netlist_schema.specs.declared.limits.TheConstants.{MOST_CELLS};
 ghost use Rattle.edif_spec.specs.Arranged.{new_id, place_in};
 ghost use Rattle.edit_rules_spec.specs.Paths.{same_cell};
-ghost use Rattle.flat_cells.specs.Below.{AreCellsBelow};
-ghost use Rattle.used_spec.specs.Kept.{is_kept, kept_places};
+ghost use Rattle.used_spec.specs.Kept.{kept_places};
 ghost use Rattle.used_keep.specs.Places.{IsRising, places_by, row_at, slots_by};
 
 use flat_cells::cells_below;

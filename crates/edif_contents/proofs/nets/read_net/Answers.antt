@@ -1,4 +1,4 @@
-use Rattle.std.proofs.Common.{List, refl, sym, subst, arith}
+use Rattle.std.proofs.Common.{List, refl, subst, arith}
 use Rattle.edif_spelling_spec.specs.Tree.{Placed}
 use Rattle.edif_spec.specs.Faults.{RowFault}
 use Rattle.edif_spec.specs.Stands.{BusNameFault}

@@ -1,7 +1,7 @@
-use Rattle.std.proofs.Common.{◌≡◌, ℕ, List, None, Option, sym, ◌∙◌, subst}
+use Rattle.std.proofs.Common.{◌≡◌, ℕ, None, Option, sym, ◌∙◌, subst}
 use Rattle.edif_tree.specs.Handles.{all}
 use Rattle.edif_nets.proofs.NetListing.{without_array}
-use Rattle.edif_parts.proofs.Answering.{answers_more, hand_on}
+use Rattle.edif_parts.proofs.Answering.{hand_on}
 use Rattle.edif_spec.specs.Nets.{single_form}
 use Rattle.edif_spec.specs.declared.fault.MeaningFault.{MeaningFault}
 use Rattle.edif_contents.specs.Nets.{HasParts, PartFault, form_in}

@@ -1,4 +1,4 @@
-use Rattle.std.proofs.Common.{◌≡◌, ap, sym, Some}
+use Rattle.std.proofs.Common.{ap, sym, Some}
 use Rattle.edif_spec.specs.Canonical.{layout, bits_tree}
 use Rattle.netdb_outside.proofs.BufferedLemmas.{writes_same}
 use Rattle.edif_writer.proofs.contents.write_bits.Goals as goal

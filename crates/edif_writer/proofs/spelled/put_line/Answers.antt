@@ -1,4 +1,3 @@
-use Rattle.std.proofs.Common.{◌≡◌, ◌∙◌, refl}
 use Rattle.netdb_outside.proofs.BufferedLemmas.{writes_same}
 use Rattle.edif_writer.proofs.Lines.{line_front}
 use Rattle.edif_writer.proofs.spelled.put_line.Goals as goal

@@ -1,4 +1,4 @@
-use Rattle.std.proofs.Common.{◌≡◌, List, Some, sym, ap, subst, ◌∙◌}
+use Rattle.std.proofs.Common.{◌≡◌, List, sym, ap, subst, ◌∙◌}
 use Rattle.std.specs.Option.{option_copied}
 use Rattle.netlist_schema.specs.Types.{Note, Property}
 use Rattle.flat_spec.specs.Effective.{base_properties, merged, names_along, notes_for}

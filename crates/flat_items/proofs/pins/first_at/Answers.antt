@@ -1,5 +1,3 @@
-use Rattle.std.proofs.Common.{sym, subst}
-use Rattle.flat_items.specs.Stand.{stand_of}
 use Rattle.flat_items.proofs.TextLemmas.{first_below, first_of_top}
 use Rattle.flat_items.proofs.pins.first_at.Goals as goal
 

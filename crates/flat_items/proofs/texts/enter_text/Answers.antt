@@ -1,4 +1,3 @@
-use Rattle.std.proofs.Common.{refl}
 use Rattle.flat_items.specs.Stand.{here_of, stand_of}
 use Rattle.flat_items.proofs.TextLemmas.{enter_told}
 use Rattle.flat_items.proofs.texts.enter_text.Goals as goal

@@ -1,4 +1,4 @@
-use Rattle.std.proofs.Common.{◌≡◌, ◌∙◌, ap, subst}
+use Rattle.std.proofs.Common.{◌∙◌, ap, subst}
 use Rattle.flat_spec.specs.Paths.{at_path}
 use Rattle.flat_spec.specs.Representatives.{representative}
 use Rattle.flat_spec.specs.Types.{NetAt}

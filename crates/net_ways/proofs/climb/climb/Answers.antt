@@ -1,4 +1,4 @@
-use Rattle.std.proofs.Common.{◌≡◌, ap, ◌∙◌, arith, take}
+use Rattle.std.proofs.Common.{ap, ◌∙◌, arith, take}
 use Rattle.flat_spec.specs.Paths.{at_path}
 use Rattle.net_ways.proofs.climb.climb.Goals as goal
 

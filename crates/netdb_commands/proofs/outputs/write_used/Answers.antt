@@ -1,5 +1,4 @@
-use Rattle.std.proofs.Common.{List, subst, sym, ◌∙◌}
-use Prim.Native.Nat.{ℕ}
+use Rattle.std.proofs.Common.{subst, sym, ◌∙◌}
 use Rattle.netlist_schema.specs.Design.{Design}
 use Rattle.edif_spec.specs.Arranged.{canonical_text}
 use Rattle.netdb_spec.specs.declared.command.Wanted.TheVariants.{Used}

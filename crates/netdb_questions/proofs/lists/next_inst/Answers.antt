@@ -1,4 +1,4 @@
-use Rattle.std.proofs.Common.{◌≡◌, ℕ, List, [], ◌∷◌, ◌++◌, Some, None, ◌∙◌, ap, refl, slice_get, subst, sym}
+use Rattle.std.proofs.Common.{◌≡◌, ℕ, List, [], ◌∷◌, ◌++◌, ◌∙◌, ap, refl, slice_get, subst, sym}
 use Rattle.std.specs.Prelude.{IsSome}
 use Rattle.ask_spec.specs.Places.{insts_of}
 use Rattle.netdb_questions.specs.Items.{occurrence_item}

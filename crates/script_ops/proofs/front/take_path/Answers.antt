@@ -1,4 +1,4 @@
-use Rattle.std.proofs.Common.{List, ℕ, [], ◌∷◌, Bor}
+use Rattle.std.proofs.Common.{List, ℕ, [], ◌∷◌}
 use Rattle.script_spec.specs.Lines.{path_piece}
 use Rattle.script_ops.specs.Front.{Lacks, Takes}
 use Rattle.script_words.specs.Reading.{lent}

@@ -1,4 +1,4 @@
-use Rattle.std.proofs.Common.{map, ap, sym, ◌∙◌}
+use Rattle.std.proofs.Common.{ap, ◌∙◌}
 use Rattle.script_ops.proofs.PieceLemmas.{port_read}
 use Rattle.script_words.specs.Reading.{lent}
 use Rattle.script_ops.proofs.pieces.port.Goals as goal

@@ -1,4 +1,4 @@
-use Rattle.std.proofs.Common.{List, ℕ, [], map, Bor}
+use Rattle.std.proofs.Common.{List, [], map}
 use Rattle.edit_spec.specs.declared.ops.PortDecl.{PortDecl}
 use Rattle.script_spec.specs.Lines.{port_piece}
 use Rattle.script_spec.specs.Pieces.{SpellPieces}

@@ -1,7 +1,6 @@
-use Rattle.std.proofs.Common.{◌≡◌, ◌+◌, List, ℕ, [], Bor, arith, length, take, drop, get_or, subst, sym}
+use Rattle.std.proofs.Common.{◌≡◌, ◌+◌, List, ℕ, [], Bor, arith, take, drop, get_or, subst, sym}
 use Rattle.script_reader.specs.Line.{AreRead, place_of}
 use Rattle.script_words.specs.Reading.{lent}
-use Rattle.script_reader.specs.declared.script.ScriptError.TheVariants.{BadLine}
 use Rattle.script_reader.proofs.ProgressLemmas.{cut_at, is_first, length_taken, more_read, taken_more}
 use Rattle.script_reader.proofs.script.read_lines.Goals as goal
 

@@ -1,10 +1,10 @@
-use Rattle.std.proofs.Common.{◌≡◌, Option, ◌+◌, refl, sym, ap, subst, ◌∙◌, ℕ, List, length, length-take, take, drop, arith}
+use Rattle.std.proofs.Common.{◌+◌, refl, sym, ap, subst, ◌∙◌, ℕ, List, take, drop}
 use Rattle.edit_rules_spec.specs.Seen.{contents_at}
 use Rattle.edit_rules_spec.specs.Reading.{IsReached}
 use Rattle.edit_cells.specs.State.{HasRead}
 use Rattle.eco_reads.proofs.Going.{HasGone, gone_more, gone_no_further, one_further, split_here}
 use Rattle.eco_reads.proofs.NamedLemmas.{still_named}
-use Rattle.ungroup_op.specs.Crossing.{crossing, first_place, is_inst}
+use Rattle.ungroup_op.specs.Crossing.{crossing, is_inst}
 use Rattle.ungroup_op.proofs.CrossingLemmas.{crossing_more, crossing_stop, place_here}
 use Rattle.ungroup_op.proofs.notes.crossing.Goals as goal
 

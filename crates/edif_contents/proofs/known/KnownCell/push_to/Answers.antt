@@ -1,5 +1,3 @@
-use Rattle.std.proofs.Common.{[], ◌∷◌}
-use Rattle.edif_contents.specs.NamesOf.{AreNamesOf}
 use Rattle.edif_contents.proofs.KnownLemmas.{zip_pushed}
 use Rattle.edif_contents.proofs.known.KnownCell.push_to.Goals as goal
 

@@ -1,8 +1,6 @@
-use Rattle.std.proofs.Common.{◌≡◌, ℕ, List, Some, None, sym, ap, ◌∙◌, subst}
-use Rattle.edif_spec.specs.Keyword.{same}
-use Rattle.edif_spec.specs.Means.{equal, meant}
+use Rattle.std.proofs.Common.{ℕ, List, sym, ◌∙◌, subst}
+use Rattle.edif_spec.specs.Means.{meant}
 use Rattle.edif_names.specs.declared.scope.Meant.TheVariants as answers
-use Rattle.edif_parts.specs.FewNames.{first_from, one_passes}
 use Rattle.edif_parts.specs.Names.{Tells, ids}
 use Rattle.edif_parts.proofs.FewLemmas.{means_absent, means_equal, means_one, means_several}
 use Rattle.edif_parts.proofs.few_names.FewNames.meant.Goals as goal
