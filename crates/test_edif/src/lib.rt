@@ -14,6 +14,8 @@ mod forms;
 #[cfg(test)]
 mod lexing;
 #[cfg(test)]
+mod lists;
+#[cfg(test)]
 mod order;
 #[cfg(test)]
 mod reading;

@@ -7,36 +7,7 @@ use netlist_schema::{Design, LibId};
 use std::alloc::Global;
 use std::process::Abort;
 use std::test::Fail;
-
-const OUT_OF_ORDER: &str = "(edif e
- (edifVersion 2 0 0)
- (edifLevel 0)
- (keywordMap (keywordLevel 0))
- (library w
-  (edifLevel 0)
-  (technology (numberDefinition))
-  (cell LUT (cellType GENERIC)
-   (view v (viewType NETLIST)
-    (interface)))
-  (cell B (cellType GENERIC)
-   (view v (viewType NETLIST)
-    (interface)
-    (contents
-     (instance u2 (viewRef v (cellRef LUT (libraryRef w))) (property INIT (string \"0\"))))))
-  (cell B_u1 (cellType GENERIC)
-   (view v (viewType NETLIST)
-    (interface)
-    (contents
-     (instance u2 (viewRef v (cellRef LUT (libraryRef w))) (property INIT (string \"0\"))))))
-  (cell T (cellType GENERIC)
-   (view v (viewType NETLIST)
-    (interface)
-    (contents
-     (instance u1 (viewRef v (cellRef B (libraryRef w))))
-     (instance u3 (viewRef v (cellRef B_u1 (libraryRef w))))))))
- (design T (cellRef T (libraryRef w))
-  (userData netdb_note (path u1 u2) (property INIT (string \"1\")))))
-";
+use test_texts::OUT_OF_ORDER;
 
 /// Whether the cells of the library are written in this order.
 fn has_order(alloc: Global, design: &Design, want: &[u32]) -> Result<bool, Fail> {

@@ -1,10 +1,10 @@
 //! Port classes.
-use crate::designs::{beside, board};
 use net_classes::Classes;
 use netlist_schema::{CellId, Design, LibId, Shown};
 use std::alloc::Global;
 use std::process::Abort;
 use std::test::Fail;
+use test_hand_designs::{beside, board};
 
 /// A bit of the cell at a place of the library, and its class.
 type ClassRow = (u32, u32, Option<u32>);

@@ -7,8 +7,6 @@ mod board;
 #[cfg(test)]
 mod classes;
 #[cfg(test)]
-mod designs;
-#[cfg(test)]
 mod finding;
 #[cfg(test)]
 mod finding_designs;

@@ -1,5 +1,4 @@
 //! Walks, item by item.
-use crate::designs::{bare, board};
 use flat_lookup::cell_along;
 use flat_report::{item_text, lent_text};
 use flat_spec::{Item, Path};
@@ -8,6 +7,7 @@ use occ_walk::{Walk, WalkError};
 use std::alloc::Global;
 use std::process::Abort;
 use std::test::Fail;
+use test_hand_designs::{bare, board};
 
 /// The items of the board.
 const ITEMS: &str = "inst / w T

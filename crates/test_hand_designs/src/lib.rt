@@ -3,8 +3,10 @@
 
 mod parts;
 mod plans;
+mod worked;
 
 pub use plans::{
     CellPlan, DesignPlan, EndPlan, Inside, InstPlan, NetPlan, NotePlan, PortPlan, PropertyPlan,
     TopPlan, design,
 };
+pub use worked::{bare, beside, board};

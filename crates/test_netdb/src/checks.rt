@@ -1,17 +1,12 @@
 //! Checks of reports: true ones and false ones, and the order in which words and files are refused.
 use crate::calls::{Case, File, NO_TOP, NOTHING, OK, USAGE, WRITE, Writes, check, check_files};
-use crate::texts::{HEAD, JOINT_REPORT, PAIR};
+use crate::texts::HEAD;
 use std::alloc::{AllocError, Global};
 use std::process::Abort;
 use std::sync::Wait;
 use std::test::Fail;
 use std::thread::Threads;
-
-const FIRST: &str = "begin\nadd-net w A n\ncommit\n";
-
-const SECOND: &str = "begin\nadd-net w B m\ncommit\n";
-
-const WALKING: &str = "pin\nwalk\nrelease\n";
+use test_texts::{FIRST, JOINT_REPORT, PAIR, RENUMBERED, SECOND, WALKING};
 
 /// The pair, and the three scripts, each in one piece.
 const DESIGN: &[&str] = &[PAIR];
@@ -83,27 +78,12 @@ fn changed_reports_are_not_true(rt: HostRuntime) -> Result<(), Fail> {
     Ok(())
 }
 
-/// The same calls with the first two pins in the other order.
-const RENUMBERED: &str = "history
-0 caller 0 pin -> pin 0 version 0
-1 caller 2 pin -> pin 1 version 0
-2 caller 1 pin -> pin 2 version 0
-3 caller 1 commit pin 2 -> committed 1
- add-net w B m -> done
-4 caller 1 release pin 2 -> released
-5 caller 0 commit pin 0 -> committed 2
- add-net w A n -> done
-6 caller 0 release pin 0 -> released
-7 caller 2 release pin 1 -> released
-script 0
-";
-
 #[test]
 fn another_history_is_true(rt: HostRuntime) -> Result<(), Fail> {
     let Some((_, behind)) = JOINT_REPORT.split_once("script 0\n") else {
         return Err(Fail::from("no transcripts"));
     };
-    answers(&rt, rt.alloc(), &[RENUMBERED, behind], YES)
+    answers(&rt, rt.alloc(), &[RENUMBERED, "script 0\n", behind], YES)
 }
 
 /// The pair F, a design T without a top, its report R, a script that walks, one with a bad line, and a file that is no design.

@@ -1,10 +1,10 @@
 //! Scripts that edit a design, and what is reported of them.
 use crate::calls::{OK, WRITE_F, Writes, check_file, check_run};
 use crate::eco_texts::{
-    BOARD, BOARD_DISSOLVED, BOARD_DISSOLVED_TEXT, BOARD_EDITED, BOARD_EDITED_TEXT, NOTED_COPIED,
-    NOTED_COPIED_TEXT, NOTED_DISSOLVED, NOTED_DISSOLVED_TEXT, OPERATIONS, REFUSED, THRICE,
-    THRICE_COPIED, THRICE_COPIED_TEXT, TOPLESS, TOPLESS_REFUSED, TOPLESS_TEXT, UNGROUP_BOARD,
-    UNGROUP_NOTED, UNIQUIFY,
+    BOARD_DISSOLVED, BOARD_DISSOLVED_TEXT, BOARD_EDITED, BOARD_EDITED_TEXT, NOTED_COPIED,
+    NOTED_DISSOLVED, NOTED_DISSOLVED_TEXT, OPERATIONS, REFUSED, THRICE, THRICE_COPIED,
+    THRICE_COPIED_TEXT, TOPLESS, TOPLESS_REFUSED, TOPLESS_TEXT, UNGROUP_BOARD, UNGROUP_NOTED,
+    UNIQUIFY,
 };
 use crate::texts::NOTED;
 use std::alloc::Global;
@@ -12,6 +12,7 @@ use std::process::Abort;
 use std::sync::Wait;
 use std::test::Fail;
 use std::thread::Threads;
+use test_texts::{BOARD, OUT_OF_ORDER};
 
 /// A design, a script that is run on it, the history and the transcript, and the last version as it is written.
 type Edited<'a> = (&'a str, &'a str, &'a str, &'a str);
@@ -40,7 +41,7 @@ fn is_written_again<R: Abort + Threads + Wait + Sync>(
 /// Each with its history, its transcript and its last version. In the first three, occurrences of blocks get cells of their own, where
 /// there is a top. In the others an instance is dissolved into the cell that holds it, alone and behind each other operation.
 static EDITED: [Edited; 6] = [
-    (NOTED, UNIQUIFY, NOTED_COPIED, NOTED_COPIED_TEXT),
+    (NOTED, UNIQUIFY, NOTED_COPIED, OUT_OF_ORDER),
     (THRICE, UNIQUIFY, THRICE_COPIED, THRICE_COPIED_TEXT),
     (TOPLESS, REFUSED, TOPLESS_REFUSED, TOPLESS_TEXT),
     (NOTED, UNGROUP_NOTED, NOTED_DISSOLVED, NOTED_DISSOLVED_TEXT),

@@ -25,37 +25,6 @@ inst /u3/u2 w LUT INIT=\"0\"
 end
 ";
 
-/// The design then. The copy is the last cell of its library, and is written before the top, which places it.
-pub const NOTED_COPIED_TEXT: &str = "(edif e
- (edifVersion 2 0 0)
- (edifLevel 0)
- (keywordMap (keywordLevel 0))
- (library w
-  (edifLevel 0)
-  (technology (numberDefinition))
-  (cell LUT (cellType GENERIC)
-   (view v (viewType NETLIST)
-    (interface)))
-  (cell B (cellType GENERIC)
-   (view v (viewType NETLIST)
-    (interface)
-    (contents
-     (instance u2 (viewRef v (cellRef LUT (libraryRef w))) (property INIT (string \"0\"))))))
-  (cell B_u1 (cellType GENERIC)
-   (view v (viewType NETLIST)
-    (interface)
-    (contents
-     (instance u2 (viewRef v (cellRef LUT (libraryRef w))) (property INIT (string \"0\"))))))
-  (cell T (cellType GENERIC)
-   (view v (viewType NETLIST)
-    (interface)
-    (contents
-     (instance u1 (viewRef v (cellRef B (libraryRef w))))
-     (instance u3 (viewRef v (cellRef B_u1 (libraryRef w))))))))
- (design T (cellRef T (libraryRef w))
-  (userData netdb_note (path u1 u2) (property INIT (string \"1\")))))
-";
-
 /// A block placed three times; the first name that a copy would get is taken, but for the case of its letters.
 pub const THRICE: &str = "(edif e (edifVersion 2 0 0) (edifLevel 0) (keywordMap (keywordLevel 0))
  (library w (edifLevel 0) (technology)
@@ -215,28 +184,6 @@ pub const NOTED_DISSOLVED_TEXT: &str = "(edif e
      (instance u3 (viewRef v (cellRef B (libraryRef w))))))))
  (design T (cellRef T (libraryRef w))
   (userData netdb_note (path u1_u2) (property INIT (string \"1\")))))
-";
-
-/// A block, one of whose nets joins two of its ports and so two nets of the top, and a leaf whose name a child would get.
-pub const BOARD: &str = "(edif e (edifVersion 2 0 0) (edifLevel 0) (keywordMap (keywordLevel 0))
- (library w (edifLevel 0) (technology)
-  (cell P (cellType GENERIC) (view v (viewType NETLIST) (interface (port a (direction INOUT)))))
-  (cell C (cellType GENERIC) (view v (viewType NETLIST)
-   (interface (port p (direction INOUT)) (port q (direction INOUT)) (port r (direction INOUT)))
-   (contents
-    (instance j (viewRef v (cellRef P)))
-    (instance k (viewRef v (cellRef P)))
-    (net m (joined (portRef p) (portRef q) (portRef a (instanceRef j))))
-    (net s (joined (portRef a (instanceRef k)))))))
-  (cell T (cellType GENERIC) (view v (viewType NETLIST)
-   (interface)
-   (contents
-    (instance i (viewRef v (cellRef C)))
-    (instance i_j (viewRef v (cellRef P)))
-    (net X (joined (portRef p (instanceRef i))))
-    (net Y (joined (portRef q (instanceRef i)) (portRef a (instanceRef i_j))))
-    (net Z (joined (portRef r (instanceRef i))))))))
- (design T (cellRef T (libraryRef w))))
 ";
 
 /// The block is dissolved, between a walk of the version before and one of the version behind.

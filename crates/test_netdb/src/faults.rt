@@ -1,11 +1,12 @@
 //! Calls of the files that fail, where several files are read.
 use crate::calls::{Case, File, NOTHING, WRITE, check};
-use crate::texts::{HEAD, PAIR};
+use crate::texts::HEAD;
 use std::alloc::Global;
 use std::process::Abort;
 use std::sync::Wait;
 use std::test::Fail;
 use std::thread::Threads;
+use test_texts::PAIR;
 
 const FIRST_FILE: &[&str] = &["4 ReadFault { word: 1 }"];
 

@@ -1,7 +1,8 @@
 //! The electrical check, what is used, flattening by workers, and the check of a report.
 use crate::calls::{Case, NO_TOP, USAGE, WRITE, Writes, check};
-use crate::texts::{COUNTER, COUNTER_ITEMS, HEAD, LIB, THROUGH, THROUGH_ITEMS};
+use crate::texts::{COUNTER_ITEMS, HEAD, LIB, THROUGH, THROUGH_ITEMS};
 use std::test::Fail;
+use test_texts::{COUNTER, SPARE_USED};
 
 /// Two gates whose outputs drive one net, which one of their inputs joins.
 const CLASH: [&str; 3] = [
@@ -16,25 +17,6 @@ const SPARE: [&str; 3] = [
     LIB,
     " (cell Q (cellType GENERIC) (view v (viewType NETLIST) (interface))) (cell P (cellType GENERIC) (view v (viewType NETLIST) (interface))) (cell T (cellType GENERIC) (view v (viewType NETLIST) (interface) (contents (instance a (viewRef v (cellRef P))))))) (design T (cellRef T (libraryRef w))))",
 ];
-
-/// Its text without that leaf.
-const SPARE_USED: &str = "(edif e
- (edifVersion 2 0 0)
- (edifLevel 0)
- (keywordMap (keywordLevel 0))
- (library w
-  (edifLevel 0)
-  (technology (numberDefinition))
-  (cell P (cellType GENERIC)
-   (view v (viewType NETLIST)
-    (interface)))
-  (cell T (cellType GENERIC)
-   (view v (viewType NETLIST)
-    (interface)
-    (contents
-     (instance a (viewRef v (cellRef P (libraryRef w))))))))
- (design T (cellRef T (libraryRef w))))
-";
 
 /// A script that moves the use.
 const MOVE: &str = "begin\nadd-inst w T b w P\ndrop-inst w T a\ncommit\n";

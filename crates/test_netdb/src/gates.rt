@@ -1,7 +1,6 @@
 //! Two callers at a gate: what it is told of a block that is run again, and edits that are a cycle together.
 use crate::calls::{Case, WRITE, Writes, check_at};
 use crate::runs::{RETRIED, TWO_HOLDS, check_held};
-use crate::texts::PAIR;
 use netdb_outside::{Gate, Hold, HoldGate};
 use netlist_schema::Row;
 use std::alloc::Global;
@@ -10,6 +9,7 @@ use std::sync::Wait;
 use std::sync::atomic::{AtomicU32, Ordering};
 use std::test::Fail;
 use std::thread::Threads;
+use test_texts::PAIR;
 
 /// A gate that counts how often the first caller was at each of its first four lines, and then holds as another does.
 #[derive(Drop)]

@@ -1,14 +1,15 @@
 //! Words, a file and what comes of them.
 use crate::calls::{Case, NO_TOP, NOTHING, OK, USAGE, WRITE, WRITE_F, Writes, check, check_file};
 use crate::texts::{
-    COUNTER, COUNTER_FRONT, COUNTER_ITEMS, COUNTER_PINS, COUNTER_TEXT, EMPTY, HEAD, INVERTER,
-    INVERTER_TEXT, LIB, NAMES, NAMES_TEXT, NOTED, NOTED_ITEMS, THROUGH, THROUGH_ITEMS,
+    COUNTER_FRONT, COUNTER_ITEMS, COUNTER_PINS, COUNTER_TEXT, HEAD, INVERTER, INVERTER_TEXT, LIB,
+    NAMES, NAMES_TEXT, NOTED, NOTED_ITEMS, THROUGH, THROUGH_ITEMS,
 };
 use std::alloc::{AllocError, Global};
 use std::process::Abort;
 use std::sync::Wait;
 use std::test::Fail;
 use std::thread::Threads;
+use test_texts::{COUNTER, EMPTY};
 
 /// The pieces of a file, and what is written of it.
 static WRITTEN: [(&[&str], &str); 7] = [

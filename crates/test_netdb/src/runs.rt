@@ -3,7 +3,7 @@ use crate::calls::{
     ANYTHING, Case, File, NO_TOP, NOTHING, OK, RUN, USAGE, WRITE, Writes, check, check_at,
     check_files, check_run,
 };
-use crate::texts::{COUNTER, COUNTER_TEXT, EMPTY, HEAD, JOINT_REPORT, PAIR, RETRIED_REPORT};
+use crate::texts::{COUNTER_TEXT, HEAD};
 use netdb_cli::{Status, status_text};
 use netdb_outside::{Hold, HoldGate};
 use netlist_schema::Row;
@@ -12,12 +12,7 @@ use std::process::Abort;
 use std::sync::Wait;
 use std::test::Fail;
 use std::thread::Threads;
-
-const FIRST: &str = "begin\nadd-net w A n\ncommit\n";
-
-const SECOND: &str = "begin\nadd-net w B m\ncommit\n";
-
-const WALKING: &str = "pin\nwalk\nrelease\n";
+use test_texts::{COUNTER, EMPTY, FIRST, JOINT_REPORT, PAIR, RETRIED_REPORT, SECOND, WALKING};
 
 /// Checks a call at a gate, none of whose holds gives up.
 fn passes<R: Abort + Threads + Wait + Sync>(

@@ -1,6 +1,6 @@
 //! Flattening by workers: the same text for every number of them, and workers that run at the same time.
 use crate::calls::{Case, File, NO_TOP, NOTHING, OK, USAGE, WRITE, Writes, check_at, check_file};
-use crate::texts::{COUNTER, COUNTER_ITEMS, HEAD, THROUGH, THROUGH_ITEMS};
+use crate::texts::{COUNTER_ITEMS, HEAD, THROUGH, THROUGH_ITEMS};
 use netdb_outside::{Hold, HoldGate};
 use netlist_schema::Row;
 use std::alloc::Global;
@@ -8,6 +8,7 @@ use std::process::Abort;
 use std::sync::Wait;
 use std::test::Fail;
 use std::thread::Threads;
+use test_texts::COUNTER;
 
 /// Numbers of workers.
 static NUMBERS: [&str; 4] = ["1", "2", "3", "64"];

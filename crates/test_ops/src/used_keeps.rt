@@ -4,6 +4,7 @@ use crate::used_texts::{LARGE, SMALL, TOPLESS};
 use std::alloc::Global;
 use std::test::Fail;
 use test_text_designs::design_of;
+use test_texts::SPARE_USED;
 use used_keep::{KeepError, keep_used};
 
 /// The text of what is kept of a design.
@@ -16,27 +17,7 @@ fn kept_text(alloc: Global, text: &str) -> Result<Vec<u8>, Fail> {
 #[test]
 fn a_leaf_that_nothing_uses_is_left_out(rt: HostRuntime) -> Result<(), Fail> {
     let found = kept_text(rt.alloc(), SMALL)?;
-    assert!(rt;
-        found.as_slice()
-            == "(edif e
- (edifVersion 2 0 0)
- (edifLevel 0)
- (keywordMap (keywordLevel 0))
- (library w
-  (edifLevel 0)
-  (technology (numberDefinition))
-  (cell P (cellType GENERIC)
-   (view v (viewType NETLIST)
-    (interface)))
-  (cell T (cellType GENERIC)
-   (view v (viewType NETLIST)
-    (interface)
-    (contents
-     (instance a (viewRef v (cellRef P (libraryRef w))))))))
- (design T (cellRef T (libraryRef w))))
-"
-                .as_bytes()
-    );
+    assert!(rt; found.as_slice() == SPARE_USED.as_bytes());
     Ok(())
 }
 

@@ -1,7 +1,7 @@
 //! The same text for every number of workers, and workers that run at the same time.
 ghost use Rattle.std.specs.Prelude.{◌≤◌};
 
-use crate::designs::{bare, blocks, board, counter, heavy, tree};
+use crate::designs::{blocks, counter, heavy, tree};
 use crate::measures::{LateSink, Measure, TallyGate};
 use flat_report::item_text;
 use flat_spec::Item;
@@ -13,6 +13,7 @@ use std::alloc::Global;
 use std::process::Abort;
 use std::test::Fail;
 use std::thread::Threads;
+use test_hand_designs::{bare, board};
 
 /// The text of a design's flattening, by one walk.
 fn plain_text(rt: &impl Abort, alloc: Global, design: &Design) -> MemSink {

@@ -1,11 +1,12 @@
 //! Places of names.
 use crate::ask_checks::asked;
-use crate::ask_designs::{COUNTER, DEEP, EMPTY, LEVELS};
+use crate::ask_designs::{DEEP, EMPTY};
 use ask_names::Names;
 use netlist_schema::{CellId, LibId, Shown};
 use std::process::Abort;
 use std::test::Fail;
 use test_text_designs::design_of;
+use test_texts::{COUNTER, LEVELS};
 
 /// Texts of paths with the places of their instances: the top, one step, three steps; as a script writes them, and as a flattening shows them.
 static FOUND: [(&str, &[u32]); 9] = [

@@ -1,6 +1,6 @@
 //! Listings of pins, which own what they are listed from.
 use crate::ask_checks::{BitRow, asked};
-use crate::ask_designs::{COUNTER, TWICE};
+use crate::ask_designs::TWICE;
 use ask_spec::Role;
 use flat_spec::Item;
 use net_pins::Listing;
@@ -8,6 +8,7 @@ use netlist_schema::Design;
 use std::alloc::Global;
 use std::process::Abort;
 use std::test::Fail;
+use test_texts::COUNTER;
 
 /// The listing of the pins of a net; what was asked is gone.
 fn listed(

@@ -1,11 +1,12 @@
 //! Answers about worked designs.
 use crate::ask_checks::{asked, check_first, check_pins, check_sides};
-use crate::ask_designs::{COUNTER, EMPTY, FEEDTHROUGH, LEVELS, TWICE};
+use crate::ask_designs::{EMPTY, TWICE};
 use flat_ask::{Ask, AskError};
 use flat_items::NetRef;
 use netlist_schema::{CellId, LibId};
 use std::test::Fail;
 use test_text_designs::design_of;
+use test_texts::{COUNTER, FEEDTHROUGH, LEVELS};
 
 #[test]
 fn counter_is_asked(rt: HostRuntime) -> Result<(), Fail> {

@@ -1,7 +1,6 @@
 //! Reports and what a check answers of them.
 use crate::report_texts::{
-    BUFFER, EMPTY, ENDS_REPORT, GLANCE, JOINT_REPORT, LOOK, MARK, PAIR, RETRIED_REPORT, SPELLED,
-    STAGES, STAGES_REPORT, UNFINISHED, WANTING,
+    BUFFER, ENDS_REPORT, GLANCE, LOOK, MARK, SPELLED, STAGES, STAGES_REPORT, UNFINISHED, WANTING,
 };
 use history_check::{CheckError, Verdict, check_report};
 use netlist_schema::Row;
@@ -11,15 +10,10 @@ use std::process::Abort;
 use std::str;
 use std::test::Fail;
 use test_text_designs::design_of;
+use test_texts::{EMPTY, FIRST, JOINT_REPORT, PAIR, RENUMBERED, RETRIED_REPORT, SECOND, WALKING};
 
 /// The most bytes of a script.
 const MOST_BYTES: usize = 262_144;
-
-const FIRST: &str = "begin\nadd-net w A n\ncommit\n";
-
-const SECOND: &str = "begin\nadd-net w B m\ncommit\n";
-
-const WALKING: &str = "pin\nwalk\nrelease\n";
 
 const THREE: &[&str] = &[FIRST, SECOND, WALKING];
 
@@ -212,20 +206,6 @@ fn a_report_without_its_last_line_feed_is_not_true(rt: HostRuntime) -> Result<()
     assert!(rt; matches!(told, Ok(Verdict::No)));
     Ok(())
 }
-
-/// The same calls with the first two pins in the other order.
-const RENUMBERED: &str = "history
-0 caller 0 pin -> pin 0 version 0
-1 caller 2 pin -> pin 1 version 0
-2 caller 1 pin -> pin 2 version 0
-3 caller 1 commit pin 2 -> committed 1
- add-net w B m -> done
-4 caller 1 release pin 2 -> released
-5 caller 0 commit pin 0 -> committed 2
- add-net w A n -> done
-6 caller 0 release pin 0 -> released
-7 caller 2 release pin 1 -> released
-";
 
 #[test]
 fn another_history_is_true(rt: HostRuntime) -> Result<(), Fail> {

@@ -1,8 +1,8 @@
 //! Worked designs.
+use crate::plans::{CellPlan, DesignPlan, Inside, design};
 use netlist_schema::{Design, Direction};
 use std::alloc::Global;
 use std::test::Fail;
-use test_hand_designs::{CellPlan, DesignPlan, Inside, design};
 
 /// A leaf with a pin.
 const LAMP: CellPlan = CellPlan {
