@@ -4,6 +4,5 @@
 pub mod CodeLemmas
 pub mod CompleteLemmas
 pub mod CutLemmas
-pub mod LaneLemmas
 pub mod StepLemmas
 pub mod WordTable

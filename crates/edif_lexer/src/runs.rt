@@ -3,9 +3,11 @@ ghost use Rattle.std.specs.Prelude.{◌≡◌, ◌≤◌, length, not, take, tru
 ghost use Rattle.std.specs.List.{list_all};
 ghost use Rattle.netlist_schema.specs.Ident.{is_identifier_byte};
 ghost use Rattle.edif_spelling_spec.specs.Bytes.{is_quote, is_space, is_unquoted, is_word_byte};
-ghost use Rattle.edif_lexer.specs.Lanes.{IsFront, IsQuoted, first_set, is_plain};
+ghost use Rattle.byte_lanes.specs.Lanes.{IsFront};
+ghost use Rattle.edif_lexer.specs.Lanes.{IsQuoted, is_plain};
 
 use crate::words::{is_name_byte, is_word_byte};
+use byte_lanes::{LANES, first_set};
 use std::simd::prelude::*;
 
 /// Whether the byte is a parenthesis.
@@ -26,21 +28,6 @@ pub(crate) fn word_bytes(bytes: &[u8]) -> usize
         }
     }
     bytes.len()
-}
-
-/// How many bytes are looked at together.
-const LANES: usize = 16;
-
-/// The place of the lowest bit that is set, or `LANES` where none is.
-#[inline(always)]
-fn first_set(mask: u64) -> usize
-    ensures { result ≡ first_set mask }
-{
-    if mask == 0 {
-        LANES
-    } else {
-        mask.trailing_zeros() as usize
-    }
 }
 
 /// How many of the first bytes are of an identifier.

@@ -2,6 +2,7 @@
 #![tactic(auto)]
 
 mod folded;
+mod plain;
 mod property;
 mod scope;
 mod strings;

@@ -1,9 +1,9 @@
 //! Strings, as they are spelled.
 ghost use Rattle.std.specs.Prelude.{◌≡◌, [], ◌∷◌, ◌++◌, List, ℕ, IfOk, OnErr, OnOk, decimal};
-ghost use Rattle.std.specs.List.{list_all};
-ghost use Rattle.edif_spec.specs.Canonical.{is_plain, string_text};
+ghost use Rattle.edif_spec.specs.Canonical.{string_text};
 ghost use Rattle.edif_names.specs.Parts.{Grows, body_text};
 
+use crate::plain::{are_plain, is_plain};
 use itoa::Buffer;
 use netlist_schema::{NoMemory, Text};
 use std::alloc::Global;
@@ -77,20 +77,6 @@ fn push_byte(byte: u8, is_coded: bool, out: &mut Vec<u8>) -> Result<bool, NoMemo
     }
     out.push(byte)?;
     Ok(false)
-}
-
-/// Whether a byte stands for itself in a string.
-fn is_plain(byte: u8) -> bool
-    ensures { result ≡ is_plain byte }
-{
-    32 <= byte && byte <= 126 && byte != b'"' && byte != b'%'
-}
-
-/// Whether all bytes stand for themselves in a string.
-fn are_plain(text: &[u8]) -> bool
-    ensures { result ≡ list_all is_plain text.now }
-{
-    text.iter().all(|byte| is_plain(*byte))
 }
 
 /// Appends a mark and the decimal code of a byte.

@@ -2,7 +2,7 @@ use Rattle.std.proofs.Common.{ℕ, List, take, bit_and, refl}
 use Rattle.std.proofs.lemmas.List.{length-take-le}
 use Rattle.std.proofs.lemmas.Simd.{zip2_splat}
 use Rattle.edif_spelling_spec.specs.Bytes.{is_space}
-use Rattle.edif_lexer.proofs.LaneLemmas.{both, front_in}
+use Rattle.byte_lanes.proofs.LaneLemmas.{both, front_in}
 use Rattle.edif_lexer.proofs.runs.blank_run.Goals as goal
 
 pub returns : goal.returns

@@ -1,7 +1,7 @@
 use Rattle.std.proofs.Common.{◌≡◌, ◌+◌, ◌*◌, ◌/◌, ℕ, length, take, true, subst, arith}
 use Rattle.std.specs.List.{list_all}
 use Rattle.netlist_schema.specs.Ident.{is_identifier_byte}
-use Rattle.edif_lexer.proofs.LaneLemmas.{joined_fronts}
+use Rattle.byte_lanes.proofs.LaneLemmas.{joined_fronts}
 use Rattle.edif_lexer.proofs.runs.name_bytes.Goals as goal
 
 pub returns-then-run-lt-LANES-clause-all : goal.returns-then-run-lt-LANES-clause-all

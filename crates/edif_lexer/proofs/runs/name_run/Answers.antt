@@ -2,7 +2,7 @@ use Rattle.std.proofs.Common.{ℕ, List, take, leb, cond, bit_and, refl}
 use Rattle.std.proofs.lemmas.List.{length-take-le}
 use Rattle.std.proofs.lemmas.Simd.{zip2_splat}
 use Rattle.netlist_schema.specs.Ident.{is_identifier_byte}
-use Rattle.edif_lexer.proofs.LaneLemmas.{both, front_in, splat_is}
+use Rattle.byte_lanes.proofs.LaneLemmas.{both, front_in, splat_is}
 use Rattle.edif_lexer.proofs.runs.name_run.Goals as goal
 
 pub returns : goal.returns

@@ -1,7 +1,7 @@
 use Rattle.std.proofs.Common.{◌≡◌, ◌+◌, ◌*◌, ◌/◌, ℕ, length, take, true, subst, arith}
 use Rattle.std.specs.List.{list_all}
 use Rattle.edif_lexer.specs.Lanes.{is_plain}
-use Rattle.edif_lexer.proofs.LaneLemmas.{joined_fronts}
+use Rattle.byte_lanes.proofs.LaneLemmas.{joined_fronts}
 use Rattle.edif_lexer.proofs.runs.plain_bytes.Goals as goal
 
 pub returns-then-run-lt-LANES-clause-all : goal.returns-then-run-lt-LANES-clause-all

@@ -2,7 +2,7 @@ use Rattle.std.proofs.Common.{ℕ, List, take, bit_or, refl}
 use Rattle.std.proofs.lemmas.List.{length-take-le}
 use Rattle.std.proofs.lemmas.Simd.{zip2_splat}
 use Rattle.edif_lexer.specs.Lanes.{is_plain}
-use Rattle.edif_lexer.proofs.LaneLemmas.{both, front_in}
+use Rattle.byte_lanes.proofs.LaneLemmas.{both, front_in}
 use Rattle.edif_lexer.proofs.runs.plain_run.Goals as goal
 
 pub returns : goal.returns

@@ -2,7 +2,7 @@ use Rattle.std.proofs.Common.{ℕ, List, not, take, refl}
 use Rattle.std.proofs.lemmas.List.{length-take-le}
 use Rattle.std.proofs.lemmas.Simd.{zip2_splat}
 use Rattle.edif_spelling_spec.specs.Bytes.{is_quote}
-use Rattle.edif_lexer.proofs.LaneLemmas.{front_in}
+use Rattle.byte_lanes.proofs.LaneLemmas.{front_in}
 use Rattle.edif_lexer.proofs.runs.unquoted_run.Goals as goal
 
 pub returns : goal.returns
