@@ -1,6 +1,6 @@
 //! The names of the nets of an array.
 ghost use Rattle.std.specs.Prelude.{◌≡◌, ◌++◌, ◌∷◌, [], IfOk, Decides, MatchOption, List, decimal, ℕ};
-ghost use Rattle.netlist_bus_spec.specs.Members.{displayed, member_id, member_name, member_text};
+ghost use Rattle.netlist_bus_spec.specs.Members.{displayed, member_id, member_name};
 
 use itoa::Buffer;
 use netlist_schema::{Ident, Name, NoMemory, Text};

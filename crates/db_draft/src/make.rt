@@ -1,5 +1,5 @@
 //! Changes made in a draft.
-ghost use Rattle.std.specs.Prelude.{◌≡◌, ◌≤◌, ◌∷◌, [], IfOk, IsSomeAnd, MatchResult, OnErr, OnOk, length, option_map};
+ghost use Rattle.std.specs.Prelude.{◌≡◌, ◌∷◌, [], IfOk, IsSomeAnd, MatchResult, OnErr, OnOk, option_map};
 ghost use Rattle.std.specs.Arc.{arc_value};
 ghost use Rattle.netlist_schema.specs.Design.{cell_at, cells_in};
 ghost use Rattle.netlist_schema.specs.Names.{AreDistinct, cell_names};

@@ -1,11 +1,11 @@
 //! `Version`: a design in shared parts.
-ghost use Rattle.std.specs.Prelude.{◌≡◌, ◌≤◌, length, map, position, IfOk, IfSome};
+ghost use Rattle.std.specs.Prelude.{◌≡◌, ◌≤◌, length, map, position, IfOk};
 ghost use Rattle.std.specs.Arc.{arc_value};
 ghost use Rattle.std.specs.List.{All};
 ghost use Rattle.netlist_schema.specs.Names.{AreDistinct, cell_names};
 ghost use Rattle.db_version.specs.Shelves.{shelf_name};
 ghost use Rattle.std.specs.Option.{option_copied, option_map, option_map_or};
-ghost use Rattle.netlist_schema.specs.Design.{lib_at, cells_in, cell_at};
+ghost use Rattle.netlist_schema.specs.Design.{lib_at, cell_at};
 ghost use Rattle.netlist_schema.specs.Valid.{IsValid};
 ghost use Rattle.netlist_schema.specs.declared.limits.TheConstants.{MOST_CELLS};
 ghost use Rattle.edit_rules_spec.specs.Find.{is_name, lib_named, cell_in};

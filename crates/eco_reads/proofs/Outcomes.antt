@@ -1,5 +1,5 @@
 -- Operations that are refused, and those for which there is no memory.
-use Rattle.std.proofs.Common.{◌≡◌, List, [], append-nil, refl, sym, subst}
+use Rattle.std.proofs.Common.{◌≡◌, [], append-nil, refl, sym, subst}
 use Rattle.std.specs.Prelude.{Result, Ok, Err}
 use Rattle.std.specs.Result.{IsErrAnd}
 use Rattle.netlist_schema.specs.Types.{CellId}

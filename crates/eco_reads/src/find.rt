@@ -1,5 +1,5 @@
 //! Look-ups by name in lists.
-ghost use Rattle.std.specs.Prelude.{◌≡◌, ◌≤◌, ◌%◌, ◌^◌, length, position, IfSome, ◌<◌};
+ghost use Rattle.std.specs.Prelude.{◌≡◌, ◌%◌, ◌^◌, length, position, IfSome, ◌<◌};
 ghost use Rattle.std.specs.List.{list_any};
 ghost use Rattle.netlist_schema.specs.Marks.{hash_of};
 ghost use Rattle.edit_rules_spec.specs.Find.{inst_place, is_name, is_same, net_place, port_place, property_place};

@@ -1,5 +1,5 @@
 //! The places of instances by their names, of the cells that paths visit.
-ghost use Rattle.std.specs.Prelude.{◌≡◌, ◌≤◌, ℕ, List, IfOk, IfSome, MatchResult, length, option_and_then, option_map, slice_get};
+ghost use Rattle.std.specs.Prelude.{◌≡◌, ◌≤◌, IfOk, IfSome, MatchResult, length, option_and_then, option_map, slice_get};
 ghost use Rattle.std.specs.Option.{option_copied};
 ghost use Rattle.netlist_schema.specs.Design.{Design, insts_in};
 ghost use Rattle.netlist_schema.specs.Hierarchy.{insts_at};

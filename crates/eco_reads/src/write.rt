@@ -1,5 +1,5 @@
 //! What an operation writes.
-ghost use Rattle.std.specs.Prelude.{◌≡◌, IfOk, OnErr, OnOk, MatchResult, None, Ok, [], ◌∷◌};
+ghost use Rattle.std.specs.Prelude.{◌≡◌, IfOk, OnErr, OnOk, MatchResult, Ok, [], ◌∷◌};
 ghost use Rattle.edit_cells.specs.Change.{HasMade, edits_of};
 ghost use Rattle.eco_reads.specs.Outcome.{IsNotRefused};
 ghost use Rattle.eco_reads.specs.Plan.{AreNotesPut, CanBePut, CanNotesBePut, IsGood, IsPut, one_change, only_notes};

@@ -14,7 +14,7 @@ use Rattle.edif_spec.specs.Rows.{those, Each, Just}
 use Rattle.edif_spec.specs.Canonical.{kind_word}
 use Rattle.edif_spec.specs.Means.{MeansName, MeansPort, MeansInterface, MeansInst, MeansNet, MeansContents, IsNetlist, MeansView, MeansKind, MeansCell}
 use Rattle.edif_spec.specs.Faults.{AtTwo, parts, Among, SameOfTwo, declared_width, repeated}
-use Rattle.edif_spec.specs.Stands.{Dangles, ports_in, LibraryRefFault, CellRefFault, ViewRefFault, InstFault, InstRefFault, BitFault, EndFault, NetFault, MemberShapeFault, EndShapeFault, NetShapeFault, MeansRowEnd, counted_ends, insts_in, net_names_in, nets_in, row_ends, SameEnd, ContentsFault, is_netlist, TypeFault, ViewFault, is_cell_type, CellTypeFault, CellFault, JoinedFault, JoinedShapeFault}
+use Rattle.edif_spec.specs.Stands.{ports_in, InstFault, NetFault, NetShapeFault, MeansRowEnd, counted_ends, insts_in, net_names_in, nets_in, row_ends, SameEnd, ContentsFault, is_netlist, TypeFault, ViewFault, is_cell_type, CellTypeFault, CellFault}
 use Rattle.edif_spec.specs.Stands as stands
 use Rattle.edif_spec.specs.Design as design
 use Rattle.edif_spec.specs.Nets.{NetForm, end_of, nets_of}

@@ -10,7 +10,7 @@ use Rattle.netlist_schema.specs.Design.{insts_of, nets_of as nets_of_cell, insts
 use Rattle.netlist_schema.specs.Names.{AreDistinct, HasDistinctKeys}
 use Rattle.netlist_schema.specs.Typed.{IsBytes, IsTypedName, IsTypedProperty, IsTypedPort, IsTypedInst, IsTypedNet, IsTypedContents, IsTypedCell}
 use Rattle.edif_spelling_spec.specs.Tree.{Bare, Placed, Form', Word', Integer', String', word, integer, bare}
-use Rattle.edif_spec.specs.Keyword.{same, Choice, AnIdentifier, AnInteger, AForm, Follower, Many, One, name_definition, bus_name, identifier, the}
+use Rattle.edif_spec.specs.Keyword.{same, AnIdentifier, AForm, Many, One, name_definition, bus_name, identifier, the}
 use Rattle.edif_spec.specs.Keyword as keyword
 use Rattle.edif_spec.specs.Rows.{has_keyword, those, is_one_of, IsFormOf, Each, Perhaps, Just}
 use Rattle.edif_spec.specs.Canonical.{kind_word, ports_of_end}

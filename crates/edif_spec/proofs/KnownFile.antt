@@ -10,7 +10,7 @@ use Rattle.netlist_schema.specs.Names.{AreDistinct, note_key, cell_names}
 use Rattle.netlist_schema.specs.Typed.{IsTypedName, IsTypedProperty, IsTypedCell, IsTypedNote}
 use Rattle.netlist_schema.proofs.Lists.{some_of, get_unmapped}
 use Rattle.edif_spelling_spec.specs.Tree.{Bare, Placed, Form', Word', Integer', String', End, More, form, word, integer, bare}
-use Rattle.edif_spec.specs.Keyword.{same, spelling_of, Choice, AnInteger, Follower, Many, One, name_definition, identifier, the}
+use Rattle.edif_spec.specs.Keyword.{same, spelling_of, Many, name_definition, identifier, the}
 use Rattle.edif_spec.specs.Keyword as keyword
 use Rattle.edif_spec.specs.Rows.{has_keyword, those, is_one_of, is_follower, IsFormOf, Each, EachAfter}
 use Rattle.edif_spec.specs.Canonical.{library_keyword}

@@ -12,7 +12,7 @@ use Rattle.netlist_schema.specs.Names.{AreDistinct, HasDistinctKeys}
 use Rattle.netlist_schema.specs.Typed.{IsBytes, IsTypedName, IsTypedNum, IsTypedValue, IsTypedProperty, IsTypedPort}
 use Rattle.netlist_schema.specs.Width.{IsWidth}
 use Rattle.edif_spelling_spec.specs.Tree.{Bare, Placed, Form', Word', Integer', String', integer, bare}
-use Rattle.edif_spec.specs.Keyword.{same, spelling_of, row, FormRow, Takes, Choice, AnIdentifier, AnInteger, AString, AForm, Follower, Many, One, name_definition, bus_name, identifier, the}
+use Rattle.edif_spec.specs.Keyword.{same, row, FormRow, Takes, Choice, AnInteger, AForm, Many, One, name_definition, bus_name, identifier}
 use Rattle.edif_spec.specs.Keyword as keyword
 use Rattle.edif_spec.specs.Rows.{has_keyword, those, is_one_of, is_follower, FitsRow, IsFormOf, Each, Perhaps}
 use Rattle.edif_spec.specs.Canonical.{direction_word}

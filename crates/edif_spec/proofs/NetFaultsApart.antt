@@ -10,7 +10,7 @@ use Rattle.edif_spec.specs.Rows.{has_keyword, those, is_follower, IsFormOf, Each
 use Rattle.edif_spec.specs.Canonical.{ports_of_end}
 use Rattle.edif_spec.specs.Means.{meant, Found, Absent, Several, width_at, MeansName, MeansLibraryRef, MeansCellRef, MeansViewRef, MeansInst, MeansBusName, MeansInstRef, MeansBits, MeansEnd, MeansNet}
 use Rattle.edif_spec.specs.Faults.{parts, Among, RowFault, declared_width, first_width}
-use Rattle.edif_spec.specs.Stands.{Dangles, ports_in, LibraryRefFault, CellRefFault, ViewRefFault, InstFault, InstRefFault, BitFault, EndFault, WidthFault, NetFault, MemberShapeFault, EndShapeFault, NetShapeFault, ends_joined, ends_in, insts_in, nets_in, SameEnd, ContentsFault, is_netlist, TypeFault, ViewFault, is_cell_type, CellTypeFault, CellFault, JoinedFault, JoinedShapeFault}
+use Rattle.edif_spec.specs.Stands.{Dangles, LibraryRefFault, CellRefFault, ViewRefFault, InstFault, InstRefFault, BitFault, EndFault, WidthFault, NetFault, MemberShapeFault, EndShapeFault, NetShapeFault, ends_joined, ends_in, JoinedFault, JoinedShapeFault}
 use Rattle.edif_spec.specs.Stands as stands
 use Rattle.edif_spec.specs.Design as design
 use Rattle.edif_spec.specs.Nets.{NetForm, Stretch, row_size}

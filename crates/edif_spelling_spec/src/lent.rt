@@ -1,5 +1,5 @@
 //! Tokens that are lent, and what takes them.
-ghost use Rattle.std.specs.Prelude.{◌≡◌, ◌∷◌, ◌++◌, [], ℕ, List, IfOk, OnErr, OnOk};
+ghost use Rattle.std.specs.Prelude.{◌≡◌, ◌∷◌, [], List, IfOk, OnErr, OnOk};
 ghost use Rattle.edif_spelling_spec.specs.Lent.{Gains, IsNamed, kind_of};
 ghost use Rattle.edif_spelling_spec.specs.TreeFaults.{token_at};
 ghost use Rattle.edif_spelling_spec.specs.declared.token.Token.{Token};

@@ -1,5 +1,5 @@
 //! `Cells`: a design that is read and edited cell by cell.
-ghost use Rattle.std.specs.Prelude.{◌≡◌, ◌≤◌, IfOk, IfSome, OnErr, OnOk, IsTrue, ◌↔◌, ◌⊎◌, Some, length, take, not};
+ghost use Rattle.std.specs.Prelude.{◌≡◌, ◌≤◌, IfOk, IfSome, OnErr, OnOk, ◌⊎◌, Some, length, take, not};
 ghost use Rattle.std.specs.Option.{option_copied, option_map};
 ghost use Rattle.std.specs.List.{list_any};
 ghost use Rattle.std.specs.Borrow.{sem};
@@ -15,7 +15,7 @@ ghost use Rattle.edit_rules_spec.specs.Reading.{IsFor};
 ghost use Rattle.edit_rules_spec.specs.Seen.{contents_at};
 ghost use Rattle.edit_cells.specs.Change.{CanAllBeMade, HasMade, edits_of};
 ghost use Rattle.edit_cells.specs.Parts.{HasLimits, IsFace, IsInside, seen_at, shown_by};
-ghost use Rattle.edit_cells.specs.State.{HasRead, ReadsOrFails, State};
+ghost use Rattle.edit_cells.specs.State.{ReadsOrFails, State};
 
 use crate::change::Change;
 use crate::face::Face;

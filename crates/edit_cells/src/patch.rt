@@ -1,5 +1,5 @@
 //! Copies of libraries with changes of their cells.
-ghost use Rattle.std.specs.Prelude.{◌≡◌, IfOk, OnErr, OnOk, slice_get};
+ghost use Rattle.std.specs.Prelude.{◌≡◌, IfOk, OnOk, slice_get};
 ghost use Rattle.std.specs.Option.{option_copied};
 ghost use Rattle.netlist_schema.specs.Change.{body_with, with_inst_put, with_net_put};
 ghost use Rattle.netlist_schema.specs.Design.{Design};

@@ -1,5 +1,5 @@
 //! `PlainCells`: a design in memory, with lists of what was read and written.
-ghost use Rattle.std.specs.Prelude.{◌≡◌, [], ◌⊎◌, Some};
+ghost use Rattle.std.specs.Prelude.{◌≡◌, [], Some};
 ghost use Rattle.netlist_schema.specs.Names.{AreDistinct};
 ghost use Rattle.edit_cells.specs.State.{State};
 

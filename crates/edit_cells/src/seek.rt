@@ -1,12 +1,12 @@
 //! Look-ups by name in a design.
-ghost use Rattle.std.specs.Prelude.{◌≡◌, IfSome, ◌≤◌, length, not, position, map};
+ghost use Rattle.std.specs.Prelude.{◌≡◌, IfSome, ◌≤◌, length, not, position};
 ghost use Rattle.std.specs.List.{list_any};
 ghost use Rattle.std.specs.Option.{option_copied};
 ghost use Rattle.netlist_schema.specs.Design.{cells_in, lib_at};
 ghost use Rattle.netlist_schema.specs.Names.{cell_names};
 ghost use Rattle.netlist_schema.specs.Valid.{IsValid};
 ghost use Rattle.netlist_schema.specs.declared.limits.TheConstants.{MOST_CELLS};
-ghost use Rattle.edit_rules_spec.specs.Find.{cell_in, is_name, is_same, lib_named, place_of};
+ghost use Rattle.edit_rules_spec.specs.Find.{cell_in, is_name, is_same, lib_named};
 
 use netlist_schema::{CellBody, CellId, Design, Ident, Lib, LibId, Row};
 

@@ -1,5 +1,5 @@
 //! Copies of operations.
-ghost use Rattle.std.specs.Prelude.{◌≡◌, All, IfOk, OnOk};
+ghost use Rattle.std.specs.Prelude.{◌≡◌, IfOk, OnOk};
 ghost use Rattle.netlist_schema.specs.Ident.{IsIdentifier};
 ghost use Rattle.edit_spec.specs.Typed.{IsTypedOp, IsTypedPortDecl};
 

@@ -1,5 +1,5 @@
 //! The cells at and below a top, with the cells of their instances first.
-ghost use Rattle.std.specs.Prelude.{◌≡◌, ◌++◌, [], IfOk, OnOk, IsSome, filter, true};
+ghost use Rattle.std.specs.Prelude.{◌≡◌, ◌++◌, [], IfOk, OnOk, IsSome, filter};
 ghost use Rattle.netlist_schema.specs.Hierarchy.{IsCell, insts_at};
 ghost use Rattle.netlist_schema.specs.Types.{CellId as Id};
 ghost use Rattle.netlist_schema.specs.Valid.{IsValid};

@@ -1,5 +1,5 @@
 //! The names of the nets of an occurrence.
-ghost use Rattle.std.specs.Prelude.{◌≡◌, ◌<◌, ℕ, Some, IfOk, IsSome, length, option_and_then, slice_get};
+ghost use Rattle.std.specs.Prelude.{◌≡◌, ◌<◌, ℕ, Some, IfOk, IsSome, length};
 ghost use Rattle.std.specs.List.{All};
 ghost use Rattle.flat_spec.specs.Paths.{nets_at};
 ghost use Rattle.net_classes.specs.Facts.{first_at};

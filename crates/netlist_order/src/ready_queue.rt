@@ -1,5 +1,5 @@
 //! Cells of a library that wait for their children to be written.
-ghost use Rattle.std.specs.Prelude.{◌≡◌, ◌<◌, ◌≤◌, ◌++◌, ◌∷◌, [], ℕ, List, true, false, if◌then◌else◌, nat_eq, length, slice_get, IfOk, OnOk, IfSome, IfNone, MatchOption};
+ghost use Rattle.std.specs.Prelude.{◌≡◌, ◌<◌, ◌≤◌, ◌++◌, ◌∷◌, [], ℕ, List, true, false, if◌then◌else◌, nat_eq, length, IfOk, OnOk, IfSome, IfNone};
 ghost use Rattle.netlist_schema.specs.Design.{cells_in, insts_in};
 ghost use Rattle.netlist_order.specs.ReadyQueue.{flag, has, waits, IsSized, IsReadyQueue, AllPast, IsFirstUnwritten, is_past};
 ghost use Rattle.netlist_order.specs.declared.ready_queue.Waiting.{Waiting};

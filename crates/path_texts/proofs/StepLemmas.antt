@@ -1,19 +1,19 @@
 -- The text of steps, grown and cut.
-use Rattle.std.proofs.Common.{◌≡◌, ◌<◌, ◌≤◌, ◌+◌, ◌-◌, ℕ, zero, suc, List, [], ◌∷◌, ◌++◌, Option, Some, None, refl, sym, ap, subst, ◌∙◌, arith, append_assoc, append-nil, length, take}
-use Rattle.std.specs.Prelude.{◌==◌, Bool, true, false, map, option_and_then, slice_get}
-use Rattle.std.specs.List.{flat_map, slice_range}
+use Rattle.std.proofs.Common.{◌≡◌, ◌≤◌, ◌+◌, ◌-◌, ℕ, zero, suc, List, [], ◌∷◌, ◌++◌, Option, Some, None, refl, sym, ap, ◌∙◌, arith, append_assoc, append-nil, length, take}
+use Rattle.std.specs.Prelude.{◌==◌, true, false, map, option_and_then, slice_get}
+use Rattle.std.specs.List.{flat_map}
 use Rattle.std.specs.Option.{option_map, option_map_or}
 use Rattle.std.proofs.lemmas.Bool.Decides.{nat_tests}
-use Rattle.std.proofs.lemmas.List.{take-append-le, length-append, take_all}
-use Rattle.std.proofs.lemmas.Option.{same_Some, none-some, slice_get_within}
+use Rattle.std.proofs.lemmas.List.{length-append}
+use Rattle.std.proofs.lemmas.Option.{same_Some, none-some}
 use Rattle.std.proofs.Math.Seq.{take-append_seam}
 use Rattle.netlist_schema.specs.Design.{Design}
 use Rattle.netlist_schema.specs.Hierarchy.{insts_at}
 use Rattle.netlist_schema.specs.Types.{CellId, Inst, TopHead}
 use Rattle.flat_spec.specs.Effective.{insts_along, names_along}
-use Rattle.flat_spec.specs.Paths.{Reaches, cell_along, cell_below_top}
+use Rattle.flat_spec.specs.Paths.{Reaches, cell_along}
 use Rattle.flat_lines_spec.specs.Lines.{names_text, path_text}
-use Rattle.flat_spec.proofs.PathLemmas.{Reaches-append, Reaches-cons, Reaches-parts}
+use Rattle.flat_spec.proofs.PathLemmas.{Reaches-parts}
 use Rattle.path_texts.specs.Texts.{steps_text}
 
 -- the text of a front is a front of the text

@@ -1,5 +1,5 @@
 -- How many instances, nets and ends there are afterwards.
-use Rattle.std.proofs.Common.{◌≡◌, ◌<◌, ◌≤◌, ◌+◌, ◌-◌, ◌^◌, ℕ, zero, suc, arith, Bool, true, false, cond, List, [], ◌∷◌, ◌++◌, length, length-append, length-take, length-drop, get_or, drop, map, take, min, nat_lt, Option, Some, None, slice_get, refl, sym, ap, subst, ◌∙◌}
+use Rattle.std.proofs.Common.{◌≡◌, ◌<◌, ◌≤◌, ◌+◌, ◌-◌, ◌^◌, ℕ, arith, Bool, true, false, List, [], ◌∷◌, ◌++◌, length, length-append, length-take, length-drop, get_or, drop, map, take, min, nat_lt, Option, Some, None, refl, sym, ap, ◌∙◌}
 use Rattle.std.specs.List.{flat_map}
 use Rattle.std.proofs.lemmas.List.{drop_all}
 use Rattle.std.proofs.lemmas.List.Concat.{flat_map-append}
@@ -7,13 +7,13 @@ use Rattle.netlist_schema.specs.Types.{Contents, End, Inst, Name, Net}
 use Rattle.edit_rules_spec.specs.Rule.{first, refuse}
 use Rattle.edit_rules_spec.specs.declared.reply.Reply.{Reply}
 use Rattle.edit_rules_spec.specs.declared.reply.Reply.TheVariants.{TooMany}
-use Rattle.ungroup_spec.specs.Dissolved.{children, contents_after, insts_after, inst_name, joined, kept, loose, nets_after, net_name, new_nets, with_inst_name, with_net_name}
+use Rattle.ungroup_spec.specs.Dissolved.{children, insts_after, inst_name, joined, kept, loose, nets_after, net_name, new_nets, with_inst_name, with_net_name}
 use Rattle.ungroup_spec.specs.Groups.{Site, inner, outer}
 use Rattle.ungroup_spec.specs.Names.{named_up, name_up}
 use Rattle.ungroup_plans.specs.Grouped.{AreGrouped}
 use Rattle.ungroup_plans.specs.Heads.{site}
 use Rattle.ungroup_plans.specs.declared.groups.Grouped.{Grouped}
-use Rattle.ungroup_plans.specs.Planned.{IsDissolved, limits_of}
+use Rattle.ungroup_plans.specs.Planned.{limits_of}
 use Rattle.ungroup_plans.proofs.Named.{length-named_up}
 use Rattle.ungroup_plans.proofs.Steps.{drop_first}
 

@@ -1,6 +1,6 @@
 -- What is planned for the contents around an instance that is dissolved.
-use Rattle.std.specs.Prelude.{◌≡◌, ◌<◌, List, [], ◌∷◌, Option, Some, None, Result, Ok, Err, ℕ, slice_get}
-use Rattle.netlist_schema.specs.Types.{Contents, Inst, Note}
+use Rattle.std.specs.Prelude.{◌≡◌, List, [], ◌∷◌, Option, Some, None, Result, Ok, Err, ℕ}
+use Rattle.netlist_schema.specs.Types.{Contents, Note}
 use Rattle.netlist_schema.specs.declared.limits.TheConstants.{MOST_ENDS, MOST_INSTS, MOST_NETS}
 use Rattle.edit_rules_spec.specs.Rule.{first, is_leaf, no_inst}
 use Rattle.edit_rules_spec.specs.declared.reply.Reply.{Reply}

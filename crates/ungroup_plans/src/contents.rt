@@ -1,5 +1,5 @@
 //! The contents afterwards.
-ghost use Rattle.std.specs.Prelude.{◌≡◌, ◌<◌, IfOk, Some, length, slice_get};
+ghost use Rattle.std.specs.Prelude.{◌≡◌, ◌<◌, Some, length, slice_get};
 ghost use Rattle.netlist_schema.specs.Types.{Inst as InstType};
 ghost use Rattle.eco_reads.specs.Outcome.{UnlessNoMemory};
 ghost use Rattle.ungroup_plans.specs.Heads.{AreSound, site};

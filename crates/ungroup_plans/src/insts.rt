@@ -1,5 +1,5 @@
 //! The instances afterwards.
-ghost use Rattle.std.specs.Prelude.{◌≡◌, ◌<◌, ◌≤◌, ◌+◌, ◌++◌, ◌^◌, List, ℕ, IfOk, OnOk, Some, drop, length, map, slice_get, take};
+ghost use Rattle.std.specs.Prelude.{◌≡◌, ◌<◌, ◌≤◌, ◌+◌, ◌++◌, ◌^◌, List, ℕ, IfOk, OnOk, Some, length, map, slice_get, take};
 ghost use Rattle.ungroup_plans.specs.Taken.{IsOf};
 ghost use Rattle.netlist_schema.specs.Types.{Inst as InstType};
 ghost use Rattle.netlist_schema.specs.declared.limits.TheConstants.{MOST_INSTS};

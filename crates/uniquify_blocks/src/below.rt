@@ -1,7 +1,5 @@
 //! All that is below a top is read.
-ghost use Rattle.std.specs.Prelude.{◌≡◌, MatchResult, OnOk};
-ghost use Rattle.std.specs.Option.{option_copied};
-ghost use Rattle.netlist_schema.specs.Design.{insts_in};
+ghost use Rattle.std.specs.Prelude.{MatchResult, OnOk};
 ghost use Rattle.netlist_schema.specs.Hierarchy.{insts_at};
 ghost use Rattle.edit_cells.specs.Parts.{IsInside};
 ghost use Rattle.edit_cells.specs.State.{HasRead, HasReadSome};

@@ -1,5 +1,5 @@
 //! Copies of the blocks along a path.
-ghost use Rattle.std.specs.Prelude.{All, IfOk, ◌≡◌};
+ghost use Rattle.std.specs.Prelude.{All, IfOk};
 ghost use Rattle.netlist_schema.specs.Hierarchy.{IsCell};
 ghost use Rattle.netlist_schema.specs.Types.{CellId};
 ghost use Rattle.edit_cells.specs.State.{HasReadSome};

@@ -1,5 +1,5 @@
 //! Blocks along a path get copies.
-ghost use Rattle.std.specs.Prelude.{◌≡◌, IfOk, List, MatchResult, Some, [], ℕ};
+ghost use Rattle.std.specs.Prelude.{◌≡◌, IfOk, MatchResult, Some, []};
 ghost use Rattle.netlist_schema.specs.Types.{TopHead};
 ghost use Rattle.netlist_schema.specs.Valid.{IsValid};
 ghost use Rattle.edit_cells.specs.State.{HasReadSome};

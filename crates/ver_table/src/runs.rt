@@ -1,6 +1,5 @@
 //! Runs of changes that lie on one page, and the pages that they make.
 ghost use Rattle.std.specs.Prelude.{◌≡◌, ◌/◌, ◌≤◌, IfNone, IfOk, IfSome, []};
-ghost use Rattle.std.specs.Arc.{arc_value};
 ghost use Rattle.ver_table.specs.Entries.{pairs_of, with_all, IsInOrder};
 ghost use Rattle.ver_table.specs.Pages.{sheet_of, IsFirstRun, IsRun};
 

@@ -1,7 +1,5 @@
 use Rattle.std.proofs.Common.{ap, sym, ◌∙◌}
-use Rattle.edif_spelling_spec.specs.Tree.{bare}
 use Rattle.edif_tree.specs.Handles.{here, all}
-use Rattle.edif_tree.specs.Keywords.{form_keyword}
 use Rattle.edif_grammar.specs.Rules.{with_keyword}
 use Rattle.edif_grammar.proofs.NodeForms.{keyword_told}
 use Rattle.edif_grammar.proofs.nodes.argument_at.Goals as goal

@@ -1,4 +1,4 @@
-use Rattle.std.proofs.Common.{◌≡◌, sym, ap, ◌∙◌, option_map, None}
+use Rattle.std.proofs.Common.{sym, ap, ◌∙◌, option_map}
 use Rattle.edif_names.specs.Folded.{noted, noted_by}
 use Rattle.edif_names.specs.Scope.{equal_to, numbered}
 use Rattle.edif_names.proofs.ScopeLemmas.{numbers, numbers_defined, looked, none_of, says_equal, says_absent, says_only, says_several}
